@@ -12,8 +12,6 @@ use Rattle.nor_files.specs.declared.stored.Change.TheVariants.{Cut}
 use Rattle.nor_files.specs.declared.stored.Content.{Content}
 use Rattle.nor_files.specs.declared.stored.Stored.{Stored}
 
--- If `Might` allows all bytes that `May` allows, each content that a change may leave under `May` is also one that the
--- change may leave under `Might`.
 becomes_more : (change : Change) (May Might : Found → Type 0) (left : Found)
     → ((bytes : List ℕ) → May (Some bytes) → Might (Some bytes)) → Becomes change May left → Becomes change Might left
 becomes_more change May Might left more becomes = grind arith
@@ -28,9 +26,6 @@ file_leaves content change had old new is was becomes left may =
     (λ bytes before. grind arith) in
     grind arith
 
--- ---- writing
-
--- If `had` is overwritten in place with the first `most` bytes of `bytes`, the result is a mix of `had` and `bytes`.
 pub mixed_over : (had bytes : List ℕ) (most : ℕ) → most ≤ length bytes → IsMixed had bytes (written_over (take most bytes) had)
 mixed_over had bytes most within = grind (arith, common_steps)
 

@@ -9,8 +9,6 @@ use Rattle.nor_files.specs.Stored.{File, FileLoses, MayBe, MayLeave, file_in, co
 use Rattle.nor_files.specs.declared.stored.Step.{Step}
 use Rattle.nor_files.specs.declared.stored.Stored.{Stored}
 
--- ---- one file
-
 oldest_may_be : (later : List Step) (oldest : Step) (seen : Found)
     → MayBe (later ++ oldest ∷ []) seen (content_found oldest.before)
 oldest_may_be [] oldest seen = inr (inl refl)
@@ -24,9 +22,6 @@ oldest_allowed old later oldest placed steps there =
     rw steps (oldest_may_be later oldest (content_found old.content)) in
     grind arith
 
--- ---- all files
-
--- Holds if a read of the file returns what a host crash might have left, and a later host crash can leave nothing else.
 record IsLost (was now : File) : Type 0 where
   allowed : MayLeave was now.seen
   file : now ≡ record { seen = now.seen; steps = []; unplaced = false; out = false }
@@ -43,16 +38,13 @@ all_lost (was ∷ old) (now ∷ new) name many each =
     let later = all_lost old new name (omega (arith, many)) (λ k d within. each (suc k) d (omega (arith, within))) in
     grind arith
 
--- Holds if an interruption of the files `old` may leave the files `new`. A read of each new file returns what a host
--- crash might have left of the old one, and a later host crash can leave nothing else of it. No vault or log in any of
--- the files is borrowed.
+-- Holds if an interruption of the files `old` may leave the files `new`: a read returns what a host crash might have
+-- left, and a later host crash can leave nothing else.
 pub record AreLeft (old new : List Stored) (left : ℕ) (borrowed : Option Name) : Type 0 where
   pub at_rest : AreAtRest (files_state new left borrowed)
   pub allowed : (name : Name) → MayLeave (file_named old name) (file_named new name).seen
   pub durable : (name : Name) → IsDurable name (file_named new name).seen (files_state new left borrowed)
 
--- Let the loop of `Memory::lose` have interrupted each of the files `old`. Then `AreLeft` holds for `old` and the list
--- of files after the loop.
 pub are_left : (old now : List Stored) {len left : ℕ} {borrowed : Option Name} → length now ≡ len → len ≡ length old
     → ((k : ℕ) (d : Stored) → k < length old → FileLoses (get_or old k d) (get_or now k d))
     → AreLeft old (take len (now ++ drop (length now) old)) left borrowed

@@ -1,5 +1,4 @@
--- If the files obey the contract, and a read, a host crash or a borrowed vault or log distinguishes two names, the
--- names are apart: they refer to different files.
+-- Two names are apart if a read, a host crash or a borrowed vault or log distinguishes them.
 use Rattle.std.proofs.Common.{◌≡◌, Bool, true, false, inl, refl, sym}
 use Rattle.nor_files.specs.Files.{AreApart, FilesState, Name, is_lawful}
 use Rattle.nor_files.specs.OneFile.{AreOneFile, NamesAreOfOne}
@@ -8,8 +7,6 @@ is_true : (b : Bool) → (b ≡ false → ⊥) → b ≡ true
 is_true true differs = refl
 is_true false differs = absurd (differs refl)
 
--- Let the files obey the contract and its law of names (`NamesAreOfOne`). If the state treats the names `one` and
--- `other` differently (`AreOneFile` doesn't hold), the names are apart.
 module _ (files : FilesState) (lawful : is_lawful files.view ≡ true) (law : NamesAreOfOne files)
     (one other : Name) (differ : AreOneFile one other files → ⊥) where
   turned : AreOneFile other one files → AreOneFile one other files

@@ -18,15 +18,10 @@ use Rattle.nor_files.specs.Named.{file_named, are_same_names, is_borrowed_there,
 use Rattle.nor_files.specs.Stored.{file_in, missing}
 use Rattle.nor_files.specs.declared.stored.Stored.{Stored}
 
--- ---- finding
-
--- If no file in the list satisfies `is`, each index of the list is below `position_or_len is files`.
 past : (is : Stored → Bool) (files : List Stored) (k : ℕ) → position is files ≡ None → k < length files
     → k < position_or_len is files
 past is files k none within = grind (arith, nat_tests)
 
--- Let `look` be a function that looks a name up in a list. Its result is `of` the first file of this name, or `miss` if
--- there is none.
 module _ {Y : Type 0} (name : Name) (look : List Stored → Y) (of : Stored → Y) (miss : Y) (none : look [] ≡ miss)
     (step : (stored : Stored) (files : List Stored)
     → look (stored ∷ files) ≡ cond (is_named name stored) (of stored) (look files)) where
@@ -53,8 +48,6 @@ not_found name = missed name (λ files. file_named files name) file_in missing r
 
 pub not_there : (name : Name) (files : List Stored) → position (is_named name) files ≡ None → is_there files name ≡ false
 not_there name = missed name (λ files. is_there files name) (λ _. true) false refl (λ _ _. refl)
-
--- ---- one more entry
 
 pub place_kept : (name : Name) (files : List Stored) (stored : Stored)
     → position (is_named name) files ≡ None → stored.name.items ≡ name
@@ -85,8 +78,6 @@ pub lent_with_place : (files : List Stored) (stored : Stored) (borrowed : Option
 lent_with_place files stored None there = refl
 lent_with_place files stored (Some name) there = there_with_place files stored name there
 
--- ---- replacing one file
-
 set_there : (any : Name) (files : List Stored) (at : ℕ) (now d : Stored)
     → is_named any now ≡ is_named any (get_or files at d) → is_there (set files at now) any ≡ is_there files any
 set_there any [] at now d same = refl
@@ -94,15 +85,13 @@ set_there any (first ∷ files) zero now d same = ap (λ named. cond named true 
 set_there any (first ∷ files) (suc at) now d same =
     ap (cond (is_named any first) true) (set_there any files at now d same)
 
--- Holds if the file of this name was `was` in the list `old`, is `now` in the list `new`, and has an entry in `new`.
--- Each file whose name is apart from this one (a different file) is the same in both lists.
+-- Holds if only the file of this name changed, from `was` in the list `old` to `now` in the list `new`.
 pub record IsUpdated (name : Name) (old new : List Stored) (was now : Stored) : Type 0 where
   pub before : file_named old name ≡ file_in was
   pub after : file_named new name ≡ file_in now
   pub others : (other : Name) → AreApart memory_nature name other → file_named new other ≡ file_named old other
   pub there : is_there new name ≡ true
 
--- Two names that are apart differ.
 apart_differ : (name other : Name) → AreApart memory_nature name other → other ≢ name
 apart_differ name other apart same =
     let is : are_same_names name other ≡ true = rw same (nat_list_eq_equiv.refl name) in
@@ -115,7 +104,6 @@ other_named name other stored is ne = false_from_ne_true _
 
 module _ (files : List Stored) (at : ℕ) (was now : Stored) (place : was ≡ get_or files at was)
     (same : now.name ≡ was.name) where
-  -- The replacement `now` has the same name as the entry that it replaces.
   still_named : (any : Name) → is_named any now ≡ is_named any (get_or files at was)
   still_named any = ap (λ its. are_same_names its.items any) (same ∙ ap (λ stored. stored.name) place)
 
@@ -146,8 +134,6 @@ module _ (files : List Stored) (at : ℕ) (was now : Stored) (place : was ≡ ge
   lent_updated None there = refl
   lent_updated (Some name) there = set_there name files at now was (still_named name) ∙ there
 
--- Let each name have the same file in the lists `kept` and `old`. If `new` is `kept` with one file replaced
--- (`IsUpdated`), `new` is also `old` with this file replaced.
 pub updated_since : {name : Name} {old kept new : List Stored} {was now : Stored}
     → ((any : Name) → file_named kept any ≡ file_named old any) → IsUpdated name kept new was now
     → IsUpdated name old new was now

@@ -10,10 +10,7 @@ use Rattle.nor_files.specs.Stored.{File, FilePlaces, FileSyncs, MayBe, MayLeave,
 use Rattle.nor_files.specs.declared.stored.Stored.{Stored}
 use Rattle.nor_files.proofs.Places.{IsUpdated}
 
--- ---- one file
-
--- Holds if the file is as it was: a read returns the same, and a vault or log in it is borrowed if and only if one was.
--- A host crash can leave only what it could leave before.
+-- Holds if the file is as it was. A host crash can leave only what it could leave before.
 pub record FileStays (old new : File) : Type 0 where
   pub out : new.out ≡ old.out
   pub seen : new.seen ≡ old.seen
@@ -22,16 +19,12 @@ pub record FileStays (old new : File) : Type 0 where
 file_same : (file : File) → FileStays file file
 file_same file = record { out = refl; seen = refl; leaves = λ left can. can }
 
--- Let `May` imply `Might`. If a host crash may leave `left` (`OrMissing`) with the condition `May`, it may also leave
--- `left` with the condition `Might`.
 or_missing : (unplaced : Bool) (May Might : Type 0) (seen left : Found) → (May → Might)
     → OrMissing unplaced May seen left → OrMissing unplaced Might seen left
 or_missing true May Might seen left more (inl gone) = inl gone
 or_missing true May Might seen left more (inr may) = inr (more may)
 or_missing false May Might seen left more (there, may) = (there, more may)
 
--- If `OrMissing` allows `left` for a file that a host crash can't remove, `OrMissing` also allows `left` for a file
--- that a host crash may remove.
 placed_or : (unplaced : Bool) (May : Type 0) (seen left : Found) → OrMissing false May seen left
     → OrMissing unplaced May seen left
 placed_or true May seen left (there, may) = inr may
@@ -53,9 +46,6 @@ placed_stays old = record {
   leaves = λ left can. placed_or old.unplaced (MayBe old.steps old.seen left) old.seen left can;
 }
 
--- ---- all files
-
--- On files in memory, two names that differ are apart.
 apart_of : (name any : Name) → are_same_names name any ≡ false → AreApart memory_nature name any
 apart_of name any differ = (
   ap not differ,

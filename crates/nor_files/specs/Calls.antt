@@ -4,76 +4,59 @@ use Rattle.std.specs.Prelude.{drop, is_some, length, max, option_map, replicate,
 use Rattle.nor_journal.specs.Vault.{VaultState}
 use Rattle.nor_files.specs.Files.{AllStay, FilesState, Found, IsKnownFile, IsDurable, Name, OthersStay, KeepsFile, View}
 
--- ---- reading
-
--- Holds if `found` is what a read of the file returns: `None` if the file is missing, else its first `most` bytes, or
--- all bytes if it has fewer. Nothing is said if the files don't obey the contract, or if a vault or log in this file is
--- borrowed.
+-- Holds if `found` is what a read of the file returns: `None` if it is missing, else its first `most` bytes. Nothing is
+-- said if the files don't obey the contract, or if a vault or log in this file is borrowed.
 abbrev pub ReadsFile : Name → ℕ → Found → View → Type 0
 ReadsFile name most found view = IsKnownFile name view → found ≡ option_map (take most) (view.seen name)
-
--- ---- how many calls are left
 
 -- The effect of a successful call: the number of calls that can still succeed is one less.
 pub record Succeeds (old new : FilesState) : Type 0 where
   pub left : old.left ≡ new.left + 1
 
--- The effect of a failed call: the number of calls that can still succeed is at most what it was. If it was 0, each
--- file is as it was.
+-- The effect of a failed call: no more calls can succeed than before, and if none could, each file is as it was.
 pub record Fails (old new : FilesState) : Type 0 where
   pub left : new.left ≤ old.left
   pub none_left : old.left ≡ 0 → AllStay old new
 
--- The effect of a call on the number of calls that can still succeed, after success or failure.
 abbrev pub Counts : {T E : Type 0} → Result T E → (old new : FilesState) → Type 0
 Counts (Ok _) old new = Succeeds old new
 Counts (Err _) old new = Fails old new
 
--- The effect of a call on one file, except for calls that lend or take back a vault or log. The call is counted
--- (`Counts`), and what is borrowed doesn't change. Each file whose name is apart from `name` (a different file) is as
--- it was.
+-- The effect of a call on one file, except for calls that lend or take back a vault or log. Each file whose name is
+-- apart from `name` is as it was.
 pub record WorksOn {T E : Type 0} (name : Name) (result : Result T E) (old new : FilesState) : Type 0 where
   pub counts : Counts result old new
   pub borrowed : new.borrowed ≡ old.borrowed
   pub out : new.view.out name ≡ old.view.out name
   pub others : OthersStay name old new
 
--- ---- opening and locking
-
--- The effect of opening a file in order to overwrite it later. All files are as they were. If the files obey the
--- contract, and no vault or log in this file is borrowed, a successful call returns whether the file exists.
+-- The effect of opening a file in order to overwrite it later. On files that obey the contract, a successful call
+-- returns whether the file exists, unless a vault or log in it is borrowed.
 pub record Holds {E : Type 0} (name : Name) (result : Result Bool E) (old new : FilesState) : Type 0 where
   pub counts : Counts result old new
   pub borrowed : new.borrowed ≡ old.borrowed
   pub stay : AllStay old new
   pub there : (there : Bool) → result ≡ Ok there → IsKnownFile name old.view → there ≡ is_some (old.view.seen name)
 
--- ---- syncing
-
--- Holds if a read returns the same as before, and a host crash can leave only that, or no file if that was possible
--- before.
+-- Holds if a read returns the same as before, and a host crash can leave only that, or no file if that was possible.
 pub record IsSynced (name : Name) (old new : FilesState) : Type 0 where
   pub seen : new.view.seen name ≡ old.view.seen name
   pub leaves : (left : Found) → new.may_leave name left
       → (left ≡ old.view.seen name) ⊎ ((left ≡ None) × old.may_leave name None)
 
--- Holds if a read returns the same as before, and a host crash can neither remove the file nor create it, and can leave
--- only what it could leave before.
+-- Holds if a read returns the same as before, and a host crash can neither remove the file nor create it.
 pub record IsPlaced (name : Name) (old new : FilesState) : Type 0 where
   pub seen : new.view.seen name ≡ old.view.seen name
   pub leaves : (left : Found) → new.may_leave name left
       → old.may_leave name left × (is_some left ≡ is_some (old.view.seen name))
 
--- Holds if a host crash can leave of the file only what it could leave before.
 abbrev pub LeavesNoMore : Name → (old new : FilesState) → Type 0
 LeavesNoMore name old new = (left : Found) → new.may_leave name left → old.may_leave name left
 
--- Holds if a host crash can leave of each file only what it could leave before.
 abbrev pub LeaveNoMore : (old new : FilesState) → Type 0
 LeaveNoMore old new = (name : Name) → LeavesNoMore name old new
 
--- Holds if a host crash can leave only what it could leave of the file before, or an empty file if the file was
--- missing.
+-- Holds if a host crash can leave only what it could leave before, or an empty file if the file was missing.
 abbrev pub LeavesOrEmpty : Name → (old new : FilesState) → Type 0
 LeavesOrEmpty name old new = (left : Found) → new.may_leave name left
     → old.may_leave name left ⊎ ((old.view.seen name ≡ None) × (left ≡ Some []))
@@ -89,11 +72,8 @@ abbrev pub Places : {T E : Type 0} → Name → Result T E → (old new : FilesS
 Places name (Ok _) old new = IsPlaced name old new
 Places name (Err _) old new = KeepsFile name old new
 
--- ---- changing
-
--- Holds if `has` is a mix of the old bytes `had` and the written `bytes`. At each index, `has` has the byte of `had` or
--- the byte of `bytes`. A byte past the end of a list counts as 0. `has` is at least as long as `had`, and at most as
--- long as the longer of the two lists.
+-- Holds if `has` is a mix of the old bytes `had` and the written `bytes`: at each index it has the byte of one of them,
+-- where a byte past the end counts as 0. It is as long as `had` or longer, but not longer than both lists.
 pub record IsMixed (had bytes has : List ℕ) : Type 0 where
   pub shortest : length had ≤ length has
   pub longest : length has ≤ max (length had) (length bytes)
@@ -104,7 +84,6 @@ abbrev pub LeavesMixes : Name → List ℕ → (old new : FilesState) → Type 0
 LeavesMixes name bytes old new = (left : Found) → new.may_leave name left → old.may_leave name left
     ⊎ ((had : List ℕ) × old.may_leave name (Some had) × ((has : List ℕ) × (left ≡ Some has) × IsMixed had bytes has))
 
--- `had`, overwritten in place with `bytes` from its start
 abbrev pub written_over : List ℕ → List ℕ → List ℕ
 written_over bytes had = bytes ++ drop (length bytes) had
 
@@ -112,53 +91,45 @@ written_over bytes had = bytes ++ drop (length bytes) had
 abbrev pub with_length : ℕ → List ℕ → List ℕ
 with_length len had = take len had ++ replicate (len - length had) 0
 
--- The effect of overwriting a file in place. After success, a read returns the old content with its beginning replaced
--- by `bytes`. After success or failure, a host crash can leave only what it could leave before, or a mix of one of
--- these contents and `bytes`.
+-- The effect of overwriting a file in place. A host crash can leave only what it could leave before, or a mix of one of
+-- these contents and `bytes`, even if the call failed.
 pub record WritesOver {T E : Type 0} (name : Name) (bytes : List ℕ) (result : Result T E)
     (old new : FilesState) : Type 0 where
   pub seen : (any : T) → result ≡ Ok any → new.view.seen name ≡ option_map (written_over bytes) (old.view.seen name)
   pub leaves : LeavesMixes name bytes old new
 
--- The effect of setting the length of a file. After success, a read returns the old content, truncated to `len` bytes
--- or extended by zeros. After success or failure, a host crash can leave only what it could leave before, or one of
--- these contents with its length changed to `len`.
+-- The effect of setting the length of a file. A host crash can leave only what it could leave before, or one of these
+-- contents with its length changed to `len`, even if the call failed.
 pub record SetsLength {T E : Type 0} (name : Name) (len : ℕ) (result : Result T E) (old new : FilesState) : Type 0 where
   pub seen : (any : T) → result ≡ Ok any → new.view.seen name ≡ option_map (with_length len) (old.view.seen name)
   pub leaves : (left : Found) → new.may_leave name left → old.may_leave name left
       ⊎ ((had : List ℕ) × old.may_leave name (Some had) × (left ≡ Some (with_length len had)))
 
--- The effect of creating a file that was missing. The file is empty, and a host crash can leave only what it could
--- leave before, or an empty file.
+-- The effect of creating a file that was missing, which is then empty.
 pub record IsCreated (name : Name) (old new : FilesState) : Type 0 where
   pub missing : old.view.seen name ≡ None
   pub seen : new.view.seen name ≡ Some []
   pub leaves : (left : Found) → new.may_leave name left → old.may_leave name left ⊎ (left ≡ Some [])
 
--- The effect of a call that creates a file. After a failure the file is as it was.
 abbrev pub Creates : {T E : Type 0} → Name → Result T E → (old new : FilesState) → Type 0
 Creates name (Ok _) old new = IsCreated name old new
 Creates name (Err _) old new = KeepsFile name old new
 
--- ---- vaults and logs
-
--- The effect of lending a vault in the file. Each file whose name is apart from `name` (a different file) is as it was.
+-- The effect of lending a vault in the file.
 pub record Borrows (name : Name) (old new : FilesState) : Type 0 where
   pub succeeds : Succeeds old new
   pub borrowed : new.borrowed ≡ Some name
   pub out : new.view.out name ≡ true
   pub others : OthersStay name old new
 
--- The effect of a failed call that lends a vault. Let the files obey the contract, and let no vault or log in the file
--- be borrowed before. Then a host crash can leave only what it could leave of the file before, or an empty file if the
--- file was missing.
+-- The effect of a failed call that lends a vault. On files that obey the contract, if no vault or log in the file was
+-- borrowed before, a host crash can leave only what it could leave before, or an empty file if the file was missing.
 pub record BorrowsNone (name : Name) (old new : FilesState) : Type 0 where
   pub fails : Fails old new
   pub leaves : IsKnownFile name old.view → LeavesOrEmpty name old new
 
--- The effect of taking back the vault in the file. The vault is faithful (`telling`), and the file has its bytes. If
--- the vault is sealed, a host crash can leave nothing else. Each file whose name is apart from `name` (a different
--- file) is as it was.
+-- The effect of taking back the vault in the file, which then has its bytes. If the vault is sealed, a host crash can
+-- leave nothing else.
 pub record TakesBack (name : Name) (vault : VaultState) (old new : FilesState) : Type 0 where
   pub borrowed : new.borrowed ≡ None
   pub in_store : new.view.out name ≡ false

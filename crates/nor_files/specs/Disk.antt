@@ -3,9 +3,8 @@ use Rattle.std.specs.Prelude.{◌≡◌, ◌⊎◌, ⊤, false, true, None, code
 use Rattle.nor_files.specs.Files.{FilesState, Name}
 use Rattle.nor_files.specs.Named.{are_same_names}
 
--- The state of a store of which nothing is known. The store need not obey the contract, and each call may fail in each
--- way. Two names are apart if they differ. It is assumed, and tested, that `is_one_file` recognizes two different names
--- of one file.
+-- The state of a store of which nothing is known. Each call may fail in each way, and two names are apart if they
+-- differ. That `is_one_file` recognizes two names of one file is assumed and tested.
 abbrev pub unknown : FilesState
 unknown = record {
   view = record {

@@ -13,8 +13,7 @@ IsLockFault nature name (fault.Unread error) = nature.fails (Unread name) ≡ tr
 IsLockFault nature name fault.Unheld = nature.fails (Unheld name) ≡ true
 IsLockFault nature name fault.Busy = nature.fails (Busy name) ≡ true
 
--- Holds if a store of this nature may return the error when it creates or truncates the file. Any store may run out of
--- memory.
+-- Holds if a store of this nature may return the error when it creates or truncates the file.
 abbrev pub IsCreateFault : Nature → Name → CreateFault → Type 0
 IsCreateFault nature name make.There = nature.fails (There name) ≡ true
 IsCreateFault nature name make.Busy = nature.fails (Busy name) ≡ true

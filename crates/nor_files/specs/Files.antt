@@ -1,7 +1,6 @@
 -- The files of a run, by their names, as contracts see them.
 use Rattle.std.specs.Prelude.{◌≡◌, ℕ, Bool, true, false, List, Option}
 
--- a name, as its bytes
 abbrev pub Name : Type 0
 Name = List ℕ
 
@@ -37,9 +36,8 @@ pub record Nature : Type 0 where
   pub lawful : Bool
   -- true for each failure that a call may ever find or return
   pub fails : Failure → Bool
-  -- Whether two names are apart. On lawful files they then refer to different files: a call on the first leaves the
-  -- second as it is. A file may have several names (`a` and `./a`, links), so two names that differ may be names of one
-  -- file. On the system's files, which aren't lawful, two names are apart if they differ.
+  -- Whether two names are apart. On lawful files they then refer to different files. A file may have several names (`a`
+  -- and `./a`, links), so two names that differ may be names of one file.
   pub apart : Name → Name → Bool
 
 -- The part of the state that determines what a read returns.
@@ -54,20 +52,18 @@ pub record View : Type 0 where
 pub record FilesState : Type 1 where
   pub view : View
   -- The greatest number of calls that can still succeed, counting `hold`, `sync`, `sync_folder`, `write_over`,
-  -- `set_len`, `make`, `vault_in_new` and `vault_in`. No program can read this number. If the files obey the contract
-  -- and `left` is 0, each of these calls fails and changes nothing, as after a kill or a host crash.
+  -- `set_len`, `make`, `vault_in_new` and `vault_in`. No program can read it. If it is 0, as after a kill or a host
+  -- crash, each of these calls on lawful files fails and changes nothing.
   pub left : ℕ
   -- the file whose vault was borrowed last and not yet taken back
   pub borrowed : Option Name
   -- the contents that a host crash at this moment may leave of the file of this name
   pub may_leave : Name → Found → Type 0
 
--- True if the files obey the contract.
 abbrev pub is_lawful : View → Bool
 is_lawful view = view.nature.lawful
 
--- Holds if the names `one` and `other` are apart in both orders. This doesn't require lawful files: on the system's
--- files, two names are apart if they differ.
+-- Holds if the names `one` and `other` are apart in both orders.
 abbrev pub AreApart : Nature → (one other : Name) → Type 0
 AreApart nature one other = (nature.apart one other ≡ true) × (nature.apart other one ≡ true)
 
@@ -81,19 +77,17 @@ pub record AreAtRest (files : FilesState) : Type 0 where
   pub lawful : is_lawful files.view ≡ true
   pub in_store : (name : Name) → files.view.out name ≡ false
 
--- Holds if the file is as it was: a read returns the same, and a vault or log in it is borrowed if and only if one was.
--- A host crash can leave only what it could leave before.
+-- Holds if the file is as it was. A host crash can leave only what it could leave before.
 pub record KeepsFile (name : Name) (old new : FilesState) : Type 0 where
   pub out : new.view.out name ≡ old.view.out name
   pub seen : new.view.seen name ≡ old.view.seen name
   pub leaves : (left : Found) → new.may_leave name left → old.may_leave name left
 
--- Holds if each file is as it was: a read returns the same, and a host crash can leave only what it could leave before.
+-- Holds if each file is as it was. A host crash can leave only what it could leave before.
 pub record AreUntouched (old new : FilesState) : Type 0 where
   pub view : new.view ≡ old.view
   pub leaves : (name : Name) (left : Found) → new.may_leave name left → old.may_leave name left
 
--- Holds if each file is as it was (`KeepsFile`).
 abbrev pub AllStay : (old new : FilesState) → Type 0
 AllStay old new = (name : Name) → KeepsFile name old new
 
@@ -101,8 +95,7 @@ AllStay old new = (name : Name) → KeepsFile name old new
 abbrev pub KnownStay : (old new : FilesState) → Type 0
 KnownStay old new = (name : Name) → IsKnownFile name old.view → KeepsFile name old new
 
--- Holds if each file whose name is apart from `name` is as it was. On lawful files these are different files, so
--- nothing is said about other names of the file `name`.
+-- Holds if each file whose name is apart from `name` is as it was. Nothing is said about other names of this file.
 abbrev pub OthersStay : Name → (old new : FilesState) → Type 0
 OthersStay name old new = (other : Name) → AreApart old.view.nature name other → KeepsFile other old new
 

@@ -11,8 +11,7 @@ use Rattle.nor_files.specs.Stored.{MayLeave}
 use Rattle.nor_files.specs.declared.memory.Memory.{Memory}
 use Rattle.nor_files.specs.declared.stored.Stored.{Stored}
 
--- The failures that calls on files in memory may find or return. Each file has exactly one name. Nobody else locks a
--- file, every file can be overwritten, and the program prints to none.
+-- The failures of calls on files in memory. Nobody else locks a file, and every file can be overwritten.
 abbrev pub memory_fails : Failure → Bool
 memory_fails (Unheld name) = false
 memory_fails (Busy name) = false
@@ -24,7 +23,6 @@ memory_fails failure = true
 abbrev pub memory_nature : Nature
 memory_nature = record { lawful = true; fails = memory_fails; apart = λ one other. not (are_same_names one other) }
 
--- the state of files in memory, with the number of calls left and the name of the file whose vault is borrowed
 abbrev pub files_state : List Stored → (left : ℕ) (borrowed : Option Name) → FilesState
 files_state files left borrowed = record {
   view = record {
@@ -37,17 +35,13 @@ files_state files left borrowed = record {
   may_leave = λ name found. MayLeave (file_named files name) found;
 }
 
--- the state of a `Memory`
 abbrev pub memory_state : Memory → FilesState
 memory_state memory = files_state memory.files.items memory.left (option_map (λ name. name.items) memory.borrowed)
-
--- ---- the names of files in memory
 
 true_from_not : (b : Bool) → not b ≡ false → b ≡ true
 true_from_not true is = refl
 true_from_not false is = absurd (false≢true (sym is))
 
--- If files in memory treat two names as names of one file, the names are equal.
 pub one_name : (one other : Name) → MayBeOneFile memory_nature one other → one ≡ other
 one_name one other (inl not_apart) = same_text one other (sym (true_from_not (are_same_names one other) not_apart))
 one_name one other (inr shared) = same_text one other (sym shared)
@@ -56,7 +50,6 @@ one_file_itself : (name : Name) (files : FilesState) → AreOneFile name name fi
 one_file_itself name files =
     record { seen = refl; out = refl; leaves = λ left can. can; back = λ left can. can }
 
--- Files in memory obey the law of names (`NamesAreOfOne`): the state treats two names of one file alike.
 pub names_of_one : (files : List Stored) (left : ℕ) (borrowed : Option Name)
     → NamesAreOfOne (files_state files left borrowed)
 names_of_one files left borrowed lawful one other may =

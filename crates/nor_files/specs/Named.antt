@@ -1,19 +1,15 @@
--- How files in memory are found by their names.
 use Rattle.std.specs.Prelude.{Bool, true, false, List, [], ◌∷◌, Option, None, Some, if◌then◌else◌, nat_eq}
 use Rattle.std.specs.Cmp.Lexicographic.{pointwise}
 use Rattle.nor_files.specs.Files.{Name}
 use Rattle.nor_files.specs.Stored.{File, file_in, missing}
 use Rattle.nor_files.specs.declared.stored.Stored.{Stored}
 
--- true if the names have the same bytes
 abbrev pub are_same_names : (one other : Name) → Bool
 are_same_names = pointwise nat_eq
 
--- true if the file `stored` has this name
 abbrev pub is_named : Name → Stored → Bool
 is_named name stored = are_same_names stored.name.items name
 
--- the first file of this name in the list, or `missing` if the list has none
 abbrev pub file_named : List Stored → Name → File
 file_named [] name = missing
 file_named (stored ∷ files) name = if is_named name stored then file_in stored else file_named files name

@@ -3,21 +3,18 @@ use Rattle.std.specs.Prelude.{◌≡◌, ◌⊎◌, true, false}
 use Rattle.nor_files.specs.Files.{FilesState, Found, Name, Nature, is_lawful}
 use Rattle.nor_files.specs.Files.Failure.{Shared}
 
--- Holds if a store of this nature treats the two names as names of one file. They aren't apart, or `is_one_file` may
--- return true for them.
+-- Holds if a store of this nature treats the two names as names of one file.
 abbrev pub MayBeOneFile : Nature → (one other : Name) → Type 0
 MayBeOneFile nature one other = (nature.apart one other ≡ false) ⊎ (nature.fails (Shared one other) ≡ true)
 
--- Holds if the state treats both names alike. A read of either name returns the same, a vault or log is borrowed in
--- both or in neither, and a host crash may leave the same of both.
+-- Holds if the state treats both names alike.
 pub record AreOneFile (one other : Name) (files : FilesState) : Type 0 where
   pub seen : files.view.seen one ≡ files.view.seen other
   pub out : files.view.out one ≡ files.view.out other
   pub leaves : (left : Found) → files.may_leave one left → files.may_leave other left
   pub back : (left : Found) → files.may_leave other left → files.may_leave one left
 
--- The law of names. On files that obey the contract, two names that the store treats as names of one file are treated
--- alike by the state (`AreOneFile`).
+-- The law of names: on files that obey the contract, the state treats two names of one file alike.
 abbrev pub NamesAreOfOne : FilesState → Type 0
 NamesAreOfOne files = is_lawful files.view ≡ true → (one other : Name) → MayBeOneFile files.view.nature one other
     → AreOneFile one other files

@@ -18,7 +18,6 @@ abbrev pub bytes_in : Content → List ℕ
 bytes_in (Plain bytes) = bytes.items
 bytes_in (Vaulted vault) = (held_by vault).bytes
 
--- the bytes of a file's content, or `None` if the file is missing
 abbrev pub content_found : Option Content → Found
 content_found content = option_map bytes_in content
 
@@ -32,7 +31,6 @@ pub record File : Type 0 where
   -- whether a vault or a log in the file is borrowed
   pub out : Bool
 
--- a file of a `Memory`, as contracts see it
 abbrev pub file_in : Stored → File
 file_in stored = record {
   seen = content_found stored.content;
@@ -45,8 +43,6 @@ file_in stored = record {
 abbrev pub missing : File
 missing = record { seen = None; steps = []; unplaced = false; out = false }
 
--- ---- what a host crash may leave of a file
-
 -- Holds if `left` is a mix (`IsMixed`) of `bytes` and a content that the file may have had before.
 abbrev pub IsMixOf : List ℕ → (Found → Type 0) → Found → Type 0
 IsMixOf bytes MayHaveBeen left = (had : List ℕ) × MayHaveBeen (Some had)
@@ -56,48 +52,39 @@ IsMixOf bytes MayHaveBeen left = (had : List ℕ) × MayHaveBeen (Some had)
 abbrev pub IsCutOf : ℕ → (Found → Type 0) → Found → Type 0
 IsCutOf len MayHaveBeen left = (had : List ℕ) × MayHaveBeen (Some had) × (left ≡ Some (with_length len had))
 
--- Holds if a change may turn a content that the file may have had before into `left`. After `Lent`, the file may have
--- any content, or be missing.
+-- Holds if a change may turn a content that the file may have had before into `left`. `Lent` allows every `left`.
 abbrev pub Becomes : Change → (Found → Type 0) → Found → Type 0
 Becomes (Written bytes) MayHaveBeen left = IsMixOf bytes.items MayHaveBeen left
 Becomes (Cut len) MayHaveBeen left = IsCutOf len MayHaveBeen left
 Becomes Lent MayHaveBeen left = ⊤
 
--- Holds if the changes of a file allow the content `left`. It may be the content `seen`, which a read returns. It may
--- be a content that the file may have had before the newest change. Or the newest change may turn one of these earlier
--- contents into `left` (`Becomes`).
+-- Holds if `left` is what a read returns, or a content that the file may have had before its newest change, or one into
+-- which this change may turn such a content.
 abbrev pub MayBe : List Step → Found → Found → Type 0
 MayBe [] seen left = left ≡ seen
 MayBe (step ∷ earlier) seen left = (left ≡ seen) ⊎ (MayBe earlier (content_found step.before) left
     ⊎ Becomes step.change (MayBe earlier (content_found step.before)) left)
 
--- Holds if a host crash may leave `left`. The changes of the file must allow `left`, which `May` says. If the first
--- argument is true, the host crash may also remove the file. If it is false, `left` must be a file if and only if a
--- read finds a file now.
+-- Holds if a host crash may leave `left`, which `May` says. If the first argument is true, the crash may also remove
+-- the file. Otherwise `left` is a file if and only if a read finds one now.
 abbrev pub OrMissing : Bool → Type 0 → (seen left : Found) → Type 0
 OrMissing true May seen left = (left ≡ None) ⊎ May
 OrMissing false May seen left = (is_some left ≡ is_some seen) × May
 
--- Holds if a host crash may leave the content `left` of the file.
 abbrev pub MayLeave : File → Found → Type 0
 MayLeave file left = OrMissing file.unplaced (MayBe file.steps file.seen left) file.seen left
 
--- The changes of a file allow the content that a read returns.
 pub seen_may_be : (steps : List Step) (seen : Found) → MayBe steps seen seen
 seen_may_be [] seen = refl
 seen_may_be (step ∷ earlier) seen = inl refl
 
--- If `May` holds, `OrMissing` allows the content that a read returns.
 pub seen_or_missing : (unplaced : Bool) (May : Type 0) (seen : Found) → May → OrMissing unplaced May seen seen
 seen_or_missing true May seen may = inr may
 seen_or_missing false May seen may = (refl, may)
 
--- A host crash may leave what a read returns.
 pub seen_may_stay : (file : File) → MayLeave file file.seen
 seen_may_stay file =
     seen_or_missing file.unplaced (MayBe file.steps file.seen file.seen) file.seen (seen_may_be file.steps file.seen)
-
--- ---- the effects of calls on one file
 
 -- Holds if the file has this content, and the change from the old content was recorded.
 pub record IsChanged (content : Content) (change : Change) (old new : Stored) : Type 0 where
@@ -109,19 +96,15 @@ pub record IsChanged (content : Content) (change : Change) (old new : Stored) : 
     out = old.out;
   }
 
--- Holds if the file is as it was.
 pub record IsUnchanged (old new : Stored) : Type 0 where
   pub name : new.name ≡ old.name
   pub file : file_in new ≡ file_in old
 
--- The effect of a call that changes the content. After a failure the file is as it was.
 abbrev pub Alters : {T E : Type 0} → Result T E → Content → Change → (old new : Stored) → Type 0
 Alters (Ok _) content change old new = IsChanged content change old new
 Alters (Err _) content change old new = IsUnchanged old new
 
--- The effect of overwriting the file in place. After success, a read returns the old content with its beginning
--- replaced by `bytes`. After success or failure, a host crash can leave only what it could leave before, or a mix of
--- one of these contents and `bytes`.
+-- The effect of overwriting the file in place, after success or failure.
 pub record FileWrites {T E : Type 0} (bytes : List ℕ) (result : Result T E) (old new : Stored) : Type 0 where
   pub name : new.name ≡ old.name
   pub out : new.out ≡ old.out
@@ -129,9 +112,7 @@ pub record FileWrites {T E : Type 0} (bytes : List ℕ) (result : Result T E) (o
   pub leaves : (left : Found) → MayLeave (file_in new) left
       → MayLeave (file_in old) left ⊎ IsMixOf bytes (MayLeave (file_in old)) left
 
--- The effect of setting the length of the file. After success, a read returns the old content, truncated to `len` bytes
--- or extended by zeros. After success or failure, a host crash can leave only what it could leave before, or one of
--- these contents with its length changed to `len`.
+-- The effect of setting the length of the file, after success or failure.
 pub record FileSets {T E : Type 0} (len : ℕ) (result : Result T E) (old new : Stored) : Type 0 where
   pub name : new.name ≡ old.name
   pub out : new.out ≡ old.out
@@ -139,8 +120,7 @@ pub record FileSets {T E : Type 0} (len : ℕ) (result : Result T E) (old new : 
   pub leaves : (left : Found) → MayLeave (file_in new) left
       → MayLeave (file_in old) left ⊎ IsCutOf len (MayLeave (file_in old)) left
 
--- The effect of a sync of the file. A host crash can't undo the changes made before. A host crash may still remove the
--- file if it could before the sync.
+-- The effect of a sync of the file. A host crash can't undo earlier changes, but may still remove the file if it could.
 pub record FileSyncs (old new : Stored) : Type 0 where
   pub name : new.name ≡ old.name
   pub file : file_in new ≡ record (file_in old) { steps = [] }
@@ -156,14 +136,12 @@ pub record IsCreatedNow (old new : Stored) : Type 0 where
   pub missing : (file_in old).seen ≡ None
   pub file : file_in new ≡ record { seen = Some []; steps = []; unplaced = true; out = old.out }
 
--- The effect of a call that creates the file. After a failure the file is as it was.
 abbrev pub FileCreates : {T E : Type 0} → Result T E → (old new : Stored) → Type 0
 FileCreates (Ok _) old new = IsCreatedNow old new
 FileCreates (Err _) old new = IsUnchanged old new
 
--- The effect of lending a vault or a log in the file, which is then empty. If the file had to be new, it was missing
--- before, and a host crash can't remove it. Otherwise a host crash may remove it if it was missing, or if a host crash
--- could remove it before.
+-- The effect of lending a vault or a log in the file, which is then empty. If the file had to be new (`is_new`), a host
+-- crash can't remove it. Otherwise a host crash may remove it if it was missing, or if a host crash could before.
 pub record IsBorrowed (is_new : Bool) (old new : Stored) : Type 0 where
   pub name : new.name ≡ old.name
   pub missing : is_new ≡ true → (file_in old).seen ≡ None
@@ -174,7 +152,6 @@ pub record IsBorrowed (is_new : Bool) (old new : Stored) : Type 0 where
     out = true;
   }
 
--- The effect of a call that lends a vault or a log in the file. After a failure the file is as it was.
 abbrev pub FileBorrows : {T E : Type 0} → Bool → Result T E → (old new : Stored) → Type 0
 FileBorrows is_new (Ok _) old new = IsBorrowed is_new old new
 FileBorrows is_new (Err _) old new = IsUnchanged old new
@@ -184,8 +161,7 @@ pub record FileIsDurable (bytes : List ℕ) (old new : Stored) : Type 0 where
   pub name : new.name ≡ old.name
   pub file : file_in new ≡ record { seen = Some bytes; steps = []; unplaced = false; out = false }
 
--- The effect of taking back the vault in the file, which then has the bytes of the vault. If the vault is sealed, a
--- host crash can leave nothing else.
+-- The effect of taking back the vault in the file. If the vault is sealed, a host crash can leave nothing else.
 pub record FileTakesBack (vault : VaultState) (old new : Stored) : Type 0 where
   pub name : new.name ≡ old.name
   pub file : file_in new ≡ record {
@@ -195,8 +171,7 @@ pub record FileTakesBack (vault : VaultState) (old new : Stored) : Type 0 where
     out = false;
   }
 
--- The effect of a host crash on the file. A read then returns one of the contents that a host crash could have left
--- before.
+-- The effect of a host crash on the file: a read returns one of the contents that the crash could leave.
 pub record FileForgets (old new : Stored) : Type 0 where
   pub name : new.name ≡ old.name
   pub allowed : MayLeave (file_in old) (file_in new).seen

@@ -21,7 +21,7 @@ new_vault telling = record { telling = telling; bytes = []; sealed = false; fail
 abbrev pub one_more_failure : (failures : ℕ) → ℕ
 one_more_failure failures = (failures + 1) % 2 ^ 64
 
--- Holds if the vault refused a call between the states `old` and `new`.
+-- Holds if the number of refusals changed, because the vault refused a call.
 abbrev pub CountsRefusal : (old new : VaultState) → Type 0
 CountsRefusal old new = new.failures ≢ old.failures
 

@@ -32,7 +32,8 @@ abbrev pub parts_after : Option (List ℕ × List ℕ) → Option Parts
 parts_after None = None
 parts_after (Some parts) = with_start parts.0 (cut_at 32 parts.1)
 
--- The parts of a line: the start ends at the first `:`, the end at the next space, and the name follows more spaces.
+-- The parts of a line: the start ends at the first `:`, the end at the next space, and the name follows one or more
+-- spaces.
 abbrev pub parts_of : List ℕ → Option Parts
 parts_of line = parts_after (cut_at 58 line)
 

@@ -9,7 +9,7 @@ is_in_span span address = nat_le span.first address && nat_le address span.last
 abbrev pub contains : (spans : List Span) → (address : ℕ) → Bool
 contains spans address = list_any (λ span. is_in_span span address) spans
 
--- True if the first of the following spans, if any, leaves at least one address between itself and `span`.
+-- True if the first of the following spans, if any, begins above `span`, with at least one address between them.
 abbrev pub IsApartFrom : Span → List Span → Type 0
 IsApartFrom span [] = ⊤
 IsApartFrom span (next ∷ spans) = span.last + 1 < next.first

@@ -87,8 +87,8 @@ impl Layout {
     /// hexadecimal digits, with or without `0x`. The region includes its start and its end. A name has 1 to 32 visible
     /// ASCII characters except `,` and `:`. Regions may overlap.
     ///
-    /// Returns the fault of the first line that has one, in the order of `LineFault`, then `TooMany`, or `Memory` if an
-    /// allocation fails, which is possible only at a line that adds a region.
+    /// Returns the fault of the first line that has one. The faults of a line are checked in the order of `LineFault`,
+    /// and `TooMany` after them. Returns `Memory` if an allocation fails at a line that adds a region.
     pub fn read(alloc: Global, text: &[u8]) -> Result<Layout, LayoutFault>
         // `Memory` is possible only if some line adds a region, and no earlier line has a fault.
         ensures exact { ReadsLayout result (layout_says text.now) }
@@ -116,7 +116,7 @@ impl Layout {
     }
 
     /// Returns the set of all addresses of the regions with the comma-separated `names`, which may be repeated.
-    /// Allocates nothing. Returns `NoRegion` if one of the names, which may be empty, isn't the name of a region.
+    /// Allocates nothing. Returns `NoRegion` if one of the names isn't the name of a region.
     pub fn include(&self, names: &str) -> Result<Ranges, LayoutFault>
         ensures known { IsOk result ↔ IsTrue (are_known self.now names.now) }
         ensures unknown { IfErr result (λ fault. fault ≡ LayoutFault.NoRegion) }

@@ -200,7 +200,7 @@ impl Ranges {
         PositionsIn::new(self.spans(), sector)
     }
 
-    /// Replaces the bytes of the sector whose addresses aren't in the set by those of `other`. Both have 4,096 bytes.
+    /// Replaces the bytes of the sector whose addresses aren't in the set by those of `other`.
     pub(crate) fn fill_excluded(&self, sector: u32, bytes: &mut [u8], other: &[u8])
         requires long { length bytes.old ≡ 4096 }
         requires other_long { length other.now ≡ 4096 }

@@ -21,8 +21,8 @@ abbrev pub with_found : (size : ℕ) → List Region → (number : ℕ) → Regi
 with_found size regions number region =
     if nat_lt region.end size then in_record number (with_region regions region) else Err (Outside number)
 
--- A function that reads a record: from the regions of earlier records, the record's number, and the bytes from its
--- start on, to the regions with its own or its fault.
+-- A function that reads a record. It takes the regions of earlier records, the record's number and the bytes from its
+-- start on, and returns the regions with its own one added, or its fault.
 abbrev pub Reading : Type 0
 Reading = List Region → ℕ → List ℕ → Result (List Region) MapFault
 

@@ -89,8 +89,9 @@ fn read_areas(alloc: Global, areas: &[u8], count: u16, size: u32) -> Result<Layo
 /// flashrom's manual page, `--fmap`). The regions are the areas, in their order and at their offsets. They may overlap.
 ///
 /// An FMAP begins with a valid header: the signature `__FMAP__`, major version 1, a name of visible ASCII characters
-/// that ends with NUL, and a size of the image not less than the FMAP. The one at the lowest address is read. Its minor
-/// version, base address and flags are ignored. The name of an area ends before the first NUL in its field, if any.
+/// that ends with NUL, and a stated size of the image that is not less than the length of the FMAP. The FMAP at the
+/// lowest address is read, without its minor version, base address and flags. The name of an area ends before the first
+/// NUL in its field, if any.
 ///
 /// Returns `Missing` if there is no valid header, or `Short` if the bytes end before the last area does. Otherwise
 /// returns the fault of the first area that has one: `Outside`, or `Region` with the reason why a layout can't have it.

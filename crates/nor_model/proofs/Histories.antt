@@ -5,8 +5,6 @@ use Rattle.std.proofs.lemmas.List.{append_assoc}
 use Rattle.nor_model.specs.Exchange.{Exchange}
 use Rattle.nor_model.specs.History.{Continues, KeepsReplies, Answered, last_reply, bytes_or_none}
 
--- ---- histories that continue an earlier one (`Continues`)
-
 pub continues_refl : (history : List Exchange) → Continues history history
 continues_refl history = record { later = []; is = refl }
 
@@ -19,8 +17,6 @@ continues_then {old} first second = record {
   is = second.is ∙ ap (λ (h : List Exchange). second.later ++ h) first.is ∙ sym (append_assoc second.later first.later old);
 }
 
--- ---- histories with the same last replies to all transactions except those that satisfy `may` (`KeepsReplies`)
-
 pub keeps_replies_none : {may : List ℕ → Bool} (history : List Exchange) → KeepsReplies may history history
 keeps_replies_none history = record { same = λ is others. refl }
 
@@ -28,8 +24,6 @@ pub keeps_replies_then : {may : List ℕ → Bool} {old mid new : List Exchange}
     → KeepsReplies may mid new → KeepsReplies may old new
 keeps_replies_then first second = record { same = λ is others. second.same is others ∙ first.same is others }
 
--- if `new` is `old` with one more transaction, and this transaction satisfies `may`, then `KeepsReplies may old new`
--- holds
 pub keeps_replies_by : {may : List ℕ → Bool} {exchange : Exchange} {old new : List Exchange}
     → new ≡ exchange ∷ old → may exchange.out ≡ true → KeepsReplies may old new
 keeps_replies_by {may} {exchange} {old} {new} by passes = record {
@@ -37,20 +31,14 @@ keeps_replies_by {may} {exchange} {old} {new} by passes = record {
       ∙ ap (λ (b : Bool). if b then bytes_or_none exchange.reply else last_reply is old) (others exchange.out passes);
 }
 
--- if `KeepsReplies` holds for `may`, and each transaction that satisfies `may` also satisfies `might`, then
--- `KeepsReplies` holds for `might`
 pub keeps_replies_less : {may might : List ℕ → Bool} {old new : List Exchange} → KeepsReplies may old new
     → ((out : List ℕ) → may out ≡ true → might out ≡ true) → KeepsReplies might old new
 keeps_replies_less keeps less = record { same = λ is others. keeps.same is (λ out passes. others out (less out passes)) }
-
--- ---- histories with one more transaction that received a reply (`Answered`)
 
 pub answered_keeps : {is : List ℕ → Bool} {old new : List Exchange} {reply : List ℕ} → Answered is old new reply
     → KeepsReplies is old new
 answered_keeps answered = keeps_replies_by answered.history answered.asks
 
--- If `new` is `old` with one more transaction, which satisfies `is` and received `reply` (`Answered`), then the last
--- reply in `new` to a transaction that satisfies `is` is `reply`.
 pub answered_last : {is : List ℕ → Bool} {old new : List Exchange} {reply : List ℕ} → Answered is old new reply
     → last_reply is new ≡ reply
 answered_last {is} {old} {new} {reply} answered =

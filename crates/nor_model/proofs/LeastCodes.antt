@@ -1,5 +1,4 @@
--- Lemmas about the ranges that a code (a value of the protection bits) protects exactly, and about the least code of a
--- range.
+-- Lemmas about the ranges that a code (a value of the protection bits) protects exactly, and the least code of a range.
 use Rattle.std.proofs.Common.{◌≡◌, ℕ, ◌+◌, ◌-◌, ◌<◌, ◌⊎◌, inl, inr, arith, ap}
 use Rattle.std.specs.Prelude.{Option, None, Some, IfSome, IfNone, Bool, not, ◌||◌, ◌==◌, if◌then◌else◌}
 use Rattle.std.proofs.lemmas.Bool.{cases_order}
@@ -7,14 +6,11 @@ use Rattle.std.proofs.lemmas.Bool.Decides.{nat_tests}
 use mathlib.Core.Bool.{beq}
 use Rattle.nor_model.specs.Offer.{ProtectsExactly, IsLeastCode, IsNotOffered}
 
--- Holds if the range of `len` bytes from `start` and the range of `len'` bytes from `start'` have the same length and,
--- unless they are empty, the same start.
+-- Holds if two ranges have the same length and, unless they are empty, the same start.
 pub record AreAlike (start len start' len' : ℕ) : Type 0 where
   pub as_long : len ≡ len'
   pub alike : (len' ≡ 0) ⊎ (start ≡ start')
 
--- Suppose that `code` protects exactly the first range. If the two ranges are alike (`AreAlike`), `code` also protects
--- exactly the second one (`protects-alike`). If `code` protects exactly both, the ranges are alike (`alike-protects`).
 pub protects-alike : (size code start len start' len' : ℕ) → ProtectsExactly size code start len
     → AreAlike start len start' len' → ProtectsExactly size code start' len'
 protects-alike size code start len start' len' protects alike a =
@@ -29,8 +25,6 @@ alike-protects size code start len start' len' protects protects' =
     let end = protects (start' + len' - 1) in let end' = protects' (start' + len' - 1) in
     grind (arith, first, first', last, last', begin, begin', end, end')
 
--- `found` is the result of a search for the least code that protects exactly the range of `len'` bytes from `start'`.
--- If `code` protects exactly this range and is the least code of some range, then `found` is `code`.
 pub least_found : (size code start len start' len' : ℕ) (found : Option ℕ) → IfSome found (IsLeastCode size start' len')
     → IfNone found (IsNotOffered size start' len') → ProtectsExactly size code start' len'
     → IsLeastCode size start len code
@@ -45,8 +39,6 @@ least_found size code start len start' len' (Some other) least none there is_lea
       | inr (inr above) ↦ absurd (least.least code above is_least.defined there)
     ]
 
--- If the protected range isn't empty, two formulas for its first address agree: that of `start_of` (`src/guard.rt`) and
--- that of `IsSelectedRange`.
 pub starts : (size len : ℕ) (complement bottom : Bool) → 0 < len
     → (if not (beq bottom complement) || len == 0 then 0 else size - len)
     ≡ (if complement then (if bottom then size - len else 0) else (if bottom then 0 else size - len))

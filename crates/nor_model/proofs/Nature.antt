@@ -1,6 +1,4 @@
--- `KeepsNature` says that transactions don't change whether a bus is well-behaved, steady, unlimited or punctual, and
--- that its history continues. If `KeepsNature` holds for each of several successive transactions, it holds for all of
--- them together.
+-- If `KeepsNature` holds for each of several successive transactions, it holds for all of them together.
 use Rattle.std.proofs.Common.{◌≡◌, ◌∙◌, ◌∷◌, refl}
 use Rattle.nor_model.specs.Exchange.{Exchange}
 use Rattle.nor_model.specs.Bus.{BusState, SameNature, KeepsNature}
@@ -18,8 +16,6 @@ nature_refl state = record {
   allowances = refl;
 }
 
--- If `new` is `old` with one more transaction in its history, `SameNature` holds, and the allowances are as before,
--- then `KeepsNature` holds.
 pub nature_by : {old new : BusState} {exchange : Exchange} → SameNature old new → new.history ≡ exchange ∷ old.history
     → new.allowances ≡ old.allowances → KeepsNature old new
 nature_by same history allowances = record {

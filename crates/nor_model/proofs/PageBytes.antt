@@ -7,7 +7,6 @@ use Rattle.nor_model.specs.declared.command.Command.TheVariants.{Program}
 use Rattle.nor_model.specs.Chip.{Chip}
 use Rattle.nor_model.specs.Step.{last_for, byte_after}
 
--- if no byte of `sent` is for the address `a`, `last_for` is `None`
 pub last_for-apart : (at : ℕ) (sent : List ℕ) (a : ℕ) → ((i : ℕ) → i < length sent → (at + i) % 256 ≢ a % 256)
     → last_for at sent a ≡ None
 unfolding last_for
@@ -16,7 +15,6 @@ last_for-apart at (byte ∷ sent) a apart =
     let later = last_for-apart (at + 1) sent a (λ i small same. apart (suc i) (omega arith) (omega arith)) in
     rw (later, ne_eqb (at % 256) (a % 256) (λ same. apart 0 (omega arith) (omega arith))) refl
 
--- If at most 256 bytes are sent from index `i` on, byte `i` is the last one that is sent for its address.
 pub last_for-at : (at : ℕ) (sent : List ℕ) (a i : ℕ) → i < length sent → length sent ≤ i + 256
     → (at + i) % 256 ≡ a % 256 → last_for at sent a ≡ Some (slice_index sent i)
 unfolding last_for
@@ -27,8 +25,6 @@ last_for-at at (byte ∷ sent) a zero small last here =
 last_for-at at (byte ∷ sent) a (suc i) small last here =
     rw (last_for-at (at + 1) sent a i (omega arith) (omega arith) (omega arith)) refl
 
--- If a program at the address `at` doesn't reach past the end of its page, it ANDs each byte of the chip from `at` to
--- `at + length sent - 1` with the byte of `sent` for this address. Every other byte is as it was.
 pub byte_after-program : (chip : Chip) (at : ℕ) (sent : List ℕ) (a : ℕ) → at % 256 + length sent ≤ 256
     → byte_after chip (Program at) sent a
     ≡ (if nat_le at a && nat_lt a (at + length sent) then bit_and (chip.bytes a) (slice_index sent (a - at))

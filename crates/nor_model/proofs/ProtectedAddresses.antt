@@ -1,5 +1,4 @@
--- On a chip of an allowed size, the protected addresses are at one end of the chip, and their range begins and ends at
--- whole KiB.
+-- On a chip of an allowed size, the protected addresses are at one end, and their range begins and ends at whole KiB.
 use Rattle.std.proofs.Common.{◌≡◌, ℕ, zero, suc, ◌+◌, ◌-◌, ◌*◌, ◌/◌, ◌%◌, ◌^◌, ◌<◌, ◌≤◌, ◌⊎◌, inl, inr, arith, refl}
 use Rattle.std.proofs.Common.{◌∙◌}
 use Rattle.std.specs.Prelude.{Bool, true, false, not, ◌==◌, ◌&&◌, ◌||◌, ◌↔◌, nat_lt, nat_le, if◌then◌else◌}
@@ -10,15 +9,12 @@ use Rattle.nor_model.specs.Offer.{ProtectsExactly}
 use Rattle.nor_model.specs.Guard.{protected_by, named_length, is_undefined, is_complement, is_bottom, names_sectors, bp_of}
 use Rattle.nor_model.specs.Units.{LieAtAnEnd, HoldsSomewhere, OnFirst, OnLast}
 
--- Holds if `n` is at most `size` and a multiple of 1 KiB. If `size` is a multiple of 256 KiB, `n` must also be a
--- multiple of 4 KiB (a sector).
+-- Holds if `n` is at most `size` and a multiple of 1 KiB, and of 4 KiB if `size` is a multiple of 256 KiB.
 pub record IsPart (size n : ℕ) : Type 0 where
   pub within : n ≤ size
   pub whole : n % 1024 ≡ 0
   pub sectors : size % 262144 ≡ 0 → n % 4096 ≡ 0
 
--- If `size` is a multiple of 64 KiB, and at least 64 KiB, the length that `named_length` returns satisfies `IsPart`.
--- The first two equations are for `bp` 7, the third one is for all lesser values.
 part_of : (size : ℕ) (sectors : Bool) (bp : ℕ) → 65536 ≤ size → size % 65536 ≡ 0 → bp < 8
     → IsPart size (if bp == 0 then 0 else if bp == 7 then size else if not sectors then size / 2 ^ (7 - bp)
     else if bp == 1 then 4096 else if bp == 2 then 8192 else if bp == 3 then 16384 else 32768)
@@ -26,16 +22,13 @@ part_of size true (suc (suc (suc (suc (suc (suc (suc zero))))))) large blocks sm
 part_of size false (suc (suc (suc (suc (suc (suc (suc zero))))))) large blocks small = omega arith
 part_of size _ _ large blocks small = omega arith
 
--- On a chip of an allowed size (`IsInBlocks`), the length of the selected range satisfies `IsPart`, and so does the
--- length of the rest of the chip (`part-rest`).
 named_length-part : (size code : ℕ) → IsInBlocks size → IsPart size (named_length size code)
 named_length-part size code are = part_of size (names_sectors code) (bp_of code) are.large are.blocks (omega arith)
 
 part-rest : (size n : ℕ) → size % 65536 ≡ 0 → IsPart size n → IsPart size (size - n)
 part-rest size n blocks part = grind arith
 
--- The value of `protected_by` for the address `a`. `named` is the length of the selected range, and the Boolean
--- arguments say whether the code is undefined, has CMP set, and has TB set.
+-- The value of `protected_by` for the address `a`, with the properties of the code as arguments.
 address_test : ℕ → ℕ → Bool → Bool → Bool → ℕ → Bool
 address_test size named undefined complement bottom a =
     let is_named = if bottom then nat_lt a named else nat_le (size - named) a in
@@ -67,21 +60,16 @@ address_test-end size named false false true blocks part =
 address_test-end size named false false false blocks part =
     ends_at (size - named) (part-rest size named blocks part) (inr (λ a below. rw (lt-ltb a size below) refl))
 
--- On a chip of an allowed size (`IsInBlocks`), `code` protects only the first or only the last addresses of the chip.
--- The border between protected and unprotected addresses is at a whole KiB.
 pub protected_by-end : (size code : ℕ) → IsInBlocks size → LieAtAnEnd size (protected_by size code)
 unfolding protected_by address_test
 protected_by-end size code are =
     address_test-end size (named_length size code) (is_undefined code) (is_complement code) (is_bottom code) are.blocks
     (named_length-part size code are)
 
--- no address from the chip's end on is protected
 pub protected_by-past : (size code a : ℕ) → size ≤ a → protected_by size code a ≡ false
 unfolding protected_by
 protected_by-past size code a past = rw (le-ltb a size past) refl
 
--- Suppose that `test` is true exactly in a range of whole KiB at one end of the chip (`LieAtAnEnd`). Then it has the
--- same value for any two addresses of one page of the chip.
 alike : (size : ℕ) (test : ℕ → Bool) (a b : ℕ) → LieAtAnEnd size test → a < size → b < size → a / 256 ≡ b / 256
     → test a ≡ test b
 alike size test a b ends below_a below_b page =
@@ -90,8 +78,6 @@ alike size test a b ends below_a below_b page =
       | inr last ↦ grind (arith, nat_tests, last a below_a, last b below_b)
     ]
 
--- Suppose that `test` is true exactly in a range at one end of the chip (`LieAtAnEnd`). If it is true for some address
--- of another range on the chip, it is true for the first or the last address of that other range.
 pub at_borders : (size : ℕ) (test : ℕ → Bool) (start len a : ℕ) → LieAtAnEnd size test → start + len ≤ size → start ≤ a
     → a < start + len → test a ≡ true → (test start || test (start + len - 1)) ≡ true
 at_borders size test start len a ends fits from before holds = elim ends.side [
@@ -99,8 +85,6 @@ at_borders size test start len a ends fits from before holds = elim ends.side [
   | inr last ↦ grind (arith, nat_tests, last a (omega arith), last (start + len - 1) (omega arith))
 ]
 
--- On a chip of an allowed size (`IsInBlocks`), `code` protects an address of the chip if and only if it protects some
--- address of the same page.
 pub protected_by-page_of : (size code at : ℕ) → IsInBlocks size → at < size
     → (protected_by size code at ≡ true) ↔ HoldsSomewhere (protected_by size code) (at / 256 * 256) 256
 protected_by-page_of size code at are below = (
@@ -110,9 +94,8 @@ protected_by-page_of size code at are below = (
       (omega arith) (omega arith) ∙ there.holds),
 )
 
--- Holds if the range of `len` bytes from `start` is the one that a defined code protects. `named` is the length of the
--- selected range, and `complement` and `bottom` say whether CMP and TB are set. The start of an empty range may have
--- any value.
+-- Holds if the range is the one that a defined code protects. `named` is the length of the selected range. The start of
+-- an empty range may have any value.
 pub record IsSelectedRange (size named : ℕ) (complement bottom : Bool) (start len : ℕ) : Type 0 where
   pub len_is : len ≡ (if complement then size - named else named)
   pub start_is : 0 < len
@@ -125,8 +108,6 @@ unfolding address_test
 address_test-exactly size named complement bottom start len within are a =
     let long = are.len_is in let begin = are.start_is in grind (arith, nat_tests)
 
--- On a chip of an allowed size (`IsInBlocks`), a defined code protects exactly the range for which `IsSelectedRange`
--- holds.
 pub protects_selected : (size code start len : ℕ) → IsInBlocks size → is_undefined code ≡ false
     → IsSelectedRange size (named_length size code) (is_complement code) (is_bottom code) start len
     → ProtectsExactly size code start len

@@ -10,8 +10,6 @@ use Rattle.nor_model.specs.Units.{LieAtAnEnd}
 use Rattle.nor_model.proofs.Sizes.{sized_bounds}
 use Rattle.nor_model.proofs.ProtectedAddresses.{ends_at, protected_by-end, protected_by-past, at_borders}
 
--- If the addresses for which `test` is true are at one end of the chip, so are those for which `scheme && test` is
--- true. `scheme` says whether the chip has block protection.
 with_scheme : (scheme : Bool) (size : ℕ) (test : ℕ → Bool) → LieAtAnEnd size test
     → LieAtAnEnd size (λ a. scheme && test a)
 with_scheme true size test ends = ends
@@ -22,8 +20,6 @@ is_protected-end chip =
     with_scheme chip.config.scheme chip.config.size (protected_by chip.config.size (code_of chip.kept))
     (protected_by-end chip.config.size (code_of chip.kept) (sized_bounds chip.config))
 
--- If a sector of the chip is unprotected (`is_block_protected` is false for it), each address of the sector is
--- unprotected.
 pub is_protected-sector : (chip : Chip) (a : ℕ) → a < chip.config.size
     → is_block_protected chip (4096 * (a / 4096)) 4096 ≡ false → is_protected chip a ≡ false
 is_protected-sector chip a below free =
@@ -33,15 +29,12 @@ is_protected-sector chip a below free =
     (omega arith) (omega arith) (omega arith) protected in
     let both : true ≡ false = sym there ∙ free in cc)
 
--- no address from the chip's end on is protected
 pub is_protected-past : (chip : Chip) (a : ℕ) → chip.config.size ≤ a → is_protected chip a ≡ false
 is_protected-past chip a past = rw (protected_by-past chip.config.size (code_of chip.kept) a past) (and-false chip.config.scheme)
 
--- no address is protected on a chip without block protection
 pub is_protected-no_scheme : (chip : Chip) (a : ℕ) → chip.config.scheme ≡ false → is_protected chip a ≡ false
 is_protected-no_scheme chip a none = rw none refl
 
--- no address is protected if all protection bits are clear
 protected_by-zero : (size a : ℕ) → protected_by size 0 a ≡ false
 unfolding protected_by
 protected_by-zero size a = grind (arith, nat_tests)
@@ -49,7 +42,6 @@ protected_by-zero size a = grind (arith, nat_tests)
 pub is_protected-zero : (chip : Chip) (a : ℕ) → code_of chip.kept ≡ 0 → is_protected chip a ≡ false
 is_protected-zero chip a zeros = rw (zeros, protected_by-zero chip.config.size a) (and-false chip.config.scheme)
 
--- two chips with the same configuration and the same non-volatile bits protect the same addresses
 pub is_protected-same : (old new : Chip) → new.config ≡ old.config → new.kept ≡ old.kept → (a : ℕ)
     → is_protected new a ≡ is_protected old a
 is_protected-same old new config kept a = cc

@@ -7,7 +7,6 @@ use Rattle.std.proofs.lemmas.Bool.Decides.{nat_tests}
 use Rattle.nor_model.specs.Command.{begins_quiet, is_quiet_opcode, is_changing_opcode, is_erase_opcode}
 use Rattle.nor_model.specs.Sent.{Sent, RecordsSent, with_sent, is_stirred, has_unknown, is_targeted, has_written, none_targeted, bare_targeted, addressed_targeted, is_in_targeted, targets, writes_status}
 
--- if a property `P` holds for each of the seven quiet opcodes, it holds for every opcode that passes `is_quiet_opcode`
 quiet_is : (opcode : ℕ) → is_quiet_opcode opcode ≡ true → (P : ℕ → Type 0) → P 0x03 → P 0x04 → P 0x05 → P 0x35 → P 0x4B
     → P 0x5A → P 0x9F → P opcode
 quiet_is opcode quiet P p3 p4 p5 p35 p4b p5a p9f =
@@ -35,8 +34,6 @@ quiet_is opcode quiet P p3 p4 p5 p35 p4b p5a p9f =
 in_none : (s : ℕ) → is_in_targeted none_targeted s ≡ false
 in_none s = grind (arith, nat_tests)
 
--- If `bare_targeted` and `addressed_targeted` return no sectors for `opcode`, a transaction that begins with `opcode`
--- targets no sector.
 targets_none : (opcode : ℕ) (rest : List ℕ) → bare_targeted opcode ≡ none_targeted
     → ((sector : ℕ) → addressed_targeted opcode sector ≡ none_targeted) → (s : ℕ) → targets (opcode ∷ rest) s ≡ false
 targets_none opcode [] bare at s = rw bare (in_none s)
@@ -51,8 +48,6 @@ writes_none opcode (x ∷ []) other one two = refl
 writes_none opcode (x ∷ y ∷ []) other one two = rw other refl
 writes_none opcode (x ∷ y ∷ z ∷ rest) other one two = refl
 
--- If the opcode of a transaction is quiet, isn't a modifying opcode and targets no sector, the transaction leaves the
--- list `Sent` and all its properties as they were.
 silent : (opcode : ℕ) (rest : List ℕ) (old : Sent) → bare_targeted opcode ≡ none_targeted
     → ((sector : ℕ) → addressed_targeted opcode sector ≡ none_targeted) → is_quiet_opcode opcode ≡ true
     → is_changing_opcode opcode ≡ false → (opcode == 0x01) ≡ false → (opcode == 0x02) ≡ false
@@ -102,7 +97,6 @@ loud_records_sent out old loud = record {
   status_writes = refl;
 }
 
--- adding the transaction `out` to the list `Sent` has the effect that `RecordsSent` states
 pub records_sent : {out : List ℕ} {old new : Sent} → new ≡ with_sent out old → RecordsSent out old new
 records_sent {out} {old} {new} is = elim (cases_Bool (begins_quiet out)) [
   | inl quiet ↦

@@ -6,22 +6,17 @@ use Rattle.std.proofs.Math.ListN.{get_or-eq_default}
 use Rattle.std.proofs.lemmas.Bool.{cases_lt}
 use Rattle.std.specs.Prelude.{slice_index}
 
--- Let `(at + done) % n` be `from`, and let `i` be at least `done`. If `from + (i - done)` is below `n`, then
--- `(at + i) % n` is `from + (i - done)`.
 pub run_on : (at done i from n : ℕ) → (at + done) % n ≡ from → done ≤ i → from + (i - done) < n
     → (at + i) % n ≡ from + (i - done)
 run_on at done i from n place later small =
     let split : at + i ≡ (from + (i - done)) + n * ((at + done) / n) = omega (arith, mod-add-div (at + done) n) in
     rw (split, add-mul-mod_self_left) (mod-eq_of_lt small)
 
--- If `at + done` is `from` modulo `n`, and `from` is below `n`, then `at + done + (n - from)` is 0 modulo `n`.
 pub run_round : (at done from n : ℕ) → (at + done) % n ≡ from → from < n → (at + (done + (n - from))) % n ≡ 0
 run_round at done from n place within =
     let split : at + (done + (n - from)) ≡ 0 + n * ((at + done) / n + 1) = omega (arith, mod-add-div (at + done) n) in
     rw (split, add-mul-mod_self_left) (mod-eq_of_lt (omega arith))
 
--- Suppose that the items of `ys` replace those of `xs` from index `a` on. Then the items before index `a` are those of
--- `xs` (`written_before`). The next items are those of `ys` (`written_within`).
 pub written_before : (a : ℕ) (xs ys zs : List ℕ) (i : ℕ) → a ≤ length xs → i < a
     → slice_index (take a xs ++ (ys ++ zs)) i ≡ slice_index xs i
 written_before a xs ys zs i fits before =
@@ -33,8 +28,6 @@ written_within a xs ys zs i fits later within =
     get_or-append_right (take a xs) (ys ++ zs) a i 0 (length-take-le a xs fits) later
     ∙ get_or_append_left ys zs 0 (i - a) (omega arith)
 
--- Item `i` of a list of `n` copies of `x` is `x`, for every `i`, because the default past the end of the list is `x`
--- too.
 pub get_or-replicate_all : {A : Type 0} (n i : ℕ) (x : A) → get_or (replicate n x) i x ≡ x
 get_or-replicate_all n i x = elim (cases_lt i n) [
   | inl within ↦ get_or-replicate n i x x within

@@ -6,10 +6,8 @@ pub use Rattle.nor_geometry.proofs.Sizes.{is_chip_size-power_of_two, is_power_of
 use Rattle.nor_geometry.proofs.Below.{same_tests}
 use Rattle.nor_model.specs.declared.config.Config.{Config}
 
--- if each of two truth values is true whenever the other one is, they are equal
 pub alike : (one other : Bool) → (one ≡ true → other ≡ true) → (other ≡ true → one ≡ true) → one ≡ other
 alike = same_tests
 
--- the size of each configuration is a multiple of 64 KiB from 64 KiB to 16 MiB (`IsInBlocks`)
 pub sized_bounds : (config : Config) → IsInBlocks config.size
 sized_bounds config = is_chip_size-in_blocks config.size config.sized

@@ -5,41 +5,32 @@ use Rattle.std.proofs.lemmas.Bool.Decides.{nat_tests}
 use Rattle.std.proofs.lemmas.Nat.{and_le_r, and_mask, or_comm, or_disjoint, or_lt, or_shifted}
 use Rattle.std.proofs.lemmas.Nat.Bits.{and_high, and_pow}
 
--- Setting WEL in a byte in which WEL and BUSY are clear adds 2. Setting BUSY in a byte in which BUSY is clear adds 1.
 pub or_latch : (n : ℕ) → n % 4 ≡ 0 → bit_or n 2 ≡ n + 2
 or_latch n clear = or_disjoint n 2 (omega (arith, and_pow n 1))
 
 pub or_busy : (n : ℕ) → n % 2 ≡ 0 → bit_or n 1 ≡ n + 1
 or_busy n clear = or_disjoint n 1 (omega (arith, and_pow n 0))
 
--- status 2 after a status write of `sent` has only non-volatile bits, which are its low seven bits
 pub written_lt : (old sent : ℕ) → bit_or (bit_and sent 67) (bit_or (bit_and old 60) (bit_and sent 56)) < 128
 written_lt old sent =
     or_lt 7 (bit_and sent 67) _ (omega (arith, and_le_r sent 67))
     (or_lt 7 (bit_and old 60) _ (omega (arith, and_le_r old 60)) (omega (arith, and_le_r sent 56)))
 
--- the AND of `n` and 2, the mask of WEL, is 2 if and only if bit 1 of `n` is set
 pub wel_set : (n : ℕ) → (bit_and n 2 == 2) ≡ (n / 2 % 2 == 1)
 wel_set n = let bit = and_pow n 1 in grind (arith, nat_tests)
 
--- `Status::code` computes a number from the status bytes `one` and `two`. The highest bit of this number is bit 6 of
--- `two`, and its low five bits are bits 6 to 2 of `one`.
 pub code_bits : (one two : ℕ) → bit_or (bit_and two 64 / 2) (bit_and one 124 / 4) ≡ 32 * (two / 64 % 2) + one / 4 % 32
 code_bits one two =
     let low : bit_and one 124 / 4 ≡ one / 4 % 32 = omega (arith, and_high one 5 2) in
     let high : bit_and two 64 / 2 ≡ two / 64 % 2 * 32 = omega (arith, and_pow two 6) in
     rw (low, high) (or_shifted (two / 64 % 2) 5 (one / 4 % 32) (omega arith) ∙ omega arith)
 
--- The bits that flashnor never changes are bit 7 of status 1 (`fixed_one`) and the low six bits of status 2
--- (`fixed_two`).
 pub fixed_one : (n : ℕ) → n < 256 → bit_and n 128 ≡ 128 * (n / 128)
 fixed_one n small = omega (arith, and_pow n 7)
 
 pub fixed_two : (n : ℕ) → bit_and n 63 ≡ n % 64
 fixed_two n = and_mask n 6
 
--- Combining the bits that flashnor never changes (`fixed`) with the shifted protection bits `code` by OR gives the sum
--- that the contract of `Status::with_code` states, for status 1 (`coded_one`) and for status 2 (`coded_two`).
 pub coded_one : (fixed code : ℕ) → code < 64
     → bit_or (128 * fixed) (bit_and (code * 4 % 256) 124) ≡ 128 * fixed + 4 * (code % 32)
 coded_one fixed code small =

@@ -1,5 +1,4 @@
--- The command that the chip carries out at a transaction depends neither on the chip's bytes nor on `running`. A
--- transaction without bytes changes nothing.
+-- The command that the chip carries out at a transaction depends neither on the chip's bytes nor on `running`.
 use Rattle.std.proofs.Common.{◌≡◌, ℕ, List, [], refl, arith}
 use Rattle.nor_model.specs.declared.command.Command.{Command}
 use Rattle.nor_model.specs.declared.command.Command.TheVariants.{Poll}
@@ -7,8 +6,7 @@ use Rattle.nor_model.specs.Chip.{Chip}
 use Rattle.nor_model.specs.Command.{command_of}
 use Rattle.nor_model.specs.Step.{Step, is_carried_out, done_of}
 
--- Holds if two chips agree in configuration, non-volatile bits, latch and `busy`. Their bytes and operations in
--- progress may differ.
+-- Holds if two chips agree in everything but their bytes and their operations in progress.
 pub record Agrees (x y : Chip) : Type 0 where
   pub config : y.config ≡ x.config
   pub kept : y.kept ≡ x.kept
@@ -22,7 +20,6 @@ carried-agrees x y _ same = cc
 pub done-agrees : (x y : Chip) (out : List ℕ) (replies : ℕ) → Agrees x y → done_of y out replies ≡ done_of x out replies
 done-agrees x y out replies same = cc (carried-agrees x y (command_of y.config out replies) same)
 
--- If no byte is sent to a chip or read from it, the chip makes a step that changes nothing. A bus that stops before the
--- first byte therefore satisfies `AtStop`.
+-- A bus that stops before the first byte therefore satisfies `AtStop`.
 pub nothing_sent : (chip : Chip) → Step chip [] [] chip
 nothing_sent chip = search arith

@@ -14,8 +14,7 @@ use Rattle.nor_model.specs.Step.{Step, done_of, wears}
 -- The state of a bus, as contracts see it.
 pub record BusState : Type 0 where
   pub chip : Chip
-  -- On a well-behaved bus that is punctual: the number of transactions that the bus will still carry out unless `allow`
-  -- is called. Code can't read this number.
+  -- On a punctual bus: how many transactions it will still carry out unless `allow` is called. Code can't read this.
   pub left : ℕ
   -- Whether the bus is well-behaved. If it is, it carries out each transaction of a length that it takes
   -- (`IsHonestFor`) as the modelled chip would, or stops.
@@ -28,13 +27,10 @@ pub record BusState : Type 0 where
   pub allowances : List ℕ
   -- On a well-behaved bus: the sectors that the chip has erased so far, over this bus.
   pub worn : ℕ → Bool
-  -- On a well-behaved bus: whether a stop sends no byte of its transaction and keeps the chip's power, so that the chip
-  -- stays as it was.
+  -- On a well-behaved bus: whether a stop sends no byte of its transaction and keeps the chip's power.
   pub steady : Bool
   -- On a well-behaved bus: whether the bus takes transactions of any length.
   pub unlimited : Bool
-  -- On a well-behaved bus that isn't unlimited: how many bytes more than 4,096 a transaction may read.
-  pub longer : ℕ
   -- On a well-behaved bus: whether it stops only if no transaction is left. Any other well-behaved bus may stop at any
   -- transaction, and `left` means nothing. Clauses and comments that count transactions (as in "no transaction is
   -- left", or "too few were left") are about punctual buses, even if a comment doesn't say so.
@@ -44,41 +40,34 @@ pub record BusState : Type 0 where
   -- Whether the chip may be of a further type, which only programs for real chips know. Never on a well-behaved bus.
   pub further : Bool
 
--- Holds if a call did not change whether the bus is well-behaved, steady, unlimited or punctual, nor how many bytes a
--- transaction may read. On a well-behaved bus, the chip's configuration (its ID, size, SFDP and all else that no command
--- changes) must also be as before the call.
+-- Holds if a call did not change whether the bus is well-behaved, steady, unlimited or punctual nor, on a well-behaved
+-- bus, the chip's configuration.
 pub record SameNature (old new : BusState) : Type 0 where
   pub honest : new.honest ≡ old.honest
   pub steady : new.steady ≡ old.steady
   pub unlimited : new.unlimited ≡ old.unlimited
-  pub longer : new.longer ≡ old.longer
   pub punctual : new.punctual ≡ old.punctual
   pub config : old.honest ≡ true → new.chip.config ≡ old.chip.config
 
--- Holds for every sequence of transactions, on every bus. The transactions don't change whether the bus is
--- well-behaved, steady, unlimited or punctual, nor how many bytes a transaction may read. On a well-behaved bus they
--- don't change the chip's configuration. The history continues the earlier one, and no allowance was set.
+-- Holds for every sequence of transactions, on every bus: they don't change whether it is well-behaved, steady,
+-- unlimited or punctual, the history continues the earlier one, and no allowance was set.
 pub record KeepsNature (old new : BusState) : Type 0 where
   pub honest : new.honest ≡ old.honest
   pub steady : new.steady ≡ old.steady
   pub unlimited : new.unlimited ≡ old.unlimited
-  pub longer : new.longer ≡ old.longer
   pub punctual : new.punctual ≡ old.punctual
   pub config : old.honest ≡ true → new.chip.config ≡ old.chip.config
   pub history : Continues old.history new.history
   pub allowances : new.allowances ≡ old.allowances
 
--- Holds if the bus is well-behaved and takes a transaction that sends `out` and reads `replies` bytes. An unlimited bus
--- takes every transaction. Any other bus takes those that send at most 260 bytes (a page program) and read at most
--- 4,096 bytes (a sector) and `longer` bytes more.
+-- Holds if the bus is well-behaved and takes this transaction. A bus that isn't unlimited takes those that send at most
+-- 260 bytes (a page program) and read at most 4,096 (a sector).
 pub record IsHonestFor (out : List ℕ) (replies : ℕ) (bus : BusState) : Type 0 where
   pub honest : bus.honest ≡ true
-  pub fits : (bus.unlimited ≡ true) ⊎ ((length out ≤ 260) × (replies ≤ 4096 + bus.longer))
+  pub fits : (bus.unlimited ≡ true) ⊎ ((length out ≤ 260) × (replies ≤ 4096))
 
--- The effect of a transaction on what every bus records. The transaction is added to the history, with its reply or as
--- one at which the bus stopped. `out` is added to `sent`, unless it is empty or begins with a quiet opcode (a read, or
--- write disable). The allowances stay as they were. If the transaction is a poll that received at least one reply byte,
--- `polled_ready` says whether the last of these bytes shows that the chip is ready; otherwise it stays as it was.
+-- The effect of a transaction on what every bus records. `out` is added to `sent` only if it may modify a chip, and
+-- only a poll that received a reply byte changes `polled_ready`.
 pub record Records (out answer : List ℕ) (outcome : Result Unit Stopped) (old new : BusState) : Type 0 where
   pub history : new.history ≡ exchange_of out answer outcome ∷ old.history
   pub sent : new.sent ≡ with_sent out old.sent
@@ -86,11 +75,9 @@ pub record Records (out answer : List ℕ) (outcome : Result Unit Stopped) (old 
   pub returned : OnOk outcome (new.polled_ready ≡ polled_ready_after out answer old.polled_ready)
   pub stopped : OnErr outcome (new.polled_ready ≡ old.polled_ready)
 
--- The effect of a stop. The first `count` bytes of the transaction were sent: none, some or all. Some reply bytes,
--- `read`, may have been read and are lost; the definition also allows more of them than were asked for. The chip
--- treated the bytes sent as a whole transaction, which took it to `reached`, and then lost its power or kept it. The
--- sectors that this transaction erased are recorded as erased. On a steady bus no byte was sent and the chip is as it
--- was.
+-- The effect of a stop. The first `count` bytes of the transaction were sent, and any number of reply bytes (`read`)
+-- may have been lost. The chip treated the bytes sent as a whole transaction, which took it to `reached`, and then may
+-- have lost its power. On a steady bus no byte was sent, and the chip is as it was.
 pub record AtStop (out : List ℕ) (old new : BusState) : Type 0 where
   pub count : ℕ
   pub read : List ℕ
@@ -101,23 +88,20 @@ pub record AtStop (out : List ℕ) (old new : BusState) : Type 0 where
   pub none : old.steady ≡ true → count ≡ 0
   pub unsent : old.steady ≡ true → new.chip ≡ old.chip
 
--- Holds if the bus stopped, and the chip is as a stop may leave it (`AtStop`). A punctual bus stopped because it had no
--- transaction left to carry out.
+-- Holds if the bus stopped as `AtStop` says. A punctual bus stopped because it had no transaction left.
 pub record Stops (out : List ℕ) (old new : BusState) : Type 0 where
   pub none_left : old.punctual ≡ true → old.left ≡ 0
   pub left : old.punctual ≡ true → new.left ≡ old.left
   pub at_stop : AtStop out old new
 
--- The effect of a transaction that was carried out. The chip made one step, and on a punctual bus one transaction fewer
--- is left. The sectors that the chip erased in this step are recorded as erased.
+-- The effect of a transaction that was carried out: the chip made one step.
 pub record Carries (out answer : List ℕ) (old new : BusState) : Type 0 where
   pub left : old.punctual ≡ true → old.left ≡ new.left + 1
   pub step : Step old.chip out answer new.chip
   pub worn : (s : ℕ) → new.worn s ≡ (old.worn s || wears (done_of old.chip out (length answer)) s)
 
--- The effect of a transaction, which sends `out` and makes `answer` of the bytes `before` of the reply. `nature` and
--- `records` hold on every bus. If the bus is well-behaved and takes a transaction of this length, it stopped
--- (`stops`), or the chip made one step (`carries`). A punctual bus that stopped left the reply as it was (`unread`).
+-- The effect of a transaction, which sends `out` and changes the reply buffer from `before` to `answer`. `nature` and
+-- `records` hold on every bus, the other fields only if a well-behaved bus takes a transaction of this length.
 pub record Transfers (out before answer : List ℕ) (outcome : Result Unit Stopped) (old new : BusState) : Type 0 where
   pub nature : SameNature old new
   pub stops : IsHonestFor out (length before) old → OnErr outcome (Stops out old new)
@@ -125,8 +109,7 @@ pub record Transfers (out before answer : List ℕ) (outcome : Result Unit Stopp
   pub carries : IsHonestFor out (length before) old → OnOk outcome (Carries out answer old new)
   pub records : Records out answer outcome old new
 
--- The effect of `allow`. The allowance `n` is recorded. On a well-behaved bus that is punctual, `n` transactions are
--- left; for any other bus the definition doesn't say how many are left. Nothing else changed.
+-- The effect of `allow`. On a punctual bus `n` transactions are then left; for other buses this isn't known.
 pub record Allows (n : ℕ) (old new : BusState) : Type 0 where
   pub chip : new.chip ≡ old.chip
   pub left : old.honest ≡ true → old.punctual ≡ true → new.left ≡ n
@@ -156,9 +139,8 @@ unknown_chip = record {
   running = Unknown;
 }
 
--- The state of a bus that isn't well-behaved, for a chip outside the model. Only the history is known, and what follows
--- from it: `sent` and `polled_ready`. No allowance is recorded, nothing is claimed about the chip, and it is of no
--- further type.
+-- The state of a bus that isn't well-behaved, for a chip outside the model. Only the history is known, and `sent` and
+-- `polled_ready`, which follow from it.
 abbrev pub unknown_bus : List Exchange → BusState
 unknown_bus history = record {
   chip = unknown_chip;
@@ -170,7 +152,6 @@ unknown_bus history = record {
   worn = λ s. false;
   steady = false;
   unlimited = false;
-  longer = 0;
   punctual = false;
   polled_ready = polled_ready_in history;
   further = false;

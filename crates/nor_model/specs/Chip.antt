@@ -14,14 +14,11 @@ pub record KeptBits : Type 0 where
 abbrev pub kept_in : (status : List ℕ) → KeptBits
 kept_in status = record { one = slice_index status 0 / 4; two = slice_index status 1 % 128 }
 
--- The state of a chip. The type allows every combination of values, even that of a busy chip whose write enable latch
--- is clear. `IsChip` limits the ranges of the values. (W25Q64FV and W25Q128FV datasheets, status registers.)
+-- The state of a chip, whose values `IsChip` limits. (W25Q64FV and W25Q128FV datasheets, status registers.)
 pub record Chip : Type 0 where
-  -- The properties that never change.
   pub config : Config
   -- The byte at each address below the chip's size.
   pub bytes : ℕ → ℕ
-  -- The non-volatile status bits.
   pub kept : KeptBits
   -- The write enable latch (WEL).
   pub latch : Bool
@@ -30,8 +27,7 @@ pub record Chip : Type 0 where
   -- The operation in progress. This value matters only while the chip is busy.
   pub running : Running
 
--- Holds if `busy`, the non-volatile bits and each byte are in range. An implementation of `Bus` must prove this for the
--- chip of each well-behaved bus (`reaches` in `src/bus.rt`).
+-- Holds if the values are in range, which an implementation of `Bus` proves for the chip of a well-behaved bus.
 pub record IsChip (chip : Chip) : Type 0 where
   pub busy : chip.busy < 65536
   pub kept1 : chip.kept.one < 64
@@ -46,11 +42,9 @@ status1_of chip = 4 * chip.kept.one + (if chip.latch then 2 else 0) + (if chip.b
 abbrev pub status2_of : Chip → ℕ
 status2_of chip = chip.kept.two
 
--- the two bytes that 05h and 35h would read
 abbrev pub status_of : Chip → List ℕ
 status_of chip = status1_of chip ∷ status2_of chip ∷ []
 
--- SRP0 as a number: 1 if it is set, otherwise 0
 abbrev pub srp0_bit : KeptBits → ℕ
 srp0_bit kept = kept.one / 32
 
@@ -58,7 +52,6 @@ srp0_bit kept = kept.one / 32
 abbrev pub sec_to_bp0 : KeptBits → ℕ
 sec_to_bp0 kept = kept.one % 32
 
--- CMP as a number: 1 if it is set, otherwise 0
 abbrev pub cmp_bit : KeptBits → ℕ
 cmp_bit kept = kept.two / 64 % 2
 
@@ -66,11 +59,9 @@ cmp_bit kept = kept.two / 64 % 2
 abbrev pub lb3_to_srp1 : KeptBits → ℕ
 lb3_to_srp1 kept = kept.two % 64
 
--- true if SRP0 is set
 abbrev pub has_srp0 : KeptBits → Bool
 has_srp0 kept = srp0_bit kept % 2 == 1
 
--- true if SRP1 is set
 abbrev pub has_srp1 : KeptBits → Bool
 has_srp1 kept = kept.two % 2 == 1
 
@@ -83,8 +74,7 @@ is_locked kept = has_srp0 kept || has_srp1 kept
 abbrev pub sfdp_byte : Config → (a : ℕ) → ℕ
 sfdp_byte config a = slice_index_or config.sfdp a 255
 
--- Holds if two chips have the same configuration, bytes and non-volatile status bits. The write enable latch, `busy`
--- and `running` may differ.
+-- Holds if two chips have the same configuration, bytes and non-volatile status bits.
 pub record IsSame (old new : Chip) : Type 0 where
   pub config : new.config ≡ old.config
   pub bytes : (a : ℕ) → new.bytes a ≡ old.bytes a

@@ -8,11 +8,9 @@ use Rattle.nor_model.specs.declared.command.Command.TheVariants.{WriteEnable, Wr
 abbrev pub address_of : Config → (x y z : ℕ) → ℕ
 address_of config x y z = (65536 * x + 256 * y + z) % config.size
 
--- the erase of the aligned block of `len` bytes that contains the address `at`
 abbrev pub aligned_erase : (len at : ℕ) → Command
 aligned_erase len at = Erase (at / len * len) len
 
--- the command of a transaction that sends only an opcode and reads `replies` bytes
 abbrev pub bare_command : Config → (opcode replies : ℕ) → Command
 bare_command config opcode replies =
     if opcode == 0x05 then Poll
@@ -23,7 +21,6 @@ bare_command config opcode replies =
     else if opcode == 0xC7 && replies == 0 then Erase 0 config.size
     else Ignored
 
--- the command of a transaction that sends an opcode and the three bytes of the address `at`, and reads `replies` bytes
 abbrev pub addressed_command : Config → (opcode at replies : ℕ) → Command
 addressed_command config opcode at replies =
     if opcode == 0x03 then ReadData at
@@ -32,8 +29,7 @@ addressed_command config opcode at replies =
     else if opcode == 0xD8 && replies == 0 && config.kinds.k64 then aligned_erase 65536 at
     else Ignored
 
--- The command of a transaction that sends `out` and reads `replies` bytes, or `Ignored` if the transaction fits no
--- command.
+-- The command of a transaction that sends `out` and reads `replies` bytes, or `Ignored` for none.
 abbrev pub command_of : Config → (out : List ℕ) → (replies : ℕ) → Command
 command_of config [] replies = Ignored
 command_of config (opcode ∷ []) replies = bare_command config opcode replies
@@ -48,14 +44,12 @@ command_of config (opcode ∷ x ∷ y ∷ z ∷ fifth ∷ []) replies =
 command_of config (opcode ∷ x ∷ y ∷ z ∷ fifth ∷ sixth ∷ rest) replies =
     if opcode == 0x02 && replies == 0 then Program (address_of config x y z) else Ignored
 
--- True for the quiet opcodes. These are the six opcodes with which the model reads, and write disable (04h), which only
--- clears the write enable latch.
+-- True for the quiet opcodes: the six with which the model reads, and write disable (04h).
 abbrev pub is_quiet_opcode : (opcode : ℕ) → Bool
 is_quiet_opcode opcode =
     opcode == 0x03 || opcode == 0x04 || opcode == 0x05 || opcode == 0x35
     || opcode == 0x4B || opcode == 0x5A || opcode == 0x9F
 
--- true for the four erase opcodes that the model knows
 abbrev pub is_erase_opcode : (opcode : ℕ) → Bool
 is_erase_opcode opcode = opcode == 0x20 || opcode == 0x52 || opcode == 0xD8 || opcode == 0xC7
 
@@ -63,7 +57,6 @@ is_erase_opcode opcode = opcode == 0x20 || opcode == 0x52 || opcode == 0xD8 || o
 abbrev pub is_changing_opcode : (opcode : ℕ) → Bool
 is_changing_opcode opcode = opcode == 0x06 || opcode == 0x01 || opcode == 0x02 || is_erase_opcode opcode
 
--- true if `out` begins with a modifying opcode
 abbrev pub begins_change : (out : List ℕ) → Bool
 begins_change [] = false
 begins_change (opcode ∷ rest) = is_changing_opcode opcode
@@ -73,8 +66,7 @@ abbrev pub begins_quiet : (out : List ℕ) → Bool
 begins_quiet [] = true
 begins_quiet (opcode ∷ rest) = is_quiet_opcode opcode
 
--- True if `out` has the form of a modifying command: one of the seven modifying opcodes, followed by the number of
--- bytes that its command takes. After 02h these are an address and at least one byte.
+-- True if `out` is a modifying opcode, followed by the bytes that its command takes: after 02h an address and data.
 abbrev pub is_change : (out : List ℕ) → Bool
 is_change [] = false
 is_change (opcode ∷ []) = opcode == 0x06 || opcode == 0xC7

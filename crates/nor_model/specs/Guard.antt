@@ -23,8 +23,7 @@ names_sectors code = code / 16 % 2 == 1
 abbrev pub is_complement : (code : ℕ) → Bool
 is_complement code = code / 32 % 2 == 1
 
--- True if SEC is set and BP is 110. The datasheets don't define these codes, for any values of CMP and TB. The model
--- then protects all addresses.
+-- True if SEC is set and BP is 110, which the datasheets don't define. The model then protects all addresses.
 abbrev pub is_undefined : (code : ℕ) → Bool
 is_undefined code = names_sectors code && bp_of code == 6
 
@@ -41,14 +40,13 @@ named_length size code =
     else if bp_of code == 3 then 16384
     else 32768
 
--- True if the address `a` is in the selected range. Without TB the range is at the end of the chip, and then includes
--- all addresses past that end.
+-- True if the address `a` is in the selected range. A range at the end of the chip includes all addresses past it.
 abbrev pub is_address_named : (size code a : ℕ) → Bool
 is_address_named size code a =
     if is_bottom code then nat_lt a (named_length size code) else nat_le (size - named_length size code) a
 
--- True if `code` protects the address `a` of a chip of `size` bytes. Without CMP, a code protects the selected range,
--- and with CMP all other addresses of the chip. An undefined code protects all addresses of the chip.
+-- True if `code` protects the address `a`: the selected range, or with CMP all other addresses. An undefined code
+-- protects all addresses of the chip.
 unfoldable pub protected_by : (size code a : ℕ) → Bool
 protected_by size code a =
     nat_lt a size
@@ -59,8 +57,7 @@ protected_by size code a =
 abbrev pub is_protected : Chip → (a : ℕ) → Bool
 is_protected chip a = chip.config.scheme && protected_by chip.config.size (code_of chip.kept) a
 
--- True if the first or the last of the `len` bytes from `start` is protected. For a range that isn't empty and lies on
--- the chip, this means that some address of the range is protected. The reason is that the protected addresses are at
--- one end of the chip.
+-- True if the first or the last of the `len` bytes from `start` is protected. Because the protected addresses are at
+-- one end of the chip, this means for a nonempty range on the chip that some address of it is protected.
 abbrev pub is_block_protected : Chip → (start len : ℕ) → Bool
 is_block_protected chip start len = is_protected chip start || is_protected chip (start + len - 1)

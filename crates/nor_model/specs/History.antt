@@ -1,32 +1,26 @@
--- The history of a bus: the transactions over it, each with its reply. The first item of the list is the last
--- transaction.
+-- The history of a bus: the transactions over it, each with its reply, the last one first.
 use Rattle.std.specs.Prelude.{◌≡◌, ◌+◌, ◌*◌, ◌/◌, ◌%◌, ◌==◌, ◌&&◌, ◌++◌, ℕ, Bool, true, false, List, [], ◌∷◌, Option, Some, None, Result, Ok, Err, if◌then◌else◌}
 use Rattle.nor_model.specs.Exchange.{Exchange}
 use Rattle.nor_model.specs.declared.bus.Stopped.{Stopped}
 use Rattle.nor_model.specs.declared.history.Event.{Event}
 use Rattle.nor_model.specs.declared.history.Event.TheVariants as event
 
--- a transaction that sent `out` and received `reply`
 abbrev pub replied : (out reply : List ℕ) → Exchange
 replied out reply = record { out = out; reply = Some reply }
 
--- a transaction that was to send `out`, and at which the bus stopped
 abbrev pub stopped : (out : List ℕ) → Exchange
 stopped out = record { out = out; reply = None }
 
--- A transaction that sends `out`: with the reply `answer` if the outcome is `Ok`, otherwise as one at which the bus
--- stopped.
+-- A transaction with the reply `answer` or, if the outcome is an error, one at which the bus stopped.
 abbrev pub exchange_of : (out answer : List ℕ) → Result Unit Stopped → Exchange
 exchange_of out answer (Ok done) = replied out answer
 exchange_of out answer (Err stop) = stopped out
 
--- the history `earlier` with an event added: a reply or a stop adds a transaction, and an allowance adds nothing
 abbrev pub exchanges_with : Event → List Exchange → List Exchange
 exchanges_with (event.Replied out reply) earlier = replied out.now reply.now ∷ earlier
 exchanges_with (event.Stopped out) earlier = stopped out.now ∷ earlier
 exchanges_with (event.Allowed n) earlier = earlier
 
--- the allowances `earlier` with an event added, the last one first; only an allowance adds a number
 abbrev pub allowances_with : Event → List ℕ → List ℕ
 allowances_with (event.Allowed n) earlier = n ∷ earlier
 allowances_with _ earlier = earlier
@@ -42,13 +36,11 @@ abbrev pub bytes_or_none : Option (List ℕ) → List ℕ
 bytes_or_none (Some bytes) = bytes
 bytes_or_none None = []
 
--- The reply to the last transaction in the history whose sent bytes satisfy `is`. The result is empty if no transaction
--- satisfies `is`, or if the bus stopped at the last one that does.
+-- The reply to the last transaction that satisfies `is`, or `[]` if there is none or the bus stopped at it.
 abbrev pub last_reply : (is : List ℕ → Bool) → List Exchange → List ℕ
 last_reply is [] = []
 last_reply is (exchange ∷ earlier) = if is exchange.out then bytes_or_none exchange.reply else last_reply is earlier
 
--- true if `out` begins with the byte `opcode`
 abbrev pub begins_with : (opcode : ℕ) → (out : List ℕ) → Bool
 begins_with opcode [] = false
 begins_with opcode (first ∷ rest) = first == opcode
@@ -58,21 +50,17 @@ abbrev pub names : (opcode address : ℕ) → (out : List ℕ) → Bool
 names opcode address (first ∷ x ∷ y ∷ z ∷ rest) = first == opcode && 65536 * x + 256 * y + z == address
 names opcode address _ = false
 
--- Holds if `old` and `new` have the same last reply to a transaction that satisfies `is`, for each test `is` that is
--- false whenever `may` is true. For example, if `may` is the test for 9Fh, the last reply to a poll is the same in both
--- histories.
+-- Holds if `old` and `new` have the same last reply for each test `is` that is false whenever `may` is true. For
+-- example, if `may` is the test for 9Fh, the last reply to a poll is the same.
 pub record KeepsReplies (may : List ℕ → Bool) (old new : List Exchange) : Type 0 where
   pub same : (is : List ℕ → Bool) → ((out : List ℕ) → may out ≡ true → is out ≡ false)
       → last_reply is new ≡ last_reply is old
 
--- Holds if the history `new` is `old` with one later transaction, which sent bytes that satisfy `is` and received
--- `reply`.
+-- Holds if `new` is `old` with one later transaction, which satisfies `is` and received `reply`.
 pub record Answered (is : List ℕ → Bool) (old new : List Exchange) (reply : List ℕ) : Type 0 where
   pub out : List ℕ
   pub asks : is out ≡ true
   pub history : new ≡ replied out reply ∷ old
-
--- ---- how a history ends
 
 -- Holds if the bus stopped at the last transaction.
 pub record EndsStopped (history : List Exchange) : Type 0 where
@@ -87,8 +75,7 @@ pub record EndsBusy (history : List Exchange) : Type 0 where
   pub is : history ≡ replied (0x05 ∷ []) (status ∷ []) ∷ earlier
   pub busy : status % 2 ≡ 1
 
--- Holds if the last transaction was a read of data (03h) from the first address of the sector that contains `address`,
--- and received a reply. The definition doesn't say how many bytes were read.
+-- Holds if the last transaction was a read (03h), of any length, from the start of the sector that contains `address`.
 pub record EndsReading (address : ℕ) (history : List Exchange) : Type 0 where
   pub earlier : List Exchange
   pub bytes : List ℕ

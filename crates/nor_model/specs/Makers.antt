@@ -4,12 +4,10 @@ use Rattle.nor_model.specs.declared.config.Config.{Config}
 use Rattle.nor_model.specs.declared.config.Kinds.{Kinds}
 use Rattle.nor_model.specs.Sfdp.{sfdp_of, sfdp_with}
 
--- all erase types
 abbrev pub all_kinds : Kinds
 all_kinds = record { k32 = true; k64 = true }
 
--- Holds if `config` has the given ID, size, erase types, block protection (`with_scheme`) and SFDP bytes. The SFDP
--- bytes are padded with FFh to 256 bytes, and the unique ID is zero.
+-- Holds if `config` has these properties. The SFDP bytes are padded with FFh to 256 bytes, and the unique ID is zero.
 pub record HasParts (with_id : List ℕ) (with_size : ℕ) (with_kinds : Kinds) (with_scheme : Bool)
     (with_sfdp : List ℕ) (config : Config) : Type 0 where
   pub id : config.id ≡ with_id
@@ -19,20 +17,16 @@ pub record HasParts (with_id : List ℕ) (with_size : ℕ) (with_kinds : Kinds) 
   pub unique : config.unique ≡ replicate 8 0
   pub sfdp : config.sfdp ≡ with_sfdp ++ replicate (256 - length with_sfdp) 255
 
--- Holds for the configuration of an emulated chip with the given ID, size, erase types and block protection. Its SFDP
--- bytes describe this size and all erase types. Its unique ID is zero.
+-- Holds for the configuration of an emulated chip. Its SFDP bytes describe its size and all erase types.
 abbrev pub IsEmulatedWith : (with_id : List ℕ) → (with_size : ℕ) → Kinds → (with_scheme : Bool) → Config → Type 0
 IsEmulatedWith with_id with_size with_kinds with_scheme =
     HasParts with_id with_size with_kinds with_scheme (sfdp_with (8 * with_size - 1))
 
--- holds for the configuration of the emulated chip TINY64
 abbrev pub IsTiny64 : Config → Type 0
 IsTiny64 = HasParts (0xFE ∷ 0x10 ∷ 0x10 ∷ []) 65536 all_kinds false (sfdp_of 0xFF 0xFF 0x07 0x00)
 
--- holds for the configuration of the emulated chip W25Q64FV
 abbrev pub IsW25q64fv : Config → Type 0
 IsW25q64fv = HasParts (0xEF ∷ 0x40 ∷ 0x17 ∷ []) 8388608 all_kinds true (sfdp_of 0xFF 0xFF 0xFF 0x03)
 
--- holds for the configuration of the emulated chip W25Q128FV
 abbrev pub IsW25q128fv : Config → Type 0
 IsW25q128fv = HasParts (0xEF ∷ 0x40 ∷ 0x18 ∷ []) 16777216 all_kinds true (sfdp_of 0xFF 0xFF 0xFF 0x07)

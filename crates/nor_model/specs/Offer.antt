@@ -2,12 +2,10 @@
 use Rattle.std.specs.Prelude.{◌≡◌, ◌<◌, ◌≤◌, ◌+◌, ◌↔◌, ℕ, true, false}
 use Rattle.nor_model.specs.Guard.{protected_by, is_undefined}
 
--- holds if, on a chip of `size` bytes, `code` protects exactly the range of `len` bytes from `start`
 abbrev pub ProtectsExactly : (size code start len : ℕ) → Type 0
 ProtectsExactly size code start len = (a : ℕ) → (protected_by size code a ≡ true) ↔ ((start ≤ a) × (a < start + len))
 
--- Holds if `code` is defined and protects exactly the range of `len` bytes from `start`. The start of an empty range
--- must be 0.
+-- Holds if `code` is defined and protects exactly this range. The start of an empty range must be 0.
 pub record IsRangeOf (size code start len : ℕ) : Type 0 where
   pub defined : is_undefined code ≡ false
   pub exactly : ProtectsExactly size code start len

@@ -1,10 +1,8 @@
--- The iterator over the ranges that can be protected. It goes through the codes (values of the protection bits) in
--- order.
+-- The iterator over the ranges that can be protected, in the order of their codes (values of the protection bits).
 use Rattle.std.specs.Prelude.{◌≡◌, ◌<◌, ◌≤◌, ◌+◌, ℕ, Option, None, Some}
 use Rattle.nor_model.specs.declared.guard.walk.Offered.{Offered}
 use Rattle.nor_model.specs.Offer.{IsLeastCode}
 
--- the size of the chip for which the iterator yields ranges
 abbrev pub size_of : Offered → ℕ
 size_of walk = walk.size
 
@@ -12,9 +10,8 @@ size_of walk = walk.size
 abbrev pub next_code : Offered → ℕ
 next_code walk = walk.next
 
--- Holds if the iterator yields the range of `len` bytes from `start` and goes from the state `old` to `new`. `code` is
--- the least code of this range, and the new position is `code + 1`. No code from the old position to `code - 1` is the
--- least code of a range. An empty range starts at 0.
+-- Holds if the iterator yields this range, whose least code is `code`, and passes this code. An empty range starts at
+-- 0.
 pub record IsNextRange (old : Offered) (start len : ℕ) (new : Offered) : Type 0 where
   pub code : ℕ
   pub not_passed : next_code old ≤ code
@@ -25,20 +22,17 @@ pub record IsNextRange (old : Offered) (start len : ℕ) (new : Offered) : Type 
   pub passed : next_code new ≡ code + 1
   pub size : size_of new ≡ size_of old
 
--- Holds if no range is left: no code from the old position on is the least code of a range. The new position is 64,
--- past all codes.
+-- Holds if no code from the old position on is the least code of a range. The new position is past all codes.
 pub record IsAtEnd (old new : Offered) : Type 0 where
   pub none : (code start len : ℕ) → next_code old ≤ code → ¬ IsLeastCode (size_of old) start len code
   pub ended : next_code new ≡ 64
   pub size : size_of new ≡ size_of old
 
--- The result of one call of `next`. If some code from the iterator's position on is the least code of a range, the
--- result is the range of the first such code. Otherwise the result is `None`.
+-- The result of one call of `next`: the next range, or `None` if none is left.
 abbrev pub ReturnsNextRange : Offered → Option (ℕ × ℕ) → Offered → Type 0
 ReturnsNextRange old (Some (start, len)) new = IsNextRange old start len new
 ReturnsNextRange old None new = IsAtEnd old new
 
--- Holds for an iterator at its start, for a chip of `chip_size` bytes.
 pub record IsStart (chip_size : ℕ) (walk : Offered) : Type 0 where
   pub size : size_of walk ≡ chip_size
   pub first : next_code walk ≡ 0

@@ -2,7 +2,6 @@
 use Rattle.std.specs.Prelude.{◌-◌, ◌%◌, ◌==◌, ◌&&◌, ℕ, Bool, false, List, [], ◌∷◌, Option, Some, None, length, nat_lt, slice_index, if◌then◌else◌}
 use Rattle.nor_model.specs.Exchange.{Exchange}
 
--- true if a transaction that sends the given bytes is a poll
 abbrev pub is_poll : List ℕ → Bool
 is_poll [] = false
 is_poll (opcode ∷ []) = opcode == 0x05
@@ -12,20 +11,16 @@ is_poll (opcode ∷ next ∷ rest) = false
 abbrev pub shows_ready : (answer : List ℕ) → Bool
 shows_ready answer = slice_index answer (length answer - 1) % 2 == 0
 
--- The value of `polled_ready` after a transaction that sent `out` and received `answer`, if the value was `before`. A
--- poll with at least one reply byte sets the value to whether its last byte shows that the chip is ready. Any other
--- transaction keeps the value.
+-- The value of `polled_ready` after a transaction, if it was `before`. Only a poll with a reply byte changes it.
 abbrev pub polled_ready_after : (out answer : List ℕ) → (before : Bool) → Bool
 polled_ready_after out answer before = if is_poll out && nat_lt 0 (length answer) then shows_ready answer else before
 
--- The value of `polled_ready` after a transaction that sent `out`, if the value was `before`. If the bus stopped
--- (`None`), the value stays; otherwise it is as `polled_ready_after` says.
+-- The value of `polled_ready` after a transaction with this reply. A stop (`None`) keeps the value.
 abbrev pub polled_ready_by : (out : List ℕ) → (reply : Option (List ℕ)) → (before : Bool) → Bool
 polled_ready_by out (Some answer) before = polled_ready_after out answer before
 polled_ready_by out None before = before
 
--- True if, in this history, the last poll that received at least one reply byte showed that the chip is ready. False if
--- there is no such poll.
+-- True if, in this history, the last poll that received a reply byte showed that the chip is ready. False without one.
 abbrev pub polled_ready_in : List Exchange → Bool
 polled_ready_in [] = false
 polled_ready_in (exchange ∷ earlier) = polled_ready_by exchange.out exchange.reply (polled_ready_in earlier)

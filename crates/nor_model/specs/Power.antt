@@ -11,13 +11,12 @@ is_in_work (Erase start len) a = nat_le start a && nat_lt a (start + len)
 is_in_work (StatusWrite one two) a = false
 is_in_work Unknown a = true
 
--- true if the operation isn't `Unknown`
 abbrev pub is_known_running : Running → Bool
 is_known_running Unknown = false
 is_known_running _ = true
 
--- Holds if the page or erase block of the operation lies on a chip of `size` bytes. For a status write, the
--- non-volatile bits from before the write must be in range.
+-- Holds if the page or erase block of the operation lies on the chip, and the bits from before a status write are in
+-- range.
 pub record RunsInside (size : ℕ) (running : Running) : Type 0 where
   pub page : (p : ℕ) → running ≡ Program p → 256 * p + 256 ≤ size
   pub unit : (start len : ℕ) → running ≡ Erase start len → start + len ≤ size
@@ -25,17 +24,14 @@ pub record RunsInside (size : ℕ) (running : Running) : Type 0 where
   pub kept2 : (one two : ℕ) → running ≡ StatusWrite one two → two < 128
 
 -- Holds if a power failure during the operation may change the non-volatile status bits from `old` to `new`. During a
--- status write, `old` are already the bits that were written: `new` are these bits, or those from before the write.
--- During a program or an erase, the bits stay. During an unknown operation, they may change in any way.
+-- status write, `old` are already the bits that were written, and `new` may be those from before it.
 abbrev pub KeptCut : Running → (old new : KeptBits) → Type 0
 KeptCut (StatusWrite one two) old new = (new ≡ old) ⊎ (new ≡ record { one = one; two = two })
 KeptCut Unknown old new = ⊤
 KeptCut _ old new = new ≡ old
 
--- The effect of a power failure. The configuration is as it was, the write enable latch is clear, and no operation is
--- in progress. An idle chip keeps its bytes and its non-volatile bits. On a busy chip, each byte on which the operation
--- works may have any value, and all other bytes are as they were. `KeptCut` describes the non-volatile bits of a busy
--- chip.
+-- The effect of a power failure, after which the chip is idle. On a busy chip, each byte on which the operation works
+-- may have any value, and `KeptCut` describes the non-volatile bits.
 pub record PowerLost (old new : Chip) : Type 0 where
   pub config : new.config ≡ old.config
   pub latch : new.latch ≡ false
@@ -48,15 +44,12 @@ pub record PowerLost (old new : Chip) : Type 0 where
 abbrev pub is_interrupted : Chip → ℕ → Bool
 is_interrupted chip a = not (chip.busy == 0) && is_known_running chip.running && is_in_work chip.running a
 
--- the non-volatile status bits from before the operation: those that `running` carries if it is a status write,
--- otherwise those of the chip
+-- the non-volatile status bits from before a status write in progress, otherwise those of the chip
 abbrev pub kept_before : Chip → KeptBits
 kept_before chip = elim chip.running [ StatusWrite one two ↦ record { one = one; two = two } | _ ↦ chip.kept ]
 
--- The effect of a power failure on a simulated chip, which is then idle with a clear write enable latch. If the chip
--- was busy with a known operation, each byte on which the operation worked is `fill`. A status write in progress is
--- undone if `fill` is even, and completed if it is odd. If the chip was idle or its operation is unknown, bytes and
--- non-volatile bits are as they were.
+-- The effect of a power failure on a simulated chip. Each byte on which a known operation in progress works is `fill`.
+-- A status write is undone if `fill` is even, and completed if it is odd. An unknown operation changes nothing.
 pub record PowerLostWith (fill : ℕ) (old new : Chip) : Type 0 where
   pub config : new.config ≡ old.config
   pub latch : new.latch ≡ false

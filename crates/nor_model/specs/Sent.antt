@@ -1,35 +1,28 @@
--- The transactions that may modify a chip: modifying commands, and transactions that the model does not know. Whether a
--- transaction is one of them depends only on the bytes that it sends, not on whether the chip carries it out. (W25Q64FV
--- datasheet, instruction set table.)
+-- The transactions that may modify a chip: modifying commands, and transactions that the model does not know. This
+-- depends only on the bytes sent, not on what the chip carries out. (W25Q64FV datasheet, instruction set table.)
 use Rattle.std.specs.Prelude.{◌≡◌, ◌+◌, ◌*◌, ◌/◌, ◌==◌, ◌&&◌, ◌||◌, not, ℕ, Bool, true, false, List, [], ◌∷◌, nat_le, nat_lt, if◌then◌else◌}
 use Rattle.nor_model.specs.Exchange.{Exchange}
 use Rattle.nor_model.specs.Command.{begins_change, begins_quiet, is_change, is_erase_opcode}
 
 -- A range of consecutive sectors.
 pub record TargetedSectors : Type 0 where
-  -- The first sector.
   pub first : ℕ
-  -- The number of sectors.
   pub count : ℕ
 
 -- all 4,096 sectors that a 24-bit address can lie in
 abbrev pub all_targeted : TargetedSectors
 all_targeted = record { first = 0; count = 4096 }
 
--- an empty range of sectors
 abbrev pub none_targeted : TargetedSectors
 none_targeted = record { first = 0; count = 0 }
 
--- the aligned block of `count` sectors that contains `sector`
 abbrev pub block_targeted : (count sector : ℕ) → TargetedSectors
 block_targeted count sector = record { first = sector / count * count; count = count }
 
--- The sectors that a transaction targets if it sends `opcode` without an address: all of them for C7h (chip erase),
--- none for any other opcode.
+-- The sectors that `opcode` without an address targets: all for C7h (chip erase), otherwise none.
 abbrev pub bare_targeted : (opcode : ℕ) → TargetedSectors
 bare_targeted opcode = if opcode == 0xC7 then all_targeted else none_targeted
 
--- the sectors that a transaction targets if it sends `opcode` with an address that lies in `sector`
 abbrev pub addressed_targeted : (opcode sector : ℕ) → TargetedSectors
 addressed_targeted opcode sector =
     if opcode == 0x02 || opcode == 0x20 then block_targeted 1 sector
@@ -45,25 +38,20 @@ targeted_by (opcode ∷ x ∷ []) = bare_targeted opcode
 targeted_by (opcode ∷ x ∷ y ∷ []) = bare_targeted opcode
 targeted_by (opcode ∷ x ∷ y ∷ z ∷ rest) = addressed_targeted opcode ((65536 * x + 256 * y + z) / 4096)
 
--- true if the sector `s` is in the range `sectors`
 abbrev pub is_in_targeted : TargetedSectors → ℕ → Bool
 is_in_targeted sectors s = nat_le sectors.first s && nat_lt s (sectors.first + sectors.count)
 
--- true if a transaction that sends `out` targets the sector `s` with an erase or a program
 abbrev pub targets : (out : List ℕ) → ℕ → Bool
 targets out s = is_in_targeted (targeted_by out) s
 
--- true if `out` begins with the opcode of an erase
 abbrev pub begins_erase : (out : List ℕ) → Bool
 begins_erase [] = false
 begins_erase (opcode ∷ rest) = is_erase_opcode opcode
 
--- true if `out` begins with the opcode of a page program
 abbrev pub begins_program : (out : List ℕ) → Bool
 begins_program [] = false
 begins_program (opcode ∷ rest) = opcode == 0x02
 
--- true if `out` begins with the opcode of a status write
 abbrev pub begins_status_write : (out : List ℕ) → Bool
 begins_status_write [] = false
 begins_status_write (opcode ∷ rest) = opcode == 0x01
@@ -79,14 +67,10 @@ writes_status _ one two = false
 abbrev pub is_unknown_to_model : (out : List ℕ) → Bool
 is_unknown_to_model out = not (begins_quiet out || is_change out)
 
--- ---- the list of transactions that may modify a chip
-
--- The bytes of each transaction that the bus was asked to send, the last one first. Transactions that send nothing or
--- begin with a quiet opcode (a read, or write disable) are left out.
+-- The bytes of each transaction that the bus was asked to send and that may modify a chip, the last one first.
 abbrev pub Sent : Type 0
 Sent = List (List ℕ)
 
--- the list `before` with one more transaction, which sends `out`
 abbrev pub with_sent : (out : List ℕ) → Sent → Sent
 with_sent out before = if begins_quiet out then before else out ∷ before
 
@@ -95,16 +79,13 @@ abbrev pub sent_in : List Exchange → Sent
 sent_in [] = []
 sent_in (exchange ∷ earlier) = with_sent exchange.out (sent_in earlier)
 
--- true if some transaction of the list satisfies `is`
 abbrev pub has_sent : (is : List ℕ → Bool) → Sent → Bool
 has_sent is [] = false
 has_sent is (out ∷ before) = has_sent is before || is out
 
--- `before`, plus one if `is` is true
 abbrev pub counted_once : (is : Bool) → (before : ℕ) → ℕ
 counted_once is before = if is then before + 1 else before
 
--- the number of transactions of the list that satisfy `is`
 abbrev pub times_sent : (is : List ℕ → Bool) → Sent → ℕ
 times_sent is [] = 0
 times_sent is (out ∷ before) = counted_once (is out) (times_sent is before)
@@ -125,21 +106,16 @@ is_targeted sent s = has_sent (λ (out : List ℕ). targets out s) sent
 abbrev pub has_written : Sent → (one two : ℕ) → Bool
 has_written sent one two = has_sent (λ (out : List ℕ). writes_status out one two) sent
 
--- the number of transactions of the list that begin with the opcode of an erase
 abbrev pub erases_of : Sent → ℕ
 erases_of sent = times_sent begins_erase sent
 
--- the number of transactions of the list that begin with the opcode of a page program
 abbrev pub programs_of : Sent → ℕ
 programs_of sent = times_sent begins_program sent
 
--- the number of transactions of the list that begin with the opcode of a status write
 abbrev pub status_writes_of : Sent → ℕ
 status_writes_of sent = times_sent begins_status_write sent
 
--- The effect of one transaction, which sends `out`, on each property of the list `Sent`. The list is `old` before the
--- transaction and `new` after it. A transaction that sends nothing or begins with a quiet opcode leaves the list as it
--- was.
+-- The effect of one transaction, which sends `out`, on each property of the list `Sent`.
 pub record RecordsSent (out : List ℕ) (old new : Sent) : Type 0 where
   pub quiet : begins_quiet out ≡ true → new ≡ old
   pub stirred : is_stirred new ≡ (is_stirred old || begins_change out)

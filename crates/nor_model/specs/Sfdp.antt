@@ -1,10 +1,8 @@
--- The SFDP bytes of the emulated chips. (JESD216 defines their layout. The bytes were made for this project, not read
--- from Winbond's chips.)
+-- The SFDP bytes of the emulated chips (JESD216). They were made for this project, not read from Winbond's chips.
 use Rattle.std.specs.Prelude.{ℕ, ◌/◌, ◌%◌, List, [], ◌∷◌}
 
--- The header, one parameter header, and double words 1 to 9 of the basic flash parameter table. The arguments are the
--- bytes of double word 2, low byte first: the chip's size in bits, minus one. The SFDP bytes of the emulated chips
--- differ only in double word 2.
+-- The SFDP bytes of an emulated chip. The arguments are the bytes of double word 2, low byte first: the chip's size in
+-- bits, minus one.
 abbrev pub sfdp_of : (size0 size1 size2 size3 : ℕ) → List ℕ
 sfdp_of size0 size1 size2 size3 =
     -- The header: the signature, revision 1.0, and one parameter header.

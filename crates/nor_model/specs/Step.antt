@@ -1,7 +1,6 @@
--- One step of the chip: its reply to a transaction that is carried out, and the effect on the chip. In this model an
--- operation has its whole effect at once, and the chip is then busy for any number of polls below 65,536. While the
--- chip is busy, it carries out only status reads, so no read of data shows when the effect took place. (W25Q64FV
--- datasheet, instruction descriptions.)
+-- One step of the chip: its reply to a transaction, and the effect. An operation has its whole effect at once, and the
+-- chip is then busy for any number of polls below 65,536. A busy chip carries out only status reads, so no read of data
+-- shows when the effect took place. (W25Q64FV datasheet, instruction descriptions.)
 use Rattle.std.specs.Prelude.{◌≡◌, ◌<◌, ◌+◌, ◌-◌, ◌*◌, ◌/◌, ◌%◌, ◌==◌, ◌&&◌, ℕ, Bool, true, false, not, Option, None, Some, List, [], ◌∷◌, length, drop, slice_index, slice_index_or, bit_and, bit_or, nat_lt, nat_le, if◌then◌else◌}
 use Rattle.nor_model.specs.declared.command.Command.{Command}
 use Rattle.nor_model.specs.declared.command.Command.TheVariants.{WriteEnable, WriteDisable, Poll, ReadStatus2, WriteStatus, Program, Erase, ReadData, ReadId, ReadSfdp, ReadUnique, Ignored}
@@ -11,14 +10,12 @@ use Rattle.nor_model.specs.Chip.{Chip, KeptBits, status1_of, status2_of, is_lock
 use Rattle.nor_model.specs.Guard.{is_protected, is_block_protected}
 use Rattle.nor_model.specs.Command.{command_of}
 
--- true if no operation is in progress
 abbrev pub is_idle : Chip → Bool
 is_idle chip = chip.busy == 0
 
--- True if the chip carries the command out. A busy chip carries out only the two status reads. An operation also needs
--- the write enable latch to be set, and a status write needs SRP0 and SRP1 to be clear. A program or an erase is
--- ignored if some address that it covers is protected. For a program only the address `at` is tested. This is enough,
--- because protected ranges begin and end at whole KiB, and a program stays within one page of 256 bytes.
+-- True if the chip carries the command out. A busy chip carries out only the two status reads. For a program only the
+-- address `at` is tested, which is enough because protected ranges begin and end at whole KiB, and a program stays
+-- within one page of 256 bytes.
 abbrev pub is_carried_out : Chip → Command → Bool
 is_carried_out chip Poll = true
 is_carried_out chip ReadStatus2 = true
@@ -28,8 +25,7 @@ is_carried_out chip (Erase start len) = is_idle chip && chip.latch && not (is_bl
 is_carried_out chip Ignored = false
 is_carried_out chip _ = is_idle chip
 
--- The command that the chip carries out for a transaction that sends `out` and reads `replies` bytes, or `Ignored` if
--- the chip carries out none.
+-- The command that the chip carries out for a transaction, or `Ignored` if it carries out none.
 abbrev pub done_of : Chip → (out : List ℕ) → (replies : ℕ) → Command
 done_of chip out replies =
     let command = command_of chip.config out replies in if is_carried_out chip command then command else Ignored
@@ -45,9 +41,8 @@ reply_byte chip (ReadSfdp at) i = sfdp_byte chip.config (at + i)
 reply_byte chip ReadUnique i = slice_index_or chip.config.unique i 255
 reply_byte chip _ i = 255
 
--- The last byte of `sent` that is meant for the address `a`, if a program of `sent` begins at the address `at` of the
--- same page. The result is `None` if no byte is meant for `a`. The first byte is meant for `at`, and each further byte
--- for the next address; after the last address of the page comes its first one.
+-- The last byte of `sent` for the address `a`, if a program begins at the address `at` of the same page. After the last
+-- address of the page comes its first one.
 unfoldable pub last_for : (at : ℕ) → (sent : List ℕ) → (a : ℕ) → Option ℕ
 last_for at [] a = None
 last_for at (byte ∷ sent) a = elim (last_for (at + 1) sent a) [
@@ -55,8 +50,7 @@ last_for at (byte ∷ sent) a = elim (last_for (at + 1) sent a) [
   | None ↦ (if at % 256 == a % 256 then Some byte else None)
 ]
 
--- The byte `old` after a program: ANDed with the byte that was sent for its address, or unchanged if no byte was sent
--- for this address.
+-- The byte `old` after a program: ANDed with the byte that was sent for its address, if any.
 abbrev pub lowered : (old : ℕ) → Option ℕ → ℕ
 lowered old None = old
 lowered old (Some byte) = bit_and old byte
@@ -68,7 +62,6 @@ byte_after chip (Program at) sent a =
 byte_after chip (Erase start len) sent a = if nat_le start a && nat_lt a (start + len) then 255 else chip.bytes a
 byte_after chip _ sent a = chip.bytes a
 
--- the mask of CMP, QE and SRP1 in status 2
 abbrev pub cmp_qe_srp1 : ℕ
 cmp_qe_srp1 = 0b1000011
 
@@ -76,7 +69,6 @@ cmp_qe_srp1 = 0b1000011
 abbrev pub lb3_to_lb1 : ℕ
 lb3_to_lb1 = 0b0111000
 
--- the mask of LB3, LB2, LB1 and the reserved bit in status 2
 abbrev pub lb3_to_reserved : ℕ
 lb3_to_reserved = 0b0111100
 
@@ -96,8 +88,8 @@ is_operation (Program at) = true
 is_operation (Erase start len) = true
 is_operation _ = false
 
--- Holds if `busy` polls may still show BUSY after the command. After an operation this is any number below 65,536, and
--- after a poll one less than before (0 stays 0). After any other command it is the number from before.
+-- Holds if `busy` polls may still show BUSY after the command: after an operation any number below 65,536, after a poll
+-- one less than before.
 abbrev pub BusyAfter : Chip → Command → (busy : ℕ) → Type 0
 BusyAfter chip (WriteStatus one two) busy = busy < 65536
 BusyAfter chip (Program at) busy = busy < 65536
@@ -105,9 +97,8 @@ BusyAfter chip (Erase start len) busy = busy < 65536
 BusyAfter chip Poll busy = busy ≡ chip.busy - 1
 BusyAfter chip _ busy = busy ≡ chip.busy
 
--- The write enable latch after the command, if the chip then shows BUSY for `busy` polls. 06h sets the latch, and 04h
--- clears it. An operation clears the latch when it ends: at once if `busy` is 0, otherwise at the poll that shows the
--- last BUSY.
+-- The write enable latch after the command. An operation clears it when it ends: at once if `busy` is 0, otherwise at
+-- the poll that shows the last BUSY.
 abbrev pub latch_after : Chip → Command → (busy : ℕ) → Bool
 latch_after chip WriteEnable busy = true
 latch_after chip WriteDisable busy = false
@@ -117,8 +108,7 @@ latch_after chip (Erase start len) busy = not (busy == 0)
 latch_after chip Poll busy = if chip.busy == 1 then false else chip.latch
 latch_after chip _ busy = chip.latch
 
--- The operation in progress after the command: the command itself if it is an operation, otherwise the operation from
--- before.
+-- The operation in progress after the command: the command itself if it is one, otherwise the one from before.
 abbrev pub running_after : Chip → Command → Running
 running_after chip (WriteStatus one two) = Runs.StatusWrite chip.kept.one chip.kept.two
 running_after chip (Program at) = Runs.Program (at / 256)
@@ -135,8 +125,7 @@ pub record Does (command : Command) (sent : List ℕ) (old : Chip) (answer : Lis
   pub latch : new.latch ≡ latch_after old command new.busy
   pub running : new.running ≡ running_after old command
 
--- Holds if a transaction that sent `out` and received `answer` took the chip from `old` to `new`. The data of a program
--- follow the opcode and the three address bytes, so they begin at byte 4.
+-- Holds if a transaction took the chip from `old` to `new`. The data of a program begin at byte 4, after the address.
 abbrev pub Step : (old : Chip) → (out answer : List ℕ) → (new : Chip) → Type 0
 Step old out answer new = Does (done_of old out (length answer)) (drop 4 out) old answer new
 

@@ -2,7 +2,6 @@
 -- whether an address is protected.
 use Rattle.std.specs.Prelude.{◌≡◌, ◌<◌, ◌≤◌, ◌+◌, ◌%◌, ◌⊎◌, ℕ, Bool, true, nat_lt, nat_le}
 
--- Holds if `test` is true for some address from `start` to `start + len - 1`.
 pub record HoldsSomewhere (test : ℕ → Bool) (start len : ℕ) : Type 0 where
   pub place : ℕ
   pub from : start ≤ place
@@ -17,9 +16,8 @@ OnFirst size test border = (a : ℕ) → a < size → test a ≡ nat_lt a border
 abbrev pub OnLast : ℕ → (ℕ → Bool) → ℕ → Type 0
 OnLast size test border = (a : ℕ) → a < size → test a ≡ nat_le border a
 
--- Holds if, on a chip of `size` bytes, `test` is true on one side of a border and false on the other side. The
--- addresses for which it is true are either those below the border or those from the border on. The border is a
--- multiple of 1 KiB. If the size is a multiple of 256 KiB, the border is a multiple of 4 KiB (a sector).
+-- Holds if, on a chip of `size` bytes, `test` is true on exactly one side of a border. The border is a multiple of 1
+-- KiB, and of 4 KiB (a sector) if the size is a multiple of 256 KiB.
 pub record LieAtAnEnd (size : ℕ) (test : ℕ → Bool) : Type 0 where
   pub border : ℕ
   pub within : border ≤ size

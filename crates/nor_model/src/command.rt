@@ -35,9 +35,8 @@ pub enum Command {
 }
 
 impl Command {
-    /// Returns the command for which a transaction asks a chip with the configuration `config`. The transaction sends
-    /// `out` and receives `replies` bytes. Addresses are taken modulo the chip's size. A transaction that fits no
-    /// command, for example a program that receives bytes, is `Ignored`.
+    /// Returns the command for which a transaction that sends `out` and receives `replies` bytes asks a chip. Addresses
+    /// are taken modulo the chip's size. A transaction that fits no command is `Ignored`.
     pub fn of(config: &Config, out: &[u8], replies: usize) -> Command
         ensures { result ≡ command_of config.now out.now replies }
     {
@@ -91,7 +90,6 @@ impl Command {
     }
 }
 
-// Returns the address that three bytes form, high byte first, modulo the chip's size.
 fn address(config: &Config, x: u8, y: u8, z: u8) -> u32
     ensures { result ≡ address_of config.now x y z }
 {

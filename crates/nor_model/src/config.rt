@@ -5,9 +5,8 @@ ghost use Rattle.nor_model.specs.Sfdp.{sfdp_with};
 
 use nor_geometry::is_chip_size;
 
-/// The SFDP bytes of the emulated chip `TINY64`, from address 0 on: the header, one parameter header, and double words
-/// 1 to 9 of the basic flash parameter table (JESD216). The other emulated chips have the same bytes, except for the
-/// size in double word 2. These bytes were made for this project; a real Winbond chip has others.
+/// The SFDP bytes of the emulated chip `TINY64`, from address 0 on (JESD216). The other emulated chips differ only in
+/// the size in double word 2. The bytes were made for this project; a real Winbond chip has others.
 pub const TINY64_SFDP: [u8; 52] = [
     0x53, 0x46, 0x44, 0x50, 0x00, 0x01, 0x00, 0xFF, // signature, revision 1.0, one header
     0x00, 0x00, 0x01, 0x09, 0x10, 0x00, 0x00, 0xFF, // basic table, nine double words, at 10h
@@ -34,9 +33,8 @@ pub const ALL_KINDS: Kinds = Kinds {
     k64: true,
 };
 
-/// The properties of a chip that never change: the ID (9Fh), the size in bytes, the erase types, whether the chip has
-/// block protection (`scheme`), the unique ID (4Bh), and the first 256 SFDP bytes. 5Ah reads all later SFDP bytes as
-/// FFh.
+/// The properties of a chip that never change. `scheme` says whether it has block protection. 5Ah reads all SFDP bytes
+/// past the first 256 as FFh.
 #[derive(Clone, Copy)]
 pub struct Config {
     pub id: [u8; 3],
@@ -51,9 +49,7 @@ pub struct Config {
 impl Config {
     ghost use Rattle.nor_model.specs.Makers.{HasParts, IsEmulatedWith, IsTiny64, IsW25q64fv, IsW25q128fv};
 
-    /// Returns a configuration with these properties and a unique ID of zeros. `sfdp` has the SFDP bytes from address 0
-    /// on, and is padded with FFh to 256 bytes. The function allocates no memory.
-    ///
+    /// Returns a configuration with these properties and a unique ID of zeros. `sfdp` is padded with FFh to 256 bytes.
     /// Returns `None` if the size is not a power of two from 65,536 to 16,777,216, or if there are more than 256 SFDP
     /// bytes.
     pub fn new(
@@ -104,9 +100,8 @@ impl Config {
         Self::emulated([0xEF, 0x40, 0x18], 16_777_216, ALL_KINDS, true)
     }
 
-    /// Returns an emulated chip with the given properties. Its unique ID is zero. Its SFDP bytes describe the given
-    /// size and all erase types, even those that `kinds` lacks. `size` must be a power of two from 65,536 to
-    /// 16,777,216.
+    /// Returns an emulated chip with these properties and a unique ID of zeros. `size` must be a power of two from
+    /// 65,536 to 16,777,216. The SFDP bytes describe all erase types, even those that `kinds` lacks.
     pub fn emulated(id: [u8; 3], size: u32, kinds: Kinds, scheme: bool) -> Config
         requires { IsTrue (is_chip_size size) }
         ensures { IsEmulatedWith id size kinds scheme result }
@@ -131,7 +126,6 @@ impl Config {
     }
 }
 
-// Returns the SFDP bytes of an emulated chip with `size` bytes.
 fn sfdp_of(size: u32) -> [u8; 52]
     requires { IsTrue (is_chip_size size) }
     ensures { result ≡ sfdp_with (8 * size - 1) }
@@ -141,7 +135,6 @@ fn sfdp_of(size: u32) -> [u8; 52]
     bytes
 }
 
-// Returns `sfdp`, which must have at most 256 bytes, padded with FFh to 256 bytes.
 fn padded(sfdp: &[u8]) -> [u8; 256]
     requires { length sfdp.now ≤ 256 }
     ensures { result ≡ sfdp.now ++ replicate (256 - length sfdp.now) 255 }

@@ -17,42 +17,36 @@ pub(crate) mod walk;
 // The number of codes. A code consists of the bits CMP, SEC, TB, BP2, BP1 and BP0, the highest first.
 const CODES: u8 = 64;
 
-// A range of addresses, given by its first address and its length in bytes.
 #[derive(Clone, Copy)]
 struct AddressRange {
     start: u32,
     len: u32,
 }
 
-// Returns whether TB is set. If TB is set, the selected range is at the start of the chip, otherwise at the end.
 fn is_bottom(code: u8) -> bool
     ensures { result ≡ is_bottom code }
 {
     code / 8 % 2 == 1
 }
 
-// Returns whether SEC is set. If SEC is set, BP 001 to 101 select 4 to 32 KiB, otherwise a fraction of the chip.
 fn is_sector(code: u8) -> bool
     ensures { result ≡ names_sectors code }
 {
     code / 16 % 2 == 1
 }
 
-// Returns whether CMP is set. If CMP is set, a defined code protects the addresses outside the selected range.
 fn is_complement(code: u8) -> bool
     ensures { result ≡ is_complement code }
 {
     code / 32 % 2 == 1
 }
 
-// Returns whether the datasheets leave this code undefined.
 pub(crate) fn is_undefined(code: u8) -> bool
     ensures { result ≡ is_undefined code }
 {
     is_sector(code) && code % 8 == 6
 }
 
-// Returns the length in bytes of the range that `code` selects at one end of a chip of `size` bytes.
 fn named_length(size: u32, code: u8) -> u32
     ensures { result ≡ named_length size code }
 {
@@ -69,8 +63,6 @@ fn named_length(size: u32, code: u8) -> u32
     }
 }
 
-// Returns whether the address `at` is in the range that `code` selects. A range at the end of the chip includes all
-// addresses past the end.
 fn is_named(size: u32, code: u8, at: u32) -> bool
     ensures { result ≡ is_address_named size code at }
 {
@@ -92,12 +84,9 @@ pub fn is_protected(size: u32, code: u8, at: u32) -> bool
     at < size && (is_undefined(code) || is_named(size, code, at) != is_complement(code))
 }
 
-/// Returns whether the protection bits in the two status bytes protect the address `at`, on a chip of `size` bytes that
-/// has block protection. `size` must be a power of two from 65,536 to 16,777,216. An address past the end is not
-/// protected.
-///
-/// The protected addresses are at one end of the chip. If one address of a page is protected, all addresses of the page
-/// are, so the chip ignores every program of that page.
+/// Returns whether the protection bits in the two status bytes protect the address `at`, on a chip of `size` bytes (a
+/// power of two from 65,536 to 16,777,216) that has block protection. An address past the end is not protected. The
+/// result is the same for all addresses of a page, so the chip ignores every program of a protected page.
 pub fn protected(status: [u8; 2], size: u32, at: u32) -> bool
     requires { IsTrue (is_chip_size size) }
     ensures value { result ≡ protected_by size (code_of (kept_in status)) at }
@@ -108,13 +97,10 @@ pub fn protected(status: [u8; 2], size: u32, at: u32) -> bool
     is_protected(size, Status::of(status).code(), at)
 }
 
-/// Returns whether the protection bits in the two status bytes protect some address from `start` to `start + len - 1`.
-/// The chip has `size` bytes and has block protection. A chip ignores the erase of a block if this function returns
-/// true for the block. The range must not be empty and must lie on the chip, and `size` must be a power of two from
-/// 65,536 to 16,777,216.
-///
-/// The function tests only the first and the last address. This is enough, because the protected addresses are at one
-/// end of the chip.
+/// Returns whether the protection bits in the two status bytes protect some address from `start` to `start + len - 1`,
+/// on a chip of `size` bytes (a power of two from 65,536 to 16,777,216) that has block protection. The range must not
+/// be empty and must lie on the chip. Only its first and last address are tested, because the protected addresses are
+/// at one end of the chip.
 pub fn unit_protected(status: [u8; 2], size: u32, start: u32, len: u32) -> bool
     requires sized { IsTrue (is_chip_size size) }
     requires some { 0 < len }
@@ -126,7 +112,6 @@ pub fn unit_protected(status: [u8; 2], size: u32, start: u32, len: u32) -> bool
     protected(status, size, start) || protected(status, size, start + len - 1)
 }
 
-// Returns the number of addresses that a defined code protects on a chip of `size` bytes.
 fn protected_length(size: u32, code: u8) -> u32
     ensures { result ≡ (if is_complement code then size - named_length size code else named_length size code) }
 {
@@ -138,8 +123,6 @@ fn protected_length(size: u32, code: u8) -> u32
     }
 }
 
-// Returns the first address of a range of `len` bytes, which is at the start of the chip if `is_first` is true, and
-// otherwise at its end. An empty range starts at 0.
 fn start_of(size: u32, len: u32, is_first: bool) -> u32
     requires { len ≤ size }
     ensures { result ≡ (if is_first || len == 0 then 0 else size - len) }
@@ -147,7 +130,6 @@ fn start_of(size: u32, len: u32, is_first: bool) -> u32
     if is_first || len == 0 { 0 } else { size - len }
 }
 
-// Returns the range that a defined code protects. An empty range starts at 0.
 fn addresses_of(size: u32, code: u8) -> AddressRange
     requires sized { IsTrue (is_chip_size size) }
     requires defined { is_undefined code ≡ false }
@@ -159,10 +141,9 @@ fn addresses_of(size: u32, code: u8) -> AddressRange
     AddressRange { start, len }
 }
 
-/// Returns the range that the protection bits in `status` protect, on a chip of `size` bytes that has block protection.
-/// The result is the first address and the length of the range, or two zeros if nothing is protected. Returns `None` if
-/// the datasheets don't define the protection bits; the model then protects every address. `size` must be a power of
-/// two from 65,536 to 16,777,216.
+/// Returns the first address and the length of the range that the protection bits in `status` protect, or two zeros for
+/// none. The chip has block protection and `size` bytes, a power of two from 65,536 to 16,777,216. Returns `None` if
+/// the datasheets don't define the bits; the model then protects every address.
 pub fn protected_range(status: Status, size: u32) -> Option<(u32, u32)>
     requires { IsTrue (is_chip_size size) }
     ensures { MatchOption result (is_undefined (code_of (kept_in (bytes_of status))) ≡ true)
@@ -176,7 +157,6 @@ pub fn protected_range(status: Status, size: u32) -> Option<(u32, u32)>
     Some((range.start, range.len))
 }
 
-// Returns whether a defined code protects exactly the range of `len` bytes from `start`.
 fn protects_exactly(size: u32, code: u8, start: u32, len: u32) -> bool
     requires sized { IsTrue (is_chip_size size) }
     requires defined { is_undefined code ≡ false }
@@ -186,10 +166,8 @@ fn protects_exactly(size: u32, code: u8, start: u32, len: u32) -> bool
     range.len == len && (len == 0 || range.start == start)
 }
 
-/// Returns the least defined code that protects exactly the range of `len` bytes from `start`, on a chip of `size`
-/// bytes. The bits of a code are CMP, SEC, TB, BP2, BP1 and BP0, the highest first. Returns `None` if no defined code
-/// protects exactly this range. `size` must be a power of two from 65,536 to 16,777,216. The function allocates no
-/// memory.
+/// Returns the least defined code (CMP, SEC, TB, BP2, BP1 and BP0, the highest bit first) that protects exactly the
+/// range of `len` bytes from `start`, or `None`. `size` must be a power of two from 65,536 to 16,777,216.
 pub fn code_for(start: u32, len: u32, size: u32) -> Option<u8>
     requires { IsTrue (is_chip_size size) }
     ensures least { IfSome result (IsLeastCode size start len) }
@@ -203,8 +181,7 @@ pub fn code_for(start: u32, len: u32, size: u32) -> Option<u8>
     None
 }
 
-// Returns the range that `code`, which must be below 64, protects. Returns `None` if the code is undefined or if a
-// lesser defined code protects the same range. An empty range starts at 0.
+// Returns the range that `code` protects if `code` is the least code of this range.
 fn least_at(size: u32, code: u8) -> Option<AddressRange>
     requires sized { IsTrue (is_chip_size size) }
     requires six_bits { code < 64 }
@@ -223,9 +200,8 @@ fn least_at(size: u32, code: u8) -> Option<AddressRange>
     }
 }
 
-/// Returns an iterator over the ranges that defined codes protect on a chip of `size` bytes. The iterator yields each
-/// range once, in the order of the ranges' least codes. An item is the first address and the length of a range; the
-/// empty range starts at 0. `size` must be a power of two from 65,536 to 16,777,216. The iterator allocates no memory.
+/// Returns an iterator over the ranges that defined codes protect on a chip of `size` bytes, a power of two from 65,536
+/// to 16,777,216. It yields each range once, in the order of the least codes. The empty range starts at 0.
 pub fn offered(size: u32) -> Offered
     requires { IsTrue (is_chip_size size) }
     ensures { IsStart size result }

@@ -6,11 +6,9 @@ ghost use Rattle.nor_model.specs.Exchange.{Exchange, exchanges_code, numbers_cod
 
 use std::marker::Model;
 
-/// The history of a bus: the transactions over it with their replies, and the allowances that were set. In both lists
-/// the last entry comes first.
-///
-/// A bus has one `History`, to which it adds each transaction that it is asked to carry out and each allowance. A
-/// wrapper that takes its state from an inner bus needs no `History` of its own. Only contracts can read the history.
+/// The history of a bus: the transactions over it with their replies, and the allowances that were set, the last one
+/// first. A bus adds each of these to its `History`. A wrapper that takes its state from an inner bus needs none. Only
+/// contracts can read it.
 #[derive(Drop)]
 pub struct History {
     pub ghost exchanges: { List Exchange } by { exchanges_code },
@@ -21,8 +19,7 @@ impl Model for History {
     ghost also_owns = { λ _. ftrue };
 }
 
-// An event that a bus adds to its history: a transaction with its reply, a transaction at which the bus stopped, or an
-// allowance.
+// An event that a bus adds to its history.
 #[derive(Clone, Copy)]
 enum Event<'a> {
     Replied(&'a [u8], &'a [u8]),
@@ -64,7 +61,7 @@ impl History {
         self.with(&Event::Allowed(n))
     }
 
-    // Returns this history with one more event. Nothing happens at run time, because the lists exist only in the proof.
+    // Nothing happens at run time, because the lists exist only in the proof.
     #[inline(always)]
     fn with(&self, _event: &Event<'_>) -> History
         ensures { (result.exchanges ≡ exchanges_with _event.now self.now.exchanges)

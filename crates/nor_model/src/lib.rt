@@ -10,11 +10,6 @@
 //! assert!(rt; !protected([0x04, 0x00], chip.size, 0x7DFFFF));
 //! ```
 //!
-//! The files in `specs/` define what the chip does at each transaction (`Chip`, `Guard`, `Command`, `Step`), and what a
-//! power failure does to it (`Power`). They also define the history of a bus (`Exchange`, `History`), what contracts
-//! compute from a history (`Sent`, `PolledReady`), and the contract of a bus (`Bus`). The contracts of the other crates
-//! describe chips and buses by these definitions.
-//!
 //! - `bus.rt`: the traits `Bus` and `Meter`, and the error `Stopped`
 //! - `config.rt`: the properties of a chip that never change, and the three emulated chips
 //! - `status.rt`: the status registers and the names of their bits

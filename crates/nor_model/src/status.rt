@@ -97,17 +97,14 @@ impl Status1 {
     /// The non-volatile bits: all except BUSY and WEL.
     pub const KEPT: Status1 = Status1(!(Self::BUSY.0 | Self::WEL.0));
 
-    // The low five protection bits, BP0 to SEC. They are two positions higher in this register than in the number that
-    // `Status::code` returns.
+    // The low five protection bits, BP0 to SEC, which are two positions higher than in `Status::code`.
     const CODE: Status1 = Status1(
         Self::BP0.0 | Self::BP1.0 | Self::BP2.0 | Self::TB.0 | Self::SEC.0,
     );
 
-    // The non-volatile bits that are not protection bits.
     const FIXED: Status1 = Status1(Self::KEPT.0 & !Self::CODE.0);
 
-    /// Returns these bits with WEL set if `latch` is true, and with BUSY set if `busy` is true. WEL and BUSY must be
-    /// clear before.
+    /// Returns these bits with WEL set if `latch`, and with BUSY set if `busy`. Both must be clear before.
     #[tactic(auto, using(crate::proofs::StatusBits::or_latch, crate::proofs::StatusBits::or_busy))]
     pub fn with(self, latch: bool, busy: bool) -> Status1
         requires { self.0 % 4 ≡ 0 }
@@ -128,11 +125,9 @@ impl Status2 {
     /// The non-volatile bits: all except SUS.
     pub const KEPT: Status2 = Status2(!Self::SUS.0);
 
-    // The highest protection bit, CMP. It is one position higher in this register than in the number that
-    // `Status::code` returns.
+    // The highest protection bit, CMP, which is one position higher than in `Status::code`.
     const CODE: Status2 = Self::CMP;
 
-    // The non-volatile bits that are not protection bits.
     const FIXED: Status2 = Status2(Self::KEPT.0 & !Self::CODE.0);
 
     // The bits that a status write sets to the value sent: SRP1, QE and CMP.
@@ -144,7 +139,6 @@ impl Status2 {
     // The bits that a status write doesn't clear: LB1 to LB3 and the reserved bit.
     const HELD: Status2 = Status2(Self::LB.0 | 0x04);
 
-    // Returns the non-volatile bits of status 2 after a status write of `sent`.
     fn written(self, sent: Status2) -> Status2
         ensures { result.0
             ≡ bit_or (bit_and sent.0 0b1000011) (bit_or (bit_and self.0 0b0111100) (bit_and sent.0 0b0111000)) }

@@ -47,7 +47,8 @@ HeadsPlanned whole kinds set from head =
 abbrev pub planned : Kinds → ℕ → (ℕ → Bool) → List Erase
 planned kinds total set = planned_from (holds_run set 0 total) kinds set 0
 
--- The number of erases planned for `set`. `fewest_is_least` proves that no list of erases for the set is shorter.
+-- The number of erases planned for `set`. `fewest_is_least` proves that no list of erases for the set is shorter, if
+-- the set lies on a chip of at most 4,096 sectors.
 abbrev pub fewest_erases : Kinds → ℕ → (ℕ → Bool) → ℕ
 fewest_erases kinds total set = length (planned kinds total set)
 

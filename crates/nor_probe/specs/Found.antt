@@ -41,7 +41,7 @@ reads_by None = 4
 abbrev pub reads_of : List ℕ → ℕ
 reads_of of_id = if is_no_chip of_id then 1 else reads_by (part_with_id of_id)
 
--- `reads_of` on a bus with or without further types
+-- the number of reads of a probe that reads the ID `of_id`, on a bus with or without further types
 abbrev pub reads_for : (further : Bool) → List ℕ → ℕ
 reads_for further of_id = if is_no_chip of_id then 1 else reads_by (part_for further of_id)
 

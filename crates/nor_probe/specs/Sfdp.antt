@@ -48,7 +48,7 @@ has_erase_type exponent opcode table =
     is_erase_type_at exponent opcode table 28 || is_erase_type_at exponent opcode table 30
     || is_erase_type_at exponent opcode table 32 || is_erase_type_at exponent opcode table 34
 
--- the faults of the headers or the table, each with its condition, in the order in which they are checked
+-- the faults of the headers, each with its condition, in the order in which they are checked
 abbrev pub header_faults : (header first : List ℕ) → List (Bool × SfdpFault)
 header_faults header first =
     (not (has_signature header), Signature)
@@ -57,6 +57,7 @@ header_faults header first =
     ∷ (nat_lt (slice_index first 3) 9, Length)
     ∷ []
 
+-- the faults of the table, in the same form
 abbrev pub table_faults : (table : List ℕ) → List (Bool × SfdpFault)
 table_faults table =
     (nat_le 2 (address_mode table), Address)

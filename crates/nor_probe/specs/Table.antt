@@ -76,7 +76,7 @@ abbrev pub name_or : (unlisted : ChipName) → Option Part → ChipName
 name_or unlisted (Some part) = part.name
 name_or unlisted None = unlisted
 
--- the name that a text spells, or `Other` for a text without a row other than "SFDP"
+-- the name that a text spells: that of a row, `Sfdp` for "SFDP", or `Other` for any other text
 abbrev pub name_of : List ℕ → ChipName
 name_of text =
     name_or (if bytes_eq text (codes "SFDP") then Sfdp else Other)

@@ -71,7 +71,8 @@ pub struct Probed {
 /// protection are those of the chip.
 ///
 /// Returns `NoChip`, `UnknownChip` or `OtherName`, checked in this order. Returns `Stopped` if the bus stopped, and
-/// `Timeout` if 65,536 polls showed BUSY, which doesn't occur on a well-behaved bus. Nothing is sent after these.
+/// `Timeout` if 65,536 polls showed BUSY, which doesn't occur on a well-behaved bus. Nothing is sent after a stop or
+/// a timeout.
 pub fn probe<B: Bus>(bus: &mut B, named: Option<ChipName>) -> Result<Found, ProbeFault>
     ensures always { ProbeAlways named (B.state bus.old) (B.state bus.new) result }
     ensures honest { (B.state bus.old).honest ≡ true

@@ -48,8 +48,8 @@ pub enum Refusal {
     BadJournal(JournalFault),
     /// 16: the chip's ID or size differs from the journal's.
     OtherChip,
-    /// 17: a status bit that flashnor never changes differs from the journal's, or any bit on a chip without block
-    /// protection.
+    /// 17: a status bit that flashnor never changes differs from the journal's or, on a chip without block protection,
+    /// any non-volatile status bit.
     StatusDiffers,
     /// 18: out of memory.
     Memory,

@@ -1,5 +1,4 @@
--- The proof, from the laws of the separation logic (`Logic`), that `History::new` returns a history with no transaction
--- and no allowance.
+-- The proof, by the laws of the separation logic, that `History::new` returns an empty history.
 use Rattle.std.proofs.Common.{[], ◌∷◌, refl}
 use seplogic.Ra.Ura.{Ura}
 use mir.Syntax.{Fn}

@@ -1,5 +1,4 @@
--- The proof, from the laws of the separation logic (`Logic`), that `History::with` returns the history with the event
--- added. The proof states the new lists, because no code computes them.
+-- This proof, by the laws of the separation logic, states the new lists, because no code computes them.
 use Rattle.std.proofs.Common.{List, [], ◌∷◌, ◌++◌, refl}
 use seplogic.Ra.Ura.{Ura}
 use mir.Syntax.{Fn}
