@@ -31,6 +31,8 @@ pub record BusState : Type 0 where
   pub steady : Bool
   -- On a well-behaved bus: whether the bus takes transactions of any length.
   pub unlimited : Bool
+  -- On a well-behaved bus that isn't unlimited: how many bytes more than 4,096 a transaction may read.
+  pub longer : ℕ
   -- On a well-behaved bus: whether it stops only if no transaction is left. Any other well-behaved bus may stop at any
   -- transaction, and `left` means nothing. Clauses and comments that count transactions (as in "no transaction is
   -- left", or "too few were left") are about punctual buses, even if a comment doesn't say so.
@@ -40,31 +42,33 @@ pub record BusState : Type 0 where
   -- Whether the chip may be of a further type, which only programs for real chips know. Never on a well-behaved bus.
   pub further : Bool
 
--- Holds if a call did not change whether the bus is well-behaved, steady, unlimited or punctual nor, on a well-behaved
--- bus, the chip's configuration.
+-- Holds if a call did not change whether the bus is well-behaved, steady, unlimited or punctual, nor the number
+-- `longer`, nor the chip's configuration on a well-behaved bus.
 pub record SameNature (old new : BusState) : Type 0 where
   pub honest : new.honest ≡ old.honest
   pub steady : new.steady ≡ old.steady
   pub unlimited : new.unlimited ≡ old.unlimited
+  pub longer : new.longer ≡ old.longer
   pub punctual : new.punctual ≡ old.punctual
   pub config : old.honest ≡ true → new.chip.config ≡ old.chip.config
 
--- Holds for every sequence of transactions, on every bus: they don't change whether it is well-behaved, steady,
--- unlimited or punctual, the history continues the earlier one, and no allowance was set.
+-- Holds for every sequence of transactions, on every bus: they don't change what `SameNature` names, the history
+-- continues the earlier one, and no allowance was set.
 pub record KeepsNature (old new : BusState) : Type 0 where
   pub honest : new.honest ≡ old.honest
   pub steady : new.steady ≡ old.steady
   pub unlimited : new.unlimited ≡ old.unlimited
+  pub longer : new.longer ≡ old.longer
   pub punctual : new.punctual ≡ old.punctual
   pub config : old.honest ≡ true → new.chip.config ≡ old.chip.config
   pub history : Continues old.history new.history
   pub allowances : new.allowances ≡ old.allowances
 
 -- Holds if the bus is well-behaved and takes this transaction. A bus that isn't unlimited takes those that send at most
--- 260 bytes (a page program) and read at most 4,096 (a sector).
+-- 260 bytes (a page program) and read at most 4,096 (a sector) and `longer` more.
 pub record IsHonestFor (out : List ℕ) (replies : ℕ) (bus : BusState) : Type 0 where
   pub honest : bus.honest ≡ true
-  pub fits : (bus.unlimited ≡ true) ⊎ ((length out ≤ 260) × (replies ≤ 4096))
+  pub fits : (bus.unlimited ≡ true) ⊎ ((length out ≤ 260) × (replies ≤ 4096 + bus.longer))
 
 -- The effect of a transaction on what every bus records. `out` is added to `sent` only if it may modify a chip, and
 -- only a poll that received a reply byte changes `polled_ready`.
@@ -152,6 +156,7 @@ unknown_bus history = record {
   worn = λ s. false;
   steady = false;
   unlimited = false;
+  longer = 0;
   punctual = false;
   polled_ready = polled_ready_in history;
   further = false;
