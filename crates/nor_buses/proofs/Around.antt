@@ -1,6 +1,7 @@
 -- A bus that may send several transactions of the bus inside for one of its own meets the contract of a bus.
-use Rattle.std.proofs.Common.{◌≡◌, ◌≤◌, ◌&&◌, ℕ, Bool, List, length, ◌∙◌, arith, inl, inr, refl, ap}
-use Rattle.std.specs.Prelude.{nat_le, Result, OnOk, OnErr}
+use Rattle.std.proofs.Common.{◌≡◌, ◌≤◌, ◌&&◌, ◌⊎◌, ℕ, Bool, true, false, List, length, ◌∙◌, arith, inl, inr, refl, ap}
+use Rattle.std.specs.Prelude.{◌+◌, ◌-◌, nat_le, Result, OnOk, OnErr}
+use Rattle.std.proofs.Math.Nat.{min-le_left, min-le_right}
 use Rattle.std.proofs.lemmas.Bool.{false≢true, and_parts, leb-true}
 use Rattle.std.proofs.lemmas.Result.{on_ok_weaker, on_err_weaker}
 use Rattle.nor_model.specs.Exchange.{Exchange}
@@ -8,7 +9,7 @@ use Rattle.nor_model.specs.Bus.{BusState, SameNature, IsHonestFor, AtStop, Stops
 use Rattle.nor_model.specs.declared.bus.Stopped.{Stopped}
 use Rattle.nor_buses.specs.ReadsAs.{around, beside}
 use Rattle.nor_buses.specs.Keeps.{MakesStep}
-use Rattle.nor_buses.specs.Splitting.{splits, takes_whole}
+use Rattle.nor_buses.specs.Splitting.{reads_longer, splits, takes_whole}
 
 fits_inside : {out : List ℕ} {n : ℕ} {inside : BusState} {history : List Exchange}
     → IsHonestFor out n (around inside history) → IsHonestFor out n inside
@@ -115,28 +116,49 @@ module _ {out : List ℕ} {a b : BusState} {h h' : List Exchange} where
 
 -- ---- a bus that passes on what a well-behaved bus must take
 
-module _ (out : List ℕ) (n : ℕ) (wide : Bool) (inside : BusState) (history : List Exchange) where
-  splits_fits : IsHonestFor out n (splits wide inside history) → IsHonestFor out n inside
+-- A read that isn't split is one that the bus inside takes.
+longer_taken : (receives longer n : ℕ) (unlimited : Bool) → n ≤ 4096 + reads_longer receives unlimited longer
+    → (unlimited ≡ true) ⊎ (n ≤ 4096 + longer)
+longer_taken receives longer n true few = inl refl
+longer_taken receives longer n false few = inr (omega (arith, few, min-le_left longer (receives - 4096)))
+
+-- Its length is within the limit.
+longer_within : (receives longer n : ℕ) (unlimited : Bool) → 4096 ≤ receives
+    → n ≤ 4096 + reads_longer receives unlimited longer → n ≤ receives
+longer_within receives longer n true most few = omega (arith, most, few)
+longer_within receives longer n false most few = omega (arith, most, few, min-le_right longer (receives - 4096))
+
+module _ (out : List ℕ) (n : ℕ) (wide : Bool) (receives : ℕ) (inside : BusState) (history : List Exchange) where
+  splits_fits : IsHonestFor out n (splits wide receives inside history) → IsHonestFor out n inside
   splits_fits fits = record {
     honest = (and_parts inside.honest wide fits.honest).0;
-    fits = elim fits.fits [ inl unlimited ↦ absurd (false≢true unlimited) | inr few ↦ inr (few.0, omega (arith, few.1)) ];
+    fits = elim fits.fits [
+      | inl unlimited ↦ absurd (false≢true unlimited)
+      | inr few ↦ elim (longer_taken receives inside.longer n inside.unlimited few.1) [
+        | inl unlimited ↦ inl unlimited
+        | inr read ↦ inr (few.0, read)
+      ]
+    ];
   }
 
   -- If such a bus is well-behaved for a transaction, the transaction is within the limits of the bus inside.
-  splits_within : (sends receives : ℕ) → takes_whole sends receives ≡ wide
-      → IsHonestFor out n (splits wide inside history) → (length out ≤ sends) × (n ≤ receives)
-  splits_within sends receives is fits =
+  splits_within : (sends : ℕ) → takes_whole sends receives ≡ wide
+      → IsHonestFor out n (splits wide receives inside history) → (length out ≤ sends) × (n ≤ receives)
+  splits_within sends is fits =
       let takes = and_parts (nat_le 260 sends) (nat_le 4096 receives)
       (is ∙ (and_parts inside.honest wide fits.honest).1) in
       let most_sent : 260 ≤ sends = leb-true 260 sends takes.0 in
       let most_read : 4096 ≤ receives = leb-true 4096 receives takes.1 in
       elim fits.fits [
         | inl unlimited ↦ absurd (false≢true unlimited)
-        | inr few ↦ (omega (arith, few.0, most_sent), omega (arith, few.1, most_read))
+        | inr few ↦ (
+          omega (arith, few.0, most_sent),
+          longer_within receives inside.longer n inside.unlimited most_read few.1,
+        )
       ]
 
-module _ (out : List ℕ) (a b : BusState) (h h' : List Exchange) (wide wide' : Bool) where
-  stops_splits : Stops out a b → Stops out (splits wide a h) (splits wide' b h')
+module _ (out : List ℕ) (a b : BusState) (h h' : List Exchange) (wide wide' : Bool) (receives receives' : ℕ) where
+  stops_splits : Stops out a b → Stops out (splits wide receives a h) (splits wide' receives' b h')
   stops_splits stops =
       let at = stops.at_stop in record {
         none_left = stops.none_left;
@@ -153,33 +175,45 @@ module _ (out : List ℕ) (a b : BusState) (h h' : List Exchange) (wide wide' : 
         };
       }
 
-  carries_splits : {answer : List ℕ} → Carries out answer a b → Carries out answer (splits wide a h) (splits wide' b h')
+  carries_splits : {answer : List ℕ} → Carries out answer a b
+      → Carries out answer (splits wide receives a h) (splits wide' receives' b h')
   carries_splits carries = record { left = carries.left; step = carries.step; worn = carries.worn }
+
+-- A call that keeps the nature of the bus inside doesn't change how long a read may be that isn't split.
+longer_same : (receives receives' : ℕ) (old new : BusState) → receives' ≡ receives → SameNature old new
+    → reads_longer receives' new.unlimited new.longer ≡ reads_longer receives old.unlimited old.longer
+longer_same receives receives' old new same nature =
+    ap (λ (n : ℕ). reads_longer n new.unlimited new.longer) same
+    ∙ ap (λ (unlimited : Bool). reads_longer receives unlimited new.longer) nature.unlimited
+    ∙ ap (λ (longer : ℕ). reads_longer receives old.unlimited longer) nature.longer
 
 -- If the bus inside carried out each transaction within its limits as one of its own, the bus around it meets the
 -- contract.
 pub transfers_splits : (out before answer : List ℕ) (a b : BusState) (h h' : List Exchange) (wide wide' : Bool)
-    (sends receives : ℕ) → takes_whole sends receives ≡ wide → wide' ≡ wide → (outcome : Result Unit Stopped)
-    → SameNature a b → (length out ≤ sends → length before ≤ receives → Transfers out before answer outcome a b)
-    → Records out answer outcome (splits wide a h) (splits wide' b h')
-    → Transfers out before answer outcome (splits wide a h) (splits wide' b h')
-transfers_splits out before answer a b h h' wide wide' sends receives is same outcome nature passes records =
-    let inside : IsHonestFor out (length before) (splits wide a h) → Transfers out before answer outcome a b = λ fits.
-    let within = splits_within out (length before) wide a h sends receives is fits in passes within.0 within.1 in
-    let fit = splits_fits out (length before) wide a h in record {
+    (sends receives receives' : ℕ) → takes_whole sends receives ≡ wide → wide' ≡ wide → receives' ≡ receives
+    → (outcome : Result Unit Stopped) → SameNature a b
+    → (length out ≤ sends → length before ≤ receives → Transfers out before answer outcome a b)
+    → Records out answer outcome (splits wide receives a h) (splits wide' receives' b h')
+    → Transfers out before answer outcome (splits wide receives a h) (splits wide' receives' b h')
+transfers_splits out before answer a b h h' wide wide' sends receives receives' is same kept outcome nature passes records =
+    let inside : IsHonestFor out (length before) (splits wide receives a h) → Transfers out before answer outcome a b =
+    λ fits. let within = splits_within out (length before) wide receives a h sends is fits in passes within.0 within.1 in
+    let fit = splits_fits out (length before) wide receives a h in record {
       nature = record {
         honest = ap (λ (honest : Bool). honest && wide') nature.honest
             ∙ ap (λ (wide : Bool). a.honest && wide) same;
         steady = nature.steady;
         unlimited = refl;
-        longer = refl;
+        longer = longer_same receives receives' a b kept nature;
         punctual = nature.punctual;
         config = λ honest. nature.config (and_parts a.honest wide honest).0;
       };
       stops = λ fits.
-          on_err_weaker outcome (stops_splits out a b h h' wide wide') ((inside fits).stops (fit fits));
+          on_err_weaker outcome (stops_splits out a b h h' wide wide' receives receives')
+          ((inside fits).stops (fit fits));
       unread = λ fits. (inside fits).unread (fit fits);
       carries = λ fits.
-          on_ok_weaker outcome (carries_splits out a b h h' wide wide') ((inside fits).carries (fit fits));
+          on_ok_weaker outcome (carries_splits out a b h h' wide wide' receives receives')
+          ((inside fits).carries (fit fits));
       records = records;
     }

@@ -29,19 +29,20 @@ use Rattle.nor_buses.proofs.SameReply.{read_of}
 pub takes_same : (longest : ℕ) (old new : BusState) → SameNature old new
     → takes_blocks longest new ≡ takes_blocks longest old
 takes_same longest old new nature =
-    ap (λ (honest : Bool). honest && (new.unlimited || nat_le longest 4096)) nature.honest
-    ∙ ap (λ (unlimited : Bool). old.honest && (unlimited || nat_le longest 4096)) nature.unlimited
+    ap (λ (honest : Bool). honest && (new.unlimited || nat_le longest (4096 + new.longer))) nature.honest
+    ∙ ap (λ (unlimited : Bool). old.honest && (unlimited || nat_le longest (4096 + new.longer))) nature.unlimited
+    ∙ ap (λ (longer : ℕ). old.honest && (old.unlimited || nat_le longest (4096 + longer))) nature.longer
 
 -- If the bus inside takes the blocks, it takes the read of one that isn't too long.
 pub block_fits : (address len longest : ℕ) (inside : BusState) → takes_blocks longest inside ≡ true → len ≤ longest
     → IsHonestFor (data_read address) len inside
 block_fits address len longest inside takes few =
-    let parts = and_parts inside.honest (inside.unlimited || nat_le longest 4096) takes in record {
+    let parts = and_parts inside.honest (inside.unlimited || nat_le longest (4096 + inside.longer)) takes in record {
       honest = parts.0;
-      fits = elim (or_cases inside.unlimited (nat_le longest 4096) parts.1) [
+      fits = elim (or_cases inside.unlimited (nat_le longest (4096 + inside.longer)) parts.1) [
         | inl unlimited ↦ inl unlimited
         | inr short ↦
-            let most : longest ≤ 4096 = leb-true longest 4096 short in
+            let most : longest ≤ 4096 + inside.longer = leb-true longest (4096 + inside.longer) short in
             inr (omega arith, omega (arith, few, most))
       ];
     }
@@ -206,7 +207,7 @@ transfers_ahead out before answer a b h h' longest longest' outcome same nature 
     unlimited = nature.unlimited;
     longer = nature.longer;
     punctual = refl;
-    config = λ honest. nature.config (and_parts a.honest (a.unlimited || nat_le longest 4096) honest).0;
+    config = λ honest. nature.config (and_parts a.honest (a.unlimited || nat_le longest (4096 + a.longer)) honest).0;
   };
   stops = λ fits. on_err_weaker outcome (stops_ahead out a b h h' longest longest') (stops fits);
   unread = λ fits punctual. absurd (false≢true punctual);

@@ -1,14 +1,14 @@
 -- The blocks of a bus that reads ahead, and its state.
-use Rattle.std.specs.Prelude.{◌≡◌, ◌<◌, ◌&&◌, ◌||◌, ℕ, Bool, true, List, take, nat_le}
+use Rattle.std.specs.Prelude.{◌≡◌, ◌<◌, ◌+◌, ◌&&◌, ◌||◌, ℕ, Bool, true, List, take, nat_le}
 use Rattle.nor_model.specs.Bus.{BusState}
 use Rattle.nor_model.specs.Exchange.{Exchange}
 use Rattle.nor_buses.specs.Again.{HasData}
 use Rattle.nor_buses.specs.ReadsAs.{around}
 
 -- True if the bus inside is well-behaved and takes the read of each block. The greatest length of a block is `longest`.
--- A well-behaved bus that isn't unlimited takes only reads of at most 4,096 bytes.
+-- A well-behaved bus that isn't unlimited takes only reads of at most 4,096 bytes and `longer` more.
 abbrev pub takes_blocks : (longest : ℕ) → (inside : BusState) → Bool
-takes_blocks longest inside = inside.honest && (inside.unlimited || nat_le longest 4096)
+takes_blocks longest inside = inside.honest && (inside.unlimited || nat_le longest (4096 + inside.longer))
 
 -- The state of a bus with this history that reads blocks of at most `longest` bytes from the bus inside. It is the
 -- state of that bus, except that it is well-behaved only if the bus inside takes the blocks. The bus is not punctual,

@@ -1,5 +1,5 @@
 -- A bus that splits transactions that exceed the limits of a programmer, as contracts see it.
-use Rattle.std.specs.Prelude.{◌&&◌, ℕ, Bool, List, false, nat_le}
+use Rattle.std.specs.Prelude.{◌&&◌, ◌-◌, ℕ, Bool, List, false, min, nat_le, if◌then◌else◌}
 use Rattle.nor_model.specs.Bus.{BusState}
 use Rattle.nor_model.specs.Exchange.{Exchange}
 use Rattle.nor_buses.specs.ReadsAs.{beside}
@@ -26,21 +26,26 @@ history_of splitting = splitting.history.exchanges
 abbrev pub takes_whole : (sends receives : ℕ) → Bool
 takes_whole sends receives = nat_le 260 sends && nat_le 4096 receives
 
+-- How many bytes more than 4,096 a read may have that isn't split. `receives` is the greatest number of bytes that a
+-- transaction over the bus inside reads. If that bus is not `unlimited`, it takes reads of 4,096 bytes and `longer` more.
+abbrev pub reads_longer : (receives : ℕ) → (unlimited : Bool) → (longer : ℕ) → ℕ
+reads_longer receives unlimited longer = if unlimited then receives - 4096 else min longer (receives - 4096)
+
 -- The state of a bus with this history that splits what the bus inside can't take. The chip is that of the bus inside.
--- If `wide` is true, no transaction that a well-behaved bus must take is split: each is one of the bus inside. Then
--- this bus is well-behaved if the bus inside is. Otherwise it isn't: a program in parts that stops may leave an idle
--- chip whose write enable latch is set, which no stop of a single transaction does.
-abbrev pub splits : (wide : Bool) → (inside : BusState) → (history : List Exchange) → BusState
-splits wide inside history = record (beside inside history) {
+-- If `wide` is true, no transaction that this bus must take if it is well-behaved is split: each is one of the bus
+-- inside. Then this bus is well-behaved if the bus inside is. Otherwise it isn't: a program in parts that stops may
+-- leave an idle chip whose write enable latch is set, which no stop of a single transaction does.
+abbrev pub splits : (wide : Bool) → (receives : ℕ) → (inside : BusState) → (history : List Exchange) → BusState
+splits wide receives inside history = record (beside inside history) {
   honest = inside.honest && wide;
   left = inside.left;
   punctual = inside.punctual;
   unlimited = false;
-  longer = 0;
+  longer = reads_longer receives inside.unlimited inside.longer;
 }
 
 -- The state of the bus (`splits`).
 abbrev pub splitting_state : {B : Type 0} → (inside : B → BusState) → SplittingBus B → BusState
 splitting_state inside splitting =
-    splits (takes_whole (sends_most splitting) (receives_most splitting)) (inside (split_of splitting))
-    (history_of splitting)
+    splits (takes_whole (sends_most splitting) (receives_most splitting)) (receives_most splitting)
+    (inside (split_of splitting)) (history_of splitting)

@@ -32,8 +32,8 @@ const READ_DATA: u8 = 0x03;
 /// its reply has the returned bytes at the same addresses.
 ///
 /// This bus is never punctual. It is proved to be well-behaved if the bus inside is and takes the blocks: if that bus
-/// is unlimited, or no block has more than 4,096 bytes (`longest_read` is less than 8,192). While this bus is used,
-/// nobody else may modify the chip.
+/// is unlimited, or takes reads that are as long as the longest block. While this bus is used, nobody else may modify
+/// the chip.
 ///
 /// The history lists each transaction over this bus with its reply, even a read whose bytes came from memory. In
 /// contracts, the modifying commands that were sent and the result of the last poll are those of the bus inside.

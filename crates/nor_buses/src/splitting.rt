@@ -27,9 +27,10 @@ use nor_model::{Bus, History, Stopped};
 /// a sector that the journal saves.
 ///
 /// If the limits allow a page program (260 bytes sent) and the read of a sector (4,096 bytes read), this bus is proved
-/// to be well-behaved if the bus inside is. It then passes on each transaction within these two lengths unchanged, so
-/// it is also punctual and steady if the bus inside is. With narrower limits this bus is not well-behaved, because a
-/// program in parts that stops may leave an idle chip with its write enable latch set.
+/// to be well-behaved if the bus inside is. It then passes on each transaction within the limits unchanged, so it is
+/// also punctual and steady if the bus inside is, and takes reads as long as `longest_read` and the bus inside allow.
+/// With narrower limits this bus is not well-behaved, because a program in parts that stops may leave an idle chip with
+/// its write enable latch set.
 ///
 /// The history lists each transaction over this bus with its reply. A transaction that failed or was rejected is listed
 /// without a reply, and a transaction that was split is listed once. In contracts, the chip is that of the bus inside,
