@@ -11,7 +11,7 @@ from terminal import Screen, logged, run, untimed, with_read_back
 
 TIMED = re.compile(r"\d+\.\d{3} (.*)")
 TAKEN = reference.FILE_HINTS[5]
-INCOMPLETE = "The log is incomplete, but the job went on: free disk space, or choose another file."
+INCOMPLETE = f"The log is incomplete, but the job went on. {reference.CAUSES['full']}"
 SEALED = reference.sealed("j")
 # The first line of a log, and the bytes with which an existing file must begin if it is to be overwritten.
 BEGIN = "Log of flashnor-serprog"

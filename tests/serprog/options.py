@@ -588,7 +588,8 @@ def needs_its_output(start):
     bench = start(data=old)
     bench.write("new", new)
     for words in ("-r", "out"), ("-w", "new", "--journal", "j"), ("-h",):
-        check("status and faults", bench.run_unprinted(*words), (1, ["File fault 2: standard output."]))
+        check("status and faults", bench.run_unprinted(*words),
+              (1, ["File fault 2: standard output.", reference.CAUSES["full"]]))
     bench.check_file("out", old)
     bench.check_chip(new)
 

@@ -220,7 +220,7 @@ CREATED = "This run has created j: repeat the command with a new journal name."
 
 
 def prints_the_systems_reason(start):
-    """After errors 11 and 19 a line has the system's reason."""
+    """After errors 11 and 19, and file fault 2 of a region, an extracted image or a log, a line has the system's reason."""
     if not shutil.which("cc"):
         print("skipped: prints_the_systems_reason, since there is no C compiler (cc)")
         return
@@ -238,7 +238,38 @@ def prints_the_systems_reason(start):
         bench.path("j").unlink(missing_ok=True)
     at_moment(bench, "write out", ERROR="EDQUOT")
     bench.expect("-r", "out", err=["Error 19: output failed after 0 bytes.", reference.CAUSES["full"]])
+    # The file of a region, that of an extracted image, and the log.
     bench.environment = {}
+    check("status", bench.run("--backup", "whole").status, 0)
+    bench.write("layout", b"0:fff a\n")
+    for error, cause in ("EDQUOT", "full"), ("EIO", "input"), ("EPERM", "denied"), ("ESTALE", "refused"):
+        at_moment(bench, "write part", ERROR=error)
+        bench.expect("-r", "out", "-l", "layout", "-i", "a:part", err=reference.file_fault(2, "part", cause))
+        bench.expect("--check-journal", "whole", "--extract-image", "part",
+                     err=reference.file_fault(2, "part", cause))
+        at_moment(bench, "write log", ERROR=error)
+        bench.path("log").unlink(missing_ok=True)
+        got = bench.run("--flash-size", "-o", "log")
+        check("output, faults and status", (got.out, got.err, got.status), (
+            ["65536"], ["File fault 2: log.",
+                        f"The log is incomplete, but the job went on. {reference.CAUSES[cause]}"], 1))
+    bench.environment = {}
+
+
+def prints_why_names_cannot_be_compared(start):
+    """The line after file fault 1 of a name that can't be looked up has the system's reason."""
+    bench = start()
+    bench.path("loop").symlink_to("loop")
+    for words in ("-v", "loop"), ("-r", "loop"), ("-w", "loop/image", "--journal", "j"), \
+            ("-w", "new", "--journal", "loop"), ("--restore", "loop"), ("--backup", "loop"), ("-r", "out", "-o", "loop"):
+        name = next(it for it in words if it.startswith("loop"))
+        bench.expect(*words, err=reference.file_fault(1, name, "loop"))
+        bench.check_nothing_sent()
+    for name in 256 * "n", 2100 * "./":
+        for words in ("-r", name), ("--backup", name), ("-r", "out", "-o", name):
+            bench.expect(*words, err=reference.file_fault(1, name, "long"))
+            bench.check_nothing_sent()
+    bench.check_absent("j")
 
 
 def notices_a_lost_journal(start):
@@ -303,6 +334,7 @@ def overwrites_no_file_that_appears_late(start):
             bench.check_file("log", content)
 
 
-CASES = [prints_the_systems_reason, notices_a_lost_journal, keeps_the_log_of_a_session,
+CASES = [prints_the_systems_reason, prints_why_names_cannot_be_compared, notices_a_lost_journal,
+         keeps_the_log_of_a_session,
          overwrites_no_file_that_appears_late, removes_an_unsealed_journal, says_a_line_a_minute, quotes_names, quotes_names_after_error_12, quotes_the_device,
          counts_what_it_reads_again, says_how_long_a_change_takes, shows_locks, advises_on_locks, fits_narrow_terminals]

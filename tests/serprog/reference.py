@@ -41,6 +41,8 @@ CAUSES = {
     "directory": "It is a directory: give the name of a file.",
     "denied": "Permission denied: correct its name or its permissions.",
     "full": "No space is left on the disk: free some, or choose another disk.",
+    "loop": "Its links form a loop, or are too many: correct its name.",
+    "long": "Its name is too long: shorten it.",
     "input": "Input/output error: check the disk, or choose another disk.",
     "refused": "The system refused it: choose another file or directory.",
     "locked": "Another process has locked it: wait until that process has ended.",

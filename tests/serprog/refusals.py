@@ -177,7 +177,7 @@ def refuses_regions(start):
     bench.write("wrong", b"0:fff a\n2000:1000 b\n")
     bench.write("short", bytes(SIZE - 1))
     for words, *errors in ((("-E",), "Error 5: region outside the chip.",
-                            f"The chip has {SIZE} bytes, and not all regions of -i are on it: b."),
+                            f"The chip has {SIZE} bytes, and the region b ends at 0x010fff."),
                            (("-w", "short"), f"Error 4: image of {SIZE - 1} bytes, chip of {SIZE} bytes.",
                             reference.WHOLE_IMAGE)):
         words = (*words, "-l", "layout", "-i", "b", "--journal", "j")
@@ -186,6 +186,13 @@ def refuses_regions(start):
         bench.check_absent("j")
         bench.expect(*words, "-N", err=errors)
         bench.check_absent("j")
+    # Of several regions, the one that ends last is named.
+    bench.write("more", b"0:fff a\n10000:10fff b\n20000:23fff c\nf000:100ff d\n")
+    for names, name, end in (("a,b", "b", 0x10FFF), ("c,a,b", "c", 0x23FFF), ("b:part,d", "b", 0x10FFF),
+                             ("d", "d", 0x100FF)):
+        bench.expect("-r", "out", "-l", "more", "-i", names,
+                     err=["Error 5: region outside the chip.",
+                          f"The chip has {SIZE} bytes, and the region {name} ends at 0x{end:06x}."])
     bench.expect("-E", "-l", "wrong", "-i", "a", "--journal", "k",
                  err=["error: the end is below the start", "Layout fault 3 at line 2.",
                       "The regions are in the file wrong."])

@@ -247,7 +247,8 @@ def reports_a_file_that_cannot_be_written(start):
     old = random_image("full")
     bench = begin(start, old)
     bench.path("full").symlink_to("/dev/full")
-    bench.expect("-r", "out", "-l", "layout", "-i", "main:main.bin,boot:full", err=reference.file_fault(2, "full"))
+    bench.expect("-r", "out", "-l", "layout", "-i", "main:main.bin,boot:full", 
+                 err=reference.file_fault(2, "full", "full"))
     bench.check_file("out", only(old, "main", "boot"))
     bench.check_file("main.bin", cut(old, "main"))
     bench.expect("-r", "out", "-l", "layout", "-i", "boot:none/part",

@@ -4,6 +4,7 @@
 self.py runs them. The stand-in knows the options that the cases use, and leaves out what they don't. The environment
 variable MISTAKE names the mistake that it makes. Don't use it on a chip.
 """
+import errno
 import hashlib
 import os
 import sys
@@ -53,9 +54,10 @@ def regions(given):
 def included_sectors(ranges, size, names):
     if ranges is None:
         return list(range(size // SECTOR))
-    if any(it[-1] >= size for it in ranges):
+    end, name = max(((it[-1], name) for it, name in zip(ranges, names.split(","))), key=lambda it: it[0])
+    if end >= size:
         raise Fault("Error 5: region outside the chip.",
-                    f"The chip has {size} bytes, and not all regions of -i are on it: {names}.")
+                    f"The chip has {size} bytes, and the region {name} ends at 0x{end:06x}.")
     return sorted({at for it in ranges for at in range(it[0] // SECTOR, it[-1] // SECTOR + 1)})
 
 
@@ -526,8 +528,10 @@ def main():
         try:
             print(*lines, sep="\n", flush=True)
             print_note(sys.argv[1:])
-        except OSError:
+        except OSError as why:
             print("File fault 2: standard output.", file=sys.stderr)
+            if why.errno == errno.ENOSPC:
+                print(reference.CAUSES["full"], file=sys.stderr)
             os._exit(1)
     except Fault as why:
         for line in why.args:

@@ -128,13 +128,14 @@ def takes_repeated_flags(start):
 
 
 def takes_maps_of_larger_chips(start):
-    """A region of an FMAP or a flash descriptor that lies outside the chip is refused only if -i names it."""
+    """A region of an FMAP or a flash descriptor that lies outside the chip is refused only if -i names it. The line
+    after error 5 names it."""
     fmap = with_fmap(FREE, 0x2000, [
         (0x1000, 0x1000, b"A"), (SIZE, 1, b"B"), (SIZE - 1, 2, b"C"), (0xFFFFFFFD, 2, b"D")])
     descriptor = with_descriptor(FREE, [(0, 0), (16, 31), (1, 1), (2, 16), (0x7FFF, 0x7FFF)])
     for image, option, own, inside, others in (
-            (fmap, "--fmap-file", "--fmap", "A", "BCD"),
-            (descriptor, "--ifd-file", "--ifd", "me", ("bios", "gbe", "pd"))):
+            (fmap, "--fmap-file", "--fmap", "A", {"B": 0x10000, "C": 0x10000, "D": 0xFFFFFFFE}),
+            (descriptor, "--ifd-file", "--ifd", "me", {"bios": 0x1FFFF, "gbe": 0x10FFF, "pd": 0x7FFFFFF})):
         bench = start(data=image)
         bench.write("before", image)
         bench.write("short", image[:0x4000])
@@ -144,11 +145,13 @@ def takes_maps_of_larger_chips(start):
             check("the run", (got.out, got.status), ([reference.found("TINY64"), f"Read {SIZE} bytes."], 0))
             bench.check_file("out", wanted)
             bench.path("out").unlink()
-            for name in others:
+            for name, end in others.items():
                 for words in (("-r", "out"), ("-v", "before"), ("-w", "before", "--journal", "j"),
                               ("-E", "--journal", "j")):
                     got = bench.run(*words, *layout, "-i", f"{inside},{name}")
-                    check("the fault", (got.err[0], got.out, got.status), ("Error 5: region outside the chip.", [], 1))
+                    check("the fault", (got.err[:2], got.out, got.status), (
+                        ["Error 5: region outside the chip.",
+                         f"The chip has {SIZE} bytes, and the region {name} ends at 0x{end:06x}."], [], 1))
                     for made in "out", "j":
                         bench.path(made).unlink(missing_ok=True)
                     bench.check_chip(image)

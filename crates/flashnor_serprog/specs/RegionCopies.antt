@@ -9,7 +9,7 @@ use Rattle.nor_args.specs.Text.{Text}
 use Rattle.nor_args.specs.declared.job.Operation.{Operation}
 use Rattle.nor_args.specs.declared.job.Task.{Task}
 use Rattle.nor_args.specs.declared.job.Task.TheVariants as task
-use Rattle.nor_console.specs.Files.{IsMaking, IsReadingFault}
+use Rattle.nor_console.specs.Files.{IsMaking, IsReadingFault, IsUnmadeFault}
 use Rattle.nor_console.specs.Roles.{FailsApart}
 use Rattle.nor_console.specs.Stored.{IsRead}
 use Rattle.nor_console.specs.declared.messages.Fault.{Fault}
@@ -59,7 +59,7 @@ part_if_inside span bytes = if nat_le span.first (span.last + 1) && nat_le (span
 -- Holds for file fault 2 of a file that could not be written. It has a prefix of `bytes` (if files obey their
 -- contract).
 pub record IsWrittenPartly (name : Bor Text) (bytes : List ℕ) (after : View) (fault : Fault) : Type 0 where
-  pub is : fault ≡ end.File file.Write name causes.Unknown
+  pub is : IsUnmadeFault name.now fault
   pub has : is_lawful after ≡ true → (kept : ℕ) × (after.seen name.now ≡ Some (take kept bytes))
 
 abbrev pub FailsToWrite : Bor Text → (bytes : List ℕ) → (before after : View) → Fault → Type 0

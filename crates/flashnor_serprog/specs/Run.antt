@@ -37,8 +37,8 @@ use Rattle.flashnor_serprog.specs.declared.region_files.RegionFile.{RegionFile}
 use Rattle.flashnor_serprog.specs.declared.chip_faults.JobFault.{JobFault}
 use Rattle.flashnor_serprog.specs.declared.chip_faults.JobFault.TheVariants as ended
 use Rattle.flashnor_serprog.specs.declared.connect.Connected.{Connected}
-use Rattle.flashnor_serprog.specs.declared.run.Asked.{Asked}
-use Rattle.flashnor_serprog.specs.declared.run.Asked.TheVariants as asked
+use Rattle.flashnor_serprog.specs.declared.asked.Asked.{Asked}
+use Rattle.flashnor_serprog.specs.declared.asked.Asked.TheVariants as asked
 use Rattle.flashnor_serprog.specs.declared.trouble.Trouble.{Trouble}
 use Rattle.flashnor_serprog.specs.declared.trouble.Trouble.TheVariants as trouble
 

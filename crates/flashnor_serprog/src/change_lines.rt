@@ -77,8 +77,8 @@ pub struct SealedLine<'a>(pub Option<&'a str>);
 impl fmt::Display for SealedLine<'_> {
     fn fmt<W: fmt::Write>(&self, f: &mut fmt::Formatter<W>) -> fmt::Result {
         f.write_str(
-            "SEALED: the chip is changed from here on. If this run is interrupted, disconnect the programmer from power \
-             before the next run",
+            "SEALED: the chip is changed from here on. If this run is interrupted, disconnect the programmer from \
+             power before the next run",
         )?;
         match self.0 {
             Some(name) => write!(f, ", and restore with the journal {}.", Escaped(name)),

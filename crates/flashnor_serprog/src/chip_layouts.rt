@@ -104,7 +104,15 @@ fn read_and_report<'a, 'b, E: Write>(
         }
         Err(fault) => {
             bus.end_progress(false);
-            print_job_fault(errors, &JobFault::Fault(fault), bus, operation, None, None);
+            print_job_fault(
+                errors,
+                &JobFault::Fault(fault),
+                bus,
+                operation,
+                None,
+                None,
+                None,
+            );
             Err(Trouble::Printed)
         }
     }

@@ -5,10 +5,12 @@ ghost use Rattle.nor_console.specs.AnswerLines.{name_line};
 ghost use Rattle.nor_console.specs.Printing.{Prints};
 ghost use Rattle.nor_console.specs.AnswerLines.{protected_line};
 ghost use Rattle.flashnor_serprog.specs.Run.{AreJobLines, AreLinesBy, AreNameLines};
-ghost use Rattle.flashnor_serprog.specs.Further.{further_line, further_of, lock_words, status_bytes_line, unverified_line};
+ghost use Rattle.flashnor_serprog.specs.Further.{further_line, further_of, lock_words, status_bytes_line};
+ghost use Rattle.flashnor_serprog.specs.Further.{unverified_line};
 
+use crate::file_hints::reason_hint;
 use nor_args::{Change, Operation, Task, Wanted};
-use nor_console::{Answer, Fault, lost_output, print_answer, print_fault};
+use nor_console::{Answer, Fault, SystemReason, lost_output, print_answer, print_fault};
 use nor_probe::ChipName;
 use std::io;
 use std::io::Write;
@@ -21,7 +23,8 @@ pub fn end_badly<E: Write>(errors: &mut E, fault: &Fault<'_>) -> u8
     1
 }
 
-/// Returns exit status 0 if printing to standard output succeeded. Otherwise prints file fault 2, and returns 1.
+/// Returns exit status 0 if printing to standard output succeeded. Otherwise prints file fault 2, and the system's reason
+/// if it has one of its own, and returns 1.
 pub fn status_of<E: Write>(printed: io::Result<()>, errors: &mut E) -> u8
     ensures few { result ≤ 1 }
     ensures printed { result ≡ 0 → IsOk printed }
@@ -29,7 +32,18 @@ pub fn status_of<E: Write>(printed: io::Result<()>, errors: &mut E) -> u8
 {
     match printed {
         Ok(()) => 0,
-        Err(_) => end_badly(errors, &lost_output()),
+        Err(error) => {
+            let status = end_badly(errors, &lost_output());
+            print_reason(errors, SystemReason::of_making(&error));
+            status
+        }
+    }
+}
+
+// Prints what to do about a file that can't be written for this reason, if the reason is known.
+fn print_reason<E: Write>(errors: &mut E, reason: SystemReason) {
+    if !matches!(reason, SystemReason::Other) {
+        let _ = writeln!(errors, "{}", reason_hint(reason));
     }
 }
 

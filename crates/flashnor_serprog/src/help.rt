@@ -60,7 +60,7 @@ Examples: save the chip; write an image and keep a journal; restore the chip:
   flashnor-serprog -p serprog:dev=/dev/ttyACM0 --restore j
 
 Usage fault 1: an argument is not an option, or an option lacks its value
-Usage fault 2: there is no -p, which all but --check-journal and -L need
+Usage fault 2: no -p, which all but --check-journal, -L, -h and -R need
 Usage fault 3: -p isn't serprog: with dev= and only known keys with valid values
 Usage fault 4: there is more than one operation
 Usage fault 5: a wrong value of --wp-range or --progress, or the file name -

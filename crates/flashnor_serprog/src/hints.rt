@@ -3,6 +3,7 @@
 
 use crate::chip_names::{ChipText, Connected, Hex};
 use crate::file_hints::{file_fault_hint, reason_hint};
+use crate::included::Farthest;
 use crate::journals::{StatusBits, advice};
 use crate::lock_bits::{Lock, SRP0, SRP1};
 use crate::region_files::regions_of;
@@ -59,6 +60,8 @@ pub struct Known<'a> {
     pub left: Left<'a>,
     /// Why the last write or sync of the journal or the output failed, if one failed and the reason is known.
     pub unwritten: Option<SystemReason>,
+    /// The included region that has the greatest address.
+    pub farthest: Option<Farthest<'a>>,
 }
 
 impl Known<'_> {
@@ -69,6 +72,7 @@ impl Known<'_> {
             replies: Replies::default(),
             left: Left::Reading,
             unwritten: None,
+            farthest: None,
         }
     }
 }
@@ -98,7 +102,7 @@ pub fn print_operation_hint<E: Write>(
             let _ = writeln!(errors, "{IS_JOURNAL}");
         }
         Fault::Refused(Refusal::RegionOutside) => {
-            print_outside(errors, &operation.task, known.replies.size());
+            print_outside(errors, known.farthest, known.replies.size());
         }
         Fault::Refused(Refusal::Vault | Refusal::Output { .. }) => {
             if let Some(reason) = known.unwritten {
@@ -133,13 +137,14 @@ fn print_file<E: Write>(errors: &mut E, task: &Task<'_>) {
     }
 }
 
-// Prints the line for an included region that isn't on a chip of this number of bytes, with the value of `-i`.
-fn print_outside<E: Write>(errors: &mut E, task: &Task<'_>, size: Option<u32>) {
-    if let (Some(Regions { names, .. }), Some(size)) = (regions_of(task), size) {
-        let names = Escaped(names);
+// Prints the line for an included region that isn't on a chip of this number of bytes. It names the region of `-i` that
+// has the greatest address.
+fn print_outside<E: Write>(errors: &mut E, farthest: Option<Farthest<'_>>, size: Option<u32>) {
+    if let (Some(Farthest { name, end }), Some(size)) = (farthest, size) {
+        let name = Escaped(name);
         let _ = writeln!(
             errors,
-            "The chip has {size} bytes, and not all regions of -i are on it: {names}."
+            "The chip has {size} bytes, and the region {name} ends at 0x{end:06x}."
         );
     }
 }

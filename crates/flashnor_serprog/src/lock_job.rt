@@ -37,7 +37,7 @@ pub fn run_lock<'b, O: Write, E: Write>(
         }
         Err(fault) => {
             bus.end_progress(false);
-            print_job_fault(errors, &fault, bus, operation, None, None);
+            print_job_fault(errors, &fault, bus, operation, None, None, None);
             end_log(errors, bus.terminal().log(), operation.log, 1)
         }
     }

@@ -53,6 +53,7 @@
 //! - `stop_line.rt`: the line after error 12, with its cause and what the job left
 #![tactic(auto)]
 
+mod asked;
 mod backups;
 mod change_lines;
 mod chip_faults;

@@ -112,7 +112,8 @@ impl fmt::Display for UnwrittenLine<'_> {
     fn fmt<W: fmt::Write>(&self, f: &mut fmt::Formatter<W>) -> fmt::Result {
         write!(
             f,
-            "{} can't be written, so a restore won't find out whether another sector was damaged. The journal is sealed.",
+            "{} can't be written, so a restore won't find out whether another sector was damaged. The journal is \
+            sealed.",
             Escaped(self.0)
         )
     }

@@ -11,7 +11,7 @@ ghost use Rattle.flashnor_serprog.specs.Sources.{ArePlainNames};
 use crate::backups::check_new;
 use crate::chip_layouts::{form_on_chip, read_shown};
 use crate::connect::{Checks, ChipBus, Connected, connect_by};
-use crate::included::find_included;
+use crate::included::{Farthest, Included, find_included};
 use crate::jobs::is_session;
 use crate::region_files::{RegionFile, find_region_files, named_regions};
 use crate::region_roles::check_region_files;
@@ -35,6 +35,8 @@ use std::io::Write;
 pub struct Prepared<'a, 'b> {
     /// The regions with a file of their own.
     pub regions: Vec<RegionFile<'a>>,
+    /// The included region that has the greatest address.
+    pub farthest: Option<Farthest<'a>>,
     pub sources: Sources,
     pub connected: Connected<'b>,
 }
@@ -78,7 +80,8 @@ pub fn prepare<'a, 'b, R: Store<Log = LogFile<File>>, E: Write>(
     let regions = find_region_files(files, &operation.task, shown)?;
     check_region_files(files, setting.device, operation, &regions)?;
     let replaced = operation.is_replaced_chip;
-    let sources = prepare_sources(files, &operation.task, replaced, included, &regions)?;
+    let Included { ranges, farthest } = included;
+    let sources = prepare_sources(files, &operation.task, replaced, ranges, &regions)?;
     let image = image_of(&sources, operation);
     start_log(files, screen.log(), operation.log, keeps_log(operation))?;
     check_started(screen.log(), operation.log)?;
@@ -87,6 +90,7 @@ pub fn prepare<'a, 'b, R: Store<Log = LogFile<File>>, E: Write>(
     let connected = connect_by(rt, terminal, setting, image, before, checks_for(operation))?;
     Ok(Prepared {
         regions,
+        farthest,
         sources,
         connected,
     })

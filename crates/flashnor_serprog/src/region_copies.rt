@@ -7,8 +7,9 @@ ghost use Rattle.flashnor_serprog.specs.RegionCopies.{FailsToWrite, KeepsOutput,
 
 use crate::region_files::RegionFile;
 use crate::region_roles::is_apart_from;
+use crate::reports::unwritten_by;
 use nor_args::{Operation, Task};
-use nor_console::{Fault, MOST_IMAGE_BYTES, apart, empty, read_file, unmade, unread};
+use nor_console::{Cause, Fault, MOST_IMAGE_BYTES, apart, empty, read_file, unmade_by, unread};
 use nor_files::Store;
 use nor_journal::Vault;
 use nor_layout::Span;
@@ -104,6 +105,14 @@ pub fn write_file<'a, R: Store>(rt: &mut R, name: &'a str, bytes: &[u8]) -> Resu
     rt.return_vault(file);
     match outcome {
         Ok(()) => Ok(()),
-        Err(_) => Err(unmade(name)),
+        Err(_) => Err(unmade_by(name, unwritten_cause(rt))),
+    }
+}
+
+// Returns why the file that was written last could not be written.
+fn unwritten_cause<R: Store>(rt: &R) -> Cause {
+    match unwritten_by(rt) {
+        Some(reason) => Cause::System(reason),
+        None => Cause::Unknown,
     }
 }

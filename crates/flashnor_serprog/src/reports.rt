@@ -6,6 +6,7 @@ ghost use Rattle.flashnor_serprog.specs.declared.stop_line.Left.TheVariants.{Unc
 use crate::chip_faults::JobFault;
 use crate::connect::ChipBus;
 use crate::hints::{Known, Saved, print_operation_hint, unlocks};
+use crate::included::Farthest;
 use crate::layout_lines::MapLines;
 use crate::progress::Terminal;
 use crate::status_line::{ChangedLine, protects};
@@ -34,7 +35,8 @@ pub fn print_trouble<E: Write>(errors: &mut E, trouble: &Trouble<'_>, operation:
 
 /// Prints the line of the fault with which a job ended, and after it, if there are such lines: the fault's hint; after
 /// error 12 its cause, after any other fault the line for a port that changes bytes; and the fault's note. `saved` is
-/// what the journal of a restore says about its chip, and `unwritten` why the journal or the output can't be written.
+/// what the journal of a restore says about its chip, `unwritten` why the journal or the output can't be written, and
+/// `farthest` the included region that has the greatest address.
 pub fn print_job_fault<E: Write>(
     errors: &mut E,
     fault: &JobFault<'_>,
@@ -42,6 +44,7 @@ pub fn print_job_fault<E: Write>(
     operation: &Operation<'_>,
     saved: Option<Saved>,
     unwritten: Option<SystemReason>,
+    farthest: Option<Farthest<'_>>,
 ) {
     let _ = writeln!(errors, "{fault}");
     let left = left_after(fault, bus, operation);
@@ -51,6 +54,7 @@ pub fn print_job_fault<E: Write>(
             replies: bus.replies(),
             left,
             unwritten,
+            farthest,
         };
         print_operation_hint(errors, fault, operation, &known);
     }

@@ -4,20 +4,21 @@ ghost use Rattle.nor_files.specs.Disk.{unknown};
 ghost use Rattle.nor_args.specs.Words.{arguments_of};
 ghost use Rattle.nor_console.specs.Printing.{Prints};
 ghost use Rattle.flashnor_serprog.specs.Connected.{device_of};
-ghost use Rattle.flashnor_serprog.specs.Run.{AreJobLines, AsksForHelp, EndsJob, HasRun, HasRunBy, HasRunJob, HasRunOperation};
-ghost use Rattle.flashnor_serprog.specs.Run.{HasSucceeded, IsAskedByArguments, IsEndedAs, IsHelpAskedBy};
+ghost use Rattle.flashnor_serprog.specs.Run.{AreJobLines, AsksForHelp, EndsJob, HasRun, HasRunBy, HasRunJob};
+ghost use Rattle.flashnor_serprog.specs.Run.{HasRunOperation, HasSucceeded, IsEndedAs};
 ghost use Rattle.flashnor_serprog.specs.RegionCopies.{AreCopied, KeepsOutput};
 ghost use Rattle.flashnor_serprog.specs.Regions.{regions_of};
 ghost use Rattle.flashnor_serprog.specs.Sends.{SendsOnly};
 ghost use Rattle.flashnor_serprog.specs.Sources.{ArePlainNames};
 
+use crate::asked::{Asked, read_words};
 use crate::chip_faults::JobFault;
 use crate::chip_list::print_chip_list;
 use crate::connect::{ChipBus, Connected};
 use crate::ending::{end_badly, end_well, status_of};
 use crate::extracting::extract_image;
-use crate::help::HELP;
 use crate::hints::Saved;
+use crate::included::Farthest;
 use crate::jobs::{is_session, journal_of, perform, status_write_of};
 use crate::journals::check_journal;
 use crate::lock_job::run_lock;
@@ -35,7 +36,7 @@ use crate::sums_file::{is_new, read_before};
 use crate::terminal::Screen;
 use crate::trouble::Trouble;
 use clap::Error as WordsError;
-use nor_args::{HardwareJob, Operation, Task, operation_of};
+use nor_args::{Operation, Task};
 use nor_chip::Bus;
 use nor_console::{Answer, DIRECTORY, Fault, Outcome, help_of, print_help, unread, version_of};
 use nor_files::{Disk, LogFile, Store};
@@ -171,12 +172,15 @@ fn run_on_chip<'a, 'b, R: Store<Log = LogFile<File>>, O: Write, E: Write>(
         Ok(
             Prepared {
                 regions,
+                farthest,
                 sources,
                 mut connected,
             },
         ) => {
             let bus = &mut connected.bus;
-            let status = run_prepared(files, bus, operation, &regions, sources, output, errors);
+            let status = run_prepared(
+                files, bus, operation, &regions, farthest, sources, output, errors,
+            );
             *used = Some(connected);
             status
         }
@@ -213,49 +217,13 @@ fn asked_text<'a>(trouble: &'a Trouble<'_>) -> Option<&'a WordsError>
     }
 }
 
-// What the arguments ask for.
-#[derive(Drop)]
-enum Asked<'a> {
-    // The list of chips.
-    List,
-    // The description of the journal in the file of this name, and its image in the file `image` if there is a name.
-    Description {
-        file: &'a str,
-        image: Option<&'a str>,
-    },
-    // An operation on the chip of a programmer.
-    Chip {
-        setting: Setting<'a>,
-        operation: Operation<'a>,
-    },
-}
-
-// Returns what the arguments ask for, or their first fault. `names` receives the names of all `-i`.
-fn read_words<'a>(
-    alloc: Global,
-    words: &'a [String],
-    names: &'a mut Option<String>,
-) -> Result<Asked<'a>, Trouble<'a>>
-    ensures ok { IfOk result (IsAskedByArguments (map string_bytes words.now)) }
-    ensures help { IfErr result (IsHelpAskedBy (map string_bytes words.now)) }
-{
-    match operation_of(alloc, HELP, words, names)? {
-        HardwareJob::List => Ok(Asked::List),
-        HardwareJob::CheckJournal { file, image } => Ok(Asked::Description { file, image }),
-        HardwareJob::Chip(job) => {
-            let setting = Setting::read(job.programmer)?;
-            let operation = job.operation?;
-            Ok(Asked::Chip { setting, operation })
-        }
-    }
-}
-
 // Performs an operation, prints its answer or its fault, and returns the exit status.
 fn run_prepared<'b, R: Store, O: Write, E: Write>(
     files: &mut R,
     bus: &mut ChipBus<'b>,
     operation: &Operation<'_>,
     regions: &[RegionFile<'_>],
+    farthest: Option<Farthest<'_>>,
     sources: Sources,
     output: &mut O,
     errors: &mut E,
@@ -267,7 +235,9 @@ fn run_prepared<'b, R: Store, O: Write, E: Write>(
 {
     match operation.srp0 {
         Some(srp0) => run_lock(bus, operation, srp0, output, errors),
-        None => run_job(files, bus, operation, regions, sources, output, errors),
+        None => run_job(
+            files, bus, operation, regions, farthest, sources, output, errors,
+        ),
     }
 }
 
@@ -277,6 +247,7 @@ fn run_job<'b, R: Store, O: Write, E: Write>(
     bus: &mut ChipBus<'b>,
     operation: &Operation<'_>,
     regions: &[RegionFile<'_>],
+    farthest: Option<Farthest<'_>>,
     sources: Sources,
     output: &mut O,
     errors: &mut E,
@@ -305,7 +276,8 @@ fn run_job<'b, R: Store, O: Write, E: Write>(
         }
         Err(fault) => {
             bus.end_progress(false);
-            print_job_fault(errors, &fault, bus, operation, saved, unwritten_by(&*files));
+            let unwritten = unwritten_by(&*files);
+            print_job_fault(errors, &fault, bus, operation, saved, unwritten, farthest);
             report_strays(errors, bus, &fault, operation);
             clear_journal(errors, &*files, &fault, bus, operation);
             end_log(errors, terminal.log(), operation.log, 1)

@@ -3,17 +3,14 @@ ghost use Rattle.std.specs.Prelude.{◌≡◌, ◌≤◌, IfErr, IsSomeAnd, fals
 ghost use Rattle.nor_console.specs.Files.{IsMaking};
 ghost use Rattle.flashnor_serprog.specs.Logging.{BeginsNoLog, CreatesLog, IsExistingLog};
 
+use crate::file_hints::reason_hint;
 use crate::help::HELP;
-use nor_console::{Cause, Fault, create_log, exists, print_fault, unmade};
+use nor_console::{Cause, Fault, SystemReason, create_log, exists, print_fault, unmade};
 use nor_files::{LogFile, Store};
 use std::cell::{Cell, RefCell};
 use std::fs::File;
 use std::io::{BufWriter, Write};
 use std::{fmt, io};
-
-// The line after file fault 2 of the log.
-const INCOMPLETE: &str =
-    "The log is incomplete, but the job went on: free disk space, or choose another file.";
 
 // The first line of a log, before the version. An existing file is overwritten only if it begins with these bytes.
 const FIRST: &str = "Log of flashnor-serprog";
@@ -27,7 +24,8 @@ pub type LogWriter = BufWriter<LogFile<File>>;
 #[derive(Drop)]
 pub struct RunLog {
     file: RefCell<Option<LogWriter>>,
-    has_lost_line: Cell<bool>,
+    // the system's reason why a line couldn't be written
+    lost: Cell<Option<SystemReason>>,
     // whether the file that was opened for the log is another one
     is_refused: Cell<bool>,
 }
@@ -37,7 +35,7 @@ impl RunLog {
     pub fn new() -> RunLog {
         RunLog {
             file: RefCell::new(None),
-            has_lost_line: Cell::new(false),
+            lost: Cell::new(None),
             is_refused: Cell::new(false),
         }
     }
@@ -111,8 +109,8 @@ impl RunLog {
 
     // Ends the log if a line couldn't be written.
     fn end_if_failed(&self, written: io::Result<()>) {
-        if written.is_err() {
-            self.has_lost_line.set(true);
+        if let Err(error) = written {
+            self.lost.set(Some(SystemReason::of_making(&error)));
             let _ = self.file.try_replace(None);
         }
     }
@@ -233,10 +231,11 @@ pub fn end_log<E: Write>(errors: &mut E, log: &RunLog, name: Option<&str>, statu
     ensures few { status ≤ 1 → result ≤ 1 }
     ensures failed { result ≡ 0 → status ≡ 0 }
 {
-    match name {
-        Some(name) if log.has_lost_line.get() => {
+    match (name, log.lost.get()) {
+        (Some(name), Some(reason)) => {
             print_fault(errors, &unmade(name));
-            let _ = writeln!(errors, "{INCOMPLETE}");
+            let hint = reason_hint(reason);
+            let _ = writeln!(errors, "The log is incomplete, but the job went on. {hint}");
             1
         }
         _ => status,

@@ -134,7 +134,8 @@ impl Total {
 
 /// The line that shows a step. While its operations are performed the line is so short that it fits into a row: with
 /// the percentage, the rate and the time left if the total is known, otherwise with the number of operations, and the
-/// time that is left at most or has passed. When they are done, it has the number, the rate and the time that they took.
+/// time that is left at most or has passed. When they are done, it has the number, the rate and the time that they
+/// took.
 #[derive(Clone, Copy, Drop)]
 pub struct StepLine {
     pub step: Step,

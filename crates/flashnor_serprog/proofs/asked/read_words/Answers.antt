@@ -3,7 +3,7 @@ use Rattle.std.proofs.lemmas.Result.{err_from_is_err_and}
 use Rattle.nor_args.specs.Given.{hardware_given_by}
 use Rattle.flashnor_serprog.specs.Run.{program}
 use Rattle.flashnor_serprog.proofs.Helped.{options-ask, words-ask}
-use Rattle.flashnor_serprog.proofs.run.read_words.Goals as goal
+use Rattle.flashnor_serprog.proofs.asked.read_words.Goals as goal
 
 pub returns-in_err-operation_of-clause-help : goal.returns-in_err-operation_of-clause-help
 returns-in_err-operation_of-clause-help c =

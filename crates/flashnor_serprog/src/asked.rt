@@ -1,0 +1,46 @@
+//! What the arguments of a run ask for.
+ghost use Rattle.std.specs.Prelude.{IfErr, IfOk, map, string_bytes};
+ghost use Rattle.flashnor_serprog.specs.Run.{IsAskedByArguments, IsHelpAskedBy};
+
+use crate::help::HELP;
+use crate::setting::Setting;
+use crate::trouble::Trouble;
+use nor_args::{HardwareJob, Operation, operation_of};
+use std::alloc::Global;
+
+/// What the arguments ask for.
+#[derive(Drop)]
+pub enum Asked<'a> {
+    /// The list of chips.
+    List,
+    /// The description of the journal in the file of this name, and its image in the file `image` if there is a name.
+    Description {
+        file: &'a str,
+        image: Option<&'a str>,
+    },
+    /// An operation on the chip of a programmer.
+    Chip {
+        setting: Setting<'a>,
+        operation: Operation<'a>,
+    },
+}
+
+/// Returns what the arguments ask for, or their first fault. `names` receives the names of all `-i`.
+pub fn read_words<'a>(
+    alloc: Global,
+    words: &'a [String],
+    names: &'a mut Option<String>,
+) -> Result<Asked<'a>, Trouble<'a>>
+    ensures ok { IfOk result (IsAskedByArguments (map string_bytes words.now)) }
+    ensures help { IfErr result (IsHelpAskedBy (map string_bytes words.now)) }
+{
+    match operation_of(alloc, HELP, words, names)? {
+        HardwareJob::List => Ok(Asked::List),
+        HardwareJob::CheckJournal { file, image } => Ok(Asked::Description { file, image }),
+        HardwareJob::Chip(job) => {
+            let setting = Setting::read(job.programmer)?;
+            let operation = job.operation?;
+            Ok(Asked::Chip { setting, operation })
+        }
+    }
+}
