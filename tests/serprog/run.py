@@ -3,9 +3,9 @@
 
 The programmer is server.py, and its chip is a model from the datasheets (chip.py). The cases are in options.py,
 journals.py, locks.py, maps.py, chip_maps.py, regions.py, terminal.py, logs.py, backups.py, refusals.py, faults.py,
-wire.py, contact.py, rest.py, sectors.py, narrow.py, extract.py, ports.py, units.py, printed.py, typed.py and makers.py;
-manual.py and rescue.py play the manual page. bits.py tries each single wrong bit of each reply, and misses each single
-frame. losses.py kills the program, and loses replies, at each transaction of a session and of its restores; busy.py
+wire.py, contact.py, contacts.py, rest.py, sectors.py, narrow.py, extract.py, ports.py, units.py, printed.py, typed.py,
+makers.py and quad.py; manual.py and rescue.py play the manual page. bits.py tries each single wrong bit of each reply,
+and misses each single frame. losses.py kills the program, and loses replies, at each transaction of a session and of its restores; busy.py
 does so while the chip is busy.
 What the program must send and print is computed by reference.py, without the program.
 
@@ -26,6 +26,7 @@ import bits
 import busy
 import chip_maps
 import contact
+import contacts
 import extract
 import faults
 import journals
@@ -39,6 +40,7 @@ import narrow
 import options
 import ports
 import printed
+import quad
 import refusals
 import regions
 import rescue
@@ -53,6 +55,7 @@ from bench import Bench, Differs
 MODULES = (
     options, journals, maps, chip_maps, regions, terminal, backups, refusals, faults, wire, contact, rest, sectors, narrow,
     busy, ports, manual, rescue, logs, locks, units, extract, printed, typed, makers,
+    contacts, quad,
 )
 CASES = {case.__name__: case for module in MODULES for case in module.CASES}
 

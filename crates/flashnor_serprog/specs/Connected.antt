@@ -2,7 +2,9 @@
 use Rattle.std.specs.Prelude.{◌≡◌, ◌&&◌, ℕ, Bool, true, false, List, [], Option, None, Some, option_map, string_bytes, ⊤}
 use Rattle.nor_model.specs.Bus.{BusState}
 use Rattle.nor_buses.specs.Ahead.{ahead_of}
+use Rattle.nor_buses.specs.KeptQuad.{kept_by}
 use Rattle.nor_buses.specs.KnownStatus2.{known_by}
+use Rattle.nor_buses.specs.OtherMakers.{made_by}
 use Rattle.nor_buses.specs.SameChip.{checked_by}
 use Rattle.nor_buses.specs.Twice.{expected_of}
 use Rattle.nor_args.specs.Text.{Text}
@@ -20,7 +22,8 @@ device_of connected = string_bytes connected.device
 -- the image that the bus expects, if any: data that equals it is read once, all other data twice (`EndsTwice`)
 abbrev pub expected_by : Connected → Option (List ℕ)
 expected_by connected =
-    option_map (λ image. image.items) (expected_of (known_by (checked_by (ahead_of connected.bus.bus))))
+    option_map (λ image. image.items)
+    (expected_of (known_by (kept_by (made_by (checked_by (ahead_of connected.bus.bus))))))
 
 pub record IsUnused (state : BusState) : Type 0 where
   pub history : state.history ≡ []

@@ -126,9 +126,13 @@ impl fmt::Display for JobFault<'_> {
         match self {
             JobFault::Fault(fault) => write!(f, "{fault}"),
             JobFault::Protected { status1 } => {
+                let advice = match status1 & 0x7C {
+                    0x40 => MAYBE_QUAD,
+                    _ => PROTECTED,
+                };
                 write!(
                     f,
-                    "Chip fault 1: status 1 of this chip is {status1:02X}h. {PROTECTED}"
+                    "Chip fault 1: status 1 of this chip is {status1:02X}h. {advice}"
                 )
             }
             JobFault::NotStored { sent, found } => {
@@ -167,6 +171,11 @@ fn write_error<W: fmt::Write>(f: &mut fmt::Formatter<W>, error: &Refusal) -> fmt
 const PROTECTED: &str = "On nearly every chip its bits 2 to 6 protect sectors, and this program \
     doesn't know what they mean on this chip. Nothing was changed. Clear these bits with another \
     tool (flashrom --wp-disable, then flashrom --wp-range=0,0), and try again.";
+
+const MAYBE_QUAD: &str =
+    "Its bit 6 may protect sectors, as on Winbond's chips. Or it is QE, as on those of Macronix and ISSI, but \
+    then this chip's SFDP doesn't say so. Nothing was changed. If the datasheet says that bit 6 is QE, write \
+    this chip with another tool (flashrom), or clear QE if the board doesn't need it, and try again.";
 
 const DIFFERS: &str = "The sectors of this change were verified, so this address is probably in \
     another sector, which a disturbed address on the wire has erased or programmed. Restore the chip \

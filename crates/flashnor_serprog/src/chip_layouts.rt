@@ -6,7 +6,7 @@ ghost use Rattle.flashnor_serprog.specs.ChipLayouts.{IsShown, form_on_chip};
 ghost use Rattle.flashnor_serprog.specs.Regions.{regions_of};
 
 use crate::chip_faults::JobFault;
-use crate::connect::{Checks, ChipBus, connect_by};
+use crate::connect::{ChipBus, Rules, connect_by};
 use crate::following::{read_to_memory, sectors_to_read};
 use crate::progress::{Progress, Terminal};
 use crate::region_files::regions_of;
@@ -79,7 +79,7 @@ fn read_first<'a, 'b, E: Write>(
     ensures { IfOk result (λ chip. IsReadFirst (λ connected. ⟦<ChipBus<'b> as Bus>⟧.state connected.bus)
         setting.now.device.now operation.now.named form (held_by chip).bytes) }
 {
-    let mut connected = connect_by(rt, terminal, setting, None, None, Checks::Protection)?;
+    let mut connected = connect_by(rt, terminal, setting, None, Rules::reading())?;
     terminal.print(&READING);
     read_and_report(&mut connected.bus, operation, form, rt.alloc(), errors)
 }

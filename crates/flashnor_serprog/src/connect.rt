@@ -1,7 +1,9 @@
 //! Opens the device of a programmer and identifies the programmer.
 ghost use Rattle.std.specs.Prelude.{◌≡◌, [], IfOk, option_map, string_bytes};
 ghost use Rattle.nor_buses.specs.Checked.{bus_of, history_of as checked_history};
+ghost use Rattle.nor_buses.specs.KeptQuad.{kept_by};
 ghost use Rattle.nor_buses.specs.KnownStatus2.{known_by};
+ghost use Rattle.nor_buses.specs.OtherMakers.{made_by};
 ghost use Rattle.nor_buses.specs.SameChip.{checked_by};
 ghost use Rattle.nor_buses.specs.Twice.{expected_of, history_of, twice_of};
 ghost use Rattle.flashnor_serprog.specs.Connected.{IsUnused, device_of, expected_by};
@@ -11,7 +13,10 @@ use crate::port::{DevicePort, PortFault};
 use crate::progress::{Shown, StatusWrite, Terminal};
 use crate::setting::Setting;
 use crate::trouble::{ProgrammerFault, Trouble};
-use nor_buses::{CheckedStatus, KnownStatus2, Paced, ReadAhead, ReadTwice, SameChip, SplittingBus};
+use nor_buses::{
+    CheckedStatus, KeptQuad, KnownStatus2, OtherMakers, Paced, ReadAhead, ReadTwice, SameChip,
+    SplittingBus, Watched,
+};
 use nor_chip::Bus;
 use nor_console::{Fault, SystemReason};
 use nor_files::LockFile;
@@ -33,19 +38,28 @@ const WAKE: [u8; 13] = [
 const WAKE_REPLIES: u32 = 10;
 
 /// The bus to a chip at a serial programmer. Its layers, from the outside to the programmer: one shows the progress on
-/// standard error; one reads data ahead; one reads the unique ID again before the first modifying command; one reads
-/// status 2 only from a chip that is known to have the command; one reads IDs, SFDP and data twice; one reads status
-/// registers twice and checks status writes; one splits commands that are too long for the programmer; one pauses
-/// between the polls of a busy chip, also between the parts of a split program; and one sends several commands in one
-/// write to the port.
-pub type ChipBus<'a> = Shown<'a, ReadAhead<SameChip<KnownStatus2<TwiceBus<'a>>>>>;
+/// standard error; one reads data ahead; one reads the unique ID again before the first modifying command; one hides a
+/// unique ID that is none, and refuses chips without sectors of 4 KiB everywhere; one hides QE if it is bit 6 of status
+/// 1; one reads status 2 only from a chip that is known to have the command; one reads IDs, SFDP and data twice; one
+/// reads status registers twice and checks status writes; one splits commands that are too long for the programmer; one
+/// notices that a chip which seems to be busy has lost its contact; one pauses between the polls of a busy chip, also
+/// between the parts of a split program; and one sends several commands in one write to the port.
+pub type ChipBus<'a> = Shown<'a, ReadAhead<SameChip<MakersBus<'a>>>>;
 
-// The bus that reads IDs, SFDP and data twice, around the bus that checks the status registers.
-type TwiceBus<'a> = ReadTwice<CheckedStatus<PartsBus<'a>>>;
+// The bus that hides differences between the makers' chips, around the bus that reads twice.
+type MakersBus<'a> = OtherMakers<KeptQuad<KnownStatus2<TwiceBus<'a>>>>;
 
-// The inner layers of `ChipBus`: the bus that splits commands, around the bus that paces polls, around the bus that
-// sends commands together.
-type PartsBus<'a> = SplittingBus<Paced<BatchingBus<DevicePort>, &'a HostRuntime>>;
+/// The bus that reads IDs, SFDP and data twice, around the bus that checks the status registers.
+pub type TwiceBus<'a> = ReadTwice<CheckedStatus<PartsBus<'a>>>;
+
+// The inner layers of `ChipBus`: the bus that splits commands, around the bus that notices a lost chip, around the bus
+// that paces polls, around the bus that sends commands together.
+type PartsBus<'a> = SplittingBus<Watched<Paced<BatchingBus<DevicePort>, &'a HostRuntime>>>;
+
+/// Returns the layer of a bus that reads IDs, SFDP and data twice.
+pub fn twice_in<'b, 'a>(bus: &'b ChipBus<'a>) -> &'b TwiceBus<'a> {
+    bus.inner().inner().inner().inner().inner().inner()
+}
 
 /// A bus to the chip at a programmer, with the name of the programmer's device. Only `connect` creates a `Connected`.
 #[derive(Drop)]
@@ -75,8 +89,7 @@ pub fn connect_by<'a, 'b>(
     terminal: Terminal<'b>,
     setting: &Setting<'a>,
     image: Option<Vec<u8>>,
-    before: Option<[u8; 3]>,
-    checks: Checks,
+    rules: Rules,
 ) -> Result<Connected<'b>, Trouble<'a>>
     ensures fresh { IfOk result (λ connected. IsUnused (⟦<ChipBus<'b> as Bus>⟧.state connected.bus)) }
     ensures named { IfOk result (λ connected. device_of connected ≡ setting.now.device.now) }
@@ -90,8 +103,7 @@ pub fn connect_by<'a, 'b>(
         setting.hertz,
         setting.chip_select,
         image,
-        before,
-        checks,
+        rules,
     ) {
         Ok(connected) => Ok(connected),
         Err(unconnected) => {
@@ -148,9 +160,7 @@ impl From<ProgrammerFault> for Unconnected {
 // gets into a journal. If a sector was misread as equal to `image`, the comparison after a write detects the misread,
 // unless it misreads the sector in the same way; `-v` doesn't detect it.
 //
-// If `before` is given, an earlier run read status 2 of a chip with this ID, so 35h is sent to it, too.
-//
-// `checks` says which modifying commands the bus refuses.
+// `rules` says which modifying commands the bus refuses, and how it treats a chip without a row.
 fn connect<'a>(
     rt: &'a HostRuntime,
     terminal: Terminal<'a>,
@@ -158,8 +168,7 @@ fn connect<'a>(
     hertz: Option<u32>,
     chip_select: Option<u8>,
     image: Option<Vec<u8>>,
-    before: Option<[u8; 3]>,
-    checks: Checks,
+    rules: Rules,
 ) -> Result<Connected<'a>, Unconnected>
     ensures fresh { IfOk result (λ connected. IsUnused (⟦<ChipBus<'a> as Bus>⟧.state connected.bus)) }
     ensures named { IfOk result (λ connected. device_of connected ≡ string_bytes device) }
@@ -180,18 +189,48 @@ fn connect<'a>(
     }
     let longest_read = programmer.longest_read();
     let paced = Paced::new(BatchingBus::over(link, programmer), rt);
-    let splitting = SplittingBus::new(paced, programmer.longest_part(), longest_read);
-    let twice = reading_twice(checking(splitting, checks), image);
-    let known = KnownStatus2::new(twice, &WITH_STATUS2, before);
-    let bus = SameChip::new(known);
+    let watched = Watched::new(paced);
+    let splitting = SplittingBus::new(watched, programmer.longest_part(), longest_read);
+    let twice = reading_twice(checking(splitting, rules.checks), image);
+    let known = KnownStatus2::new(twice, &WITH_STATUS2, rules.before);
+    let kept = KeptQuad::new(known, &WITH_STATUS2, rules.hides_quad);
+    let other = OtherMakers::new(kept, rules.missing_unique, rules.refuses_uneven);
+    let bus = SameChip::new(other);
     Ok(Connected {
         device,
         bus: Shown::new(
             ReadAhead::new(bus, longest_read),
             terminal,
-            status_write_by(checks),
+            status_write_by(rules.checks),
         ),
     })
+}
+
+/// What the bus to a chip refuses, and how it treats a chip without a row.
+#[derive(Clone, Copy)]
+pub struct Rules {
+    pub checks: Checks,
+    /// The ID of a chip whose status 2 an earlier run read, so 35h is sent to it, too.
+    pub before: Option<[u8; 3]>,
+    /// Whether bit 6 of status 1 is returned as 0 if it is QE (`KeptQuad`).
+    pub hides_quad: bool,
+    /// Each byte of the unique ID of a chip that has none (`OtherMakers`).
+    pub missing_unique: u8,
+    /// Whether a chip that can't erase sectors of 4 KiB everywhere is refused (`OtherMakers`).
+    pub refuses_uneven: bool,
+}
+
+impl Rules {
+    /// Returns the rules of a job that only reads, and makes no journal.
+    pub fn reading() -> Rules {
+        Rules {
+            checks: Checks::Protection,
+            before: None,
+            hides_quad: false,
+            missing_unique: 0,
+            refuses_uneven: false,
+        }
+    }
 }
 
 /// Which modifying commands the bus to a chip refuses.

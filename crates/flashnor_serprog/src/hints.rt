@@ -13,7 +13,7 @@ use nor_args::{Change, Operation, Regions, Task};
 use nor_console::{Escaped, Fault, FileFault, SystemReason};
 use nor_journal::Journal;
 use nor_model::Status;
-use nor_probe::{ChipName, part_for};
+use nor_probe::{ChipName, SfdpFault, part_for};
 use nor_session::Refusal;
 use std::fmt;
 use std::io::Write;
@@ -176,6 +176,9 @@ fn found_and_expected<'a>(
     } = *known;
     match refusal {
         Refusal::NoChip => Some(Line::NoChip),
+        Refusal::UnknownChip(SfdpFault::NoSector) if replies.is_uneven => {
+            Some(Line::Uneven { id: replies.id? })
+        }
         Refusal::UnknownChip(_) => Some(Line::Unknown { id: replies.id? }),
         Refusal::ImageSize { .. } if regions_of(&operation.task).is_some() => Some(Line::Image),
         Refusal::RangeNotOffered => Some(Line::Ranges),
@@ -251,6 +254,10 @@ enum Line<'a> {
     Unknown {
         id: [u8; 3],
     },
+    // The chip doesn't erase sectors of 4 KiB everywhere.
+    Uneven {
+        id: [u8; 3],
+    },
     Image,
     Ranges,
     UnknownProtection {
@@ -295,6 +302,12 @@ impl fmt::Display for Line<'_> {
                 f,
                 "Its ID is {}. If another run finds another ID, check contacts, supply and wiring, or lower the clock \
                 (spispeed=).",
+                Hex(id)
+            ),
+            Line::Uneven { id } => write!(
+                f,
+                "Its ID is {}. Its SFDP doesn't say that it erases sectors of 4 KiB everywhere, so a restore could \
+                fail: change this chip with another tool.",
                 Hex(id)
             ),
             Line::Image => f.write_str(

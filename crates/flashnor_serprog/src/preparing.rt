@@ -10,7 +10,7 @@ ghost use Rattle.flashnor_serprog.specs.Sources.{ArePlainNames};
 
 use crate::backups::check_new;
 use crate::chip_layouts::{form_on_chip, read_shown};
-use crate::connect::{Checks, ChipBus, Connected, connect_by};
+use crate::connect::{Checks, ChipBus, Connected, Rules, connect_by};
 use crate::included::{Farthest, Included, find_included};
 use crate::jobs::is_session;
 use crate::region_files::{RegionFile, find_region_files, named_regions};
@@ -86,8 +86,8 @@ pub fn prepare<'a, 'b, R: Store<Log = LogFile<File>>, E: Write>(
     start_log(files, screen.log(), operation.log, keeps_log(operation))?;
     check_started(screen.log(), operation.log)?;
     print_replaced(errors, operation);
-    let before = id_before(operation, &sources.bytes);
-    let connected = connect_by(rt, terminal, setting, image, before, checks_for(operation))?;
+    let rules = rules_for(operation, &sources.bytes);
+    let connected = connect_by(rt, terminal, setting, image, rules)?;
     Ok(Prepared {
         regions,
         farthest,
@@ -106,14 +106,55 @@ fn checks_for(operation: &Operation<'_>) -> Checks {
     }
 }
 
-// The ID of the chip of a restore's journal with a status 2 other than 00h, so this chip has the command 35h. A session
-// of a chip that isn't known to have 35h stores 00h.
-fn id_before(operation: &Operation<'_>, bytes: &[u8]) -> Option<[u8; 3]> {
-    match (&operation.task, Journal::read(bytes)) {
-        (Task::Restore { .. }, Ok(journal)) if journal.status()[1] != 0 => Some(journal.id()),
-        _ => None,
+// Returns the rules of the bus for this operation. `bytes` has the journal of a restore.
+//
+// A change and a backup, which make a journal, need a chip that erases sectors of 4 KiB everywhere, because a restore
+// erases such sectors. They save QE as 0 if it is bit 6 of status 1, and a unique ID that is none as zeros. A restore
+// follows its journal: older versions of this program saved QE, and a missing unique ID as it was read.
+fn rules_for(operation: &Operation<'_>, bytes: &[u8]) -> Rules {
+    let reading = Rules::reading();
+    let checks = checks_for(operation);
+    match (&operation.task, checks) {
+        (_, Checks::Lock) => Rules { checks, ..reading },
+        (Task::Restore { .. }, _) => match Journal::read(bytes) {
+            Ok(journal) => Rules {
+                before: id_before(&journal),
+                hides_quad: journal.status()[0] & BIT6 == 0,
+                missing_unique: missing_in(journal.unique()),
+                ..reading
+            },
+            Err(_) => reading,
+        },
+        _ if operation.is_backup || is_session(&operation.task) => Rules {
+            checks,
+            hides_quad: true,
+            refuses_uneven: true,
+            ..reading
+        },
+        _ => reading,
     }
 }
+
+// Returns the ID of the chip from which a journal was made, if its session read a status 2 other than 00h. Then 35h was
+// sent to this chip before. A session of a chip that isn't known to have 35h stores 00h.
+fn id_before(journal: &Journal<'_>) -> Option<[u8; 3]> {
+    if journal.status()[1] != 0 {
+        Some(journal.id())
+    } else {
+        None
+    }
+}
+
+// Returns each byte of the unique ID of a chip that has none, as a journal with this unique ID shows it.
+fn missing_in(unique: Option<[u8; 8]>) -> u8 {
+    match unique {
+        Some([0xFF, 0xFF, 0xFF, 0xFF, 0xFF, 0xFF, 0xFF, 0xFF]) => 0xFF,
+        _ => 0,
+    }
+}
+
+// Bit 6 of status 1, which is QE on some chips.
+const BIT6: u8 = 0x40;
 
 // The log of the session that a restore undoes may be needed.
 fn keeps_log(operation: &Operation<'_>) -> bool {

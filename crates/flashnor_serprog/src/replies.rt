@@ -14,6 +14,8 @@ pub struct Replies {
     pub status: [u8; 2],
     // Double word 2 of the SFDP table: the size in bits.
     density: Option<u32>,
+    /// True if the SFDP table doesn't say that sectors of 4 KiB can be erased everywhere (JESD216, double word 1).
+    pub is_uneven: bool,
 }
 
 impl Replies {
@@ -26,8 +28,9 @@ impl Replies {
             ([0x4B, ..], [a, b, c, d, e, f, g, h]) => {
                 self.unique = Some([*a, *b, *c, *d, *e, *f, *g, *h]);
             }
-            ([0x5A, ..], [_, _, _, _, a, b, c, d, ..]) if reply.len() == TABLE_LEN => {
+            ([0x5A, ..], [erases, _, _, _, a, b, c, d, ..]) if reply.len() == TABLE_LEN => {
                 self.density = Some(u32::from_le_bytes([*a, *b, *c, *d]));
+                self.is_uneven = erases % 4 != 1;
             }
             _ => {}
         }

@@ -4,7 +4,7 @@ ghost use Rattle.std.specs.Prelude.{◌≡◌, ◌≤◌, true};
 ghost use Rattle.flashnor_serprog.specs.declared.stop_line.Left.TheVariants.{Unchanged};
 
 use crate::chip_faults::JobFault;
-use crate::connect::ChipBus;
+use crate::connect::{ChipBus, twice_in};
 use crate::hints::{Known, Saved, print_operation_hint, unlocks};
 use crate::included::Farthest;
 use crate::layout_lines::MapLines;
@@ -166,7 +166,7 @@ pub fn report_changed_byte<E: Write>(errors: &mut E, bus: &ChipBus<'_>, status: 
     ensures few { status ≤ 1 → result ≤ 1 }
     ensures failed { result ≡ 0 → status ≡ 0 }
 {
-    match bus.inner().inner().inner().inner().inner().changed_byte() {
+    match twice_in(bus).inner().changed_byte() {
         Some(changed) => {
             let _ = writeln!(errors, "{}", ChangedLine(changed));
             1
@@ -178,12 +178,14 @@ pub fn report_changed_byte<E: Write>(errors: &mut E, bus: &ChipBus<'_>, status: 
 // Prints the line that follows error 12: the cause, and what the job left.
 fn print_cause<E: Write>(errors: &mut E, bus: &ChipBus<'_>, left: Left<'_>) {
     let same = bus.inner().inner();
-    let twice = same.inner().inner();
+    let twice = twice_in(bus);
     let checked = twice.inner();
+    let watched = checked.inner().inner();
     let line = StopLine {
         other: same.other(),
-        failure: checked.inner().inner().inner().cause(),
+        failure: watched.inner().inner().cause(),
         status: checked.fault(),
+        is_lost: watched.is_lost(),
         differed: twice.differed(),
         left,
     };
@@ -195,7 +197,7 @@ fn left_after<'a>(fault: &JobFault<'_>, bus: &ChipBus<'_>, operation: &Operation
     if fault.follows_completion() {
         return Left::Completed;
     }
-    let begun = bus.inner().inner().inner().inner().inner().has_begun();
+    let begun = twice_in(bus).inner().has_begun();
     if begun && operation.srp0.is_some() {
         return Left::EitherLock;
     }

@@ -18,6 +18,8 @@ pub struct StopLine<'a> {
     pub failure: Option<&'a Failure<PortFault>>,
     /// Why the replies of the chip are not believed, or what was wrong with a status write, if something was.
     pub status: Option<CheckFault>,
+    /// True if the chip has lost its contact or its supply while the job waited for it.
+    pub is_lost: bool,
     /// True if two reads of the same bytes differed.
     pub differed: bool,
     /// What the job left.
@@ -104,6 +106,7 @@ impl fmt::Display for StopLine<'_> {
                     return Ok(());
                 }
             }
+            (None, None) if self.is_lost => f.write_str(LOST)?,
             (None, None) if self.differed => f.write_str(DIFFERED)?,
             (None, None) => f.write_str("Cause: unknown.")?,
         }
@@ -117,6 +120,10 @@ fn is_ignored(fault: CheckFault) -> bool {
         _ => false,
     }
 }
+
+const LOST: &str =
+    "Cause: the chip has no contact or no supply any more: its status and its ID are FFh in all bits. Check contacts \
+    and supply.";
 
 const UNPLUG: &str =
     "Disconnect the programmer from power for a second before the next run: it may wait for the rest of \

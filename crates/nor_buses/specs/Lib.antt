@@ -13,3 +13,6 @@ pub mod KnownStatus
 pub mod Checked
 pub mod SameChip
 pub mod KnownStatus2
+pub mod Watched
+pub mod OtherMakers
+pub mod KeptQuad

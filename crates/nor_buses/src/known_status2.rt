@@ -241,7 +241,7 @@ fn is_same(before: Option<[u8; 3]>, id: [u8; 3]) -> bool
 
 // Returns the address of double word 15, if the header of the first parameter table is `header`, and the table has this
 // double word (JESD216B, parameter headers).
-fn word_15_in(header: &[u8]) -> Option<u32> {
+pub(crate) fn word_15_in(header: &[u8]) -> Option<u32> {
     match header {
         [0, _, 1, words, low, middle, high, _] if *words >= WORDS => {
             Some(u32::from_le_bytes([*low, *middle, *high, 0]) + WORD_15)

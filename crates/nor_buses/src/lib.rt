@@ -15,29 +15,38 @@
 //! - `ahead.rt`: a bus that reads ahead
 //! - `same_chip.rt`: a bus that reads the unique ID again before the first modifying command
 //! - `known_status2.rt`: a bus that reads status 2 only from a chip that is known to have this command
+//! - `other_makers.rt`: a bus that hides a unique ID that is none, and refuses chips without sectors of 4 KiB everywhere
+//! - `kept_quad.rt`: a bus that hides QE, if it is bit 6 of status 1
+//! - `watched.rt`: a bus that notices that a chip which seems to be busy has lost its contact
 //! - `layers.rt`: all layers together, and that they are a well-behaved bus
 #![tactic(auto)]
 
 mod again;
 mod ahead;
 mod counts;
+mod kept_quad;
 mod known;
 mod known_status2;
 mod layers;
+mod other_makers;
 mod paced;
 mod parts;
 mod same_chip;
 mod splitting;
 mod status;
 mod twice;
+mod watched;
 
 pub use ahead::ReadAhead;
 pub use counts::ChangedByte;
+pub use kept_quad::KeptQuad;
 pub use known::CheckFault;
 pub use known_status2::KnownStatus2;
 pub use layers::{Layered, layers_are_well_behaved};
+pub use other_makers::OtherMakers;
 pub use paced::Paced;
 pub use same_chip::{OtherChip, SameChip};
 pub use splitting::SplittingBus;
 pub use status::CheckedStatus;
 pub use twice::ReadTwice;
+pub use watched::Watched;

@@ -1,0 +1,139 @@
+//! A bus that shows a chip without a unique ID, or without sectors of 4 KiB everywhere, as the engine expects it.
+ghost use Rattle.std.specs.Prelude.{◌≡◌, [], false, length, OnOk, OnErr};
+ghost use Rattle.std.proofs.lemmas.Bool.{false≢true};
+ghost use Rattle.nor_model.specs.Bus.{Transfers};
+ghost use Rattle.nor_model.specs.History.{begins_with, stopped};
+ghost use Rattle.nor_buses.specs.OtherMakers.{made_by, missing_as, refuses_uneven, history_of, other_makers_state};
+ghost use Rattle.nor_buses.specs.OtherMakers.{is_missing, is_unique_read, is_uneven, shown_as, ShowsReply};
+
+use nor_model::{Bus, History, Stopped};
+
+const READ_UNIQUE: u8 = 0x4B;
+
+const READ_SFDP: u8 = 0x5A;
+
+// The number of bytes of the SFDP table that identify a chip: double words 1 to 9.
+const TABLE: usize = 36;
+
+/// A bus that changes two replies of other makers' chips. It passes each transaction on unchanged.
+///
+/// - A unique ID (4Bh with eight reply bytes) that is FFh or 00h in all bytes is no unique ID: the chip ignores 4Bh,
+///   and the line keeps the level to which it is pulled, which another clip may change. In place of either, each byte
+///   of the reply is `missing`.
+/// - If `refuses_uneven` is true, the chip must erase sectors of 4 KiB everywhere. If bits 1 and 0 of double word 1 of
+///   the SFDP table (5Ah with 36 reply bytes) aren't 01b, it doesn't: 01b means that the erase of 4 KiB is available
+///   everywhere, and 11b that it isn't (JESD216, double word 1). Then the four opcodes of the table's erase types are
+///   returned as 00h, so that the table describes no erase of 4 KiB. Spansion S25FL128S, for example, has sectors of
+///   4 KiB only at one end, ignores their erase elsewhere, and could be neither written nor restored.
+///
+/// The history lists each transaction over this bus with its reply. In contracts, the chip is that of the bus inside.
+/// This bus is not well-behaved, because it returns other bytes than the chip.
+#[derive(Drop)]
+pub struct OtherMakers<B> {
+    bus: B,
+    missing: u8,
+    refuses_uneven: bool,
+    history: History,
+}
+
+impl<B: Bus + Drop> OtherMakers<B> {
+    /// Returns a bus over `bus`. `missing` is each byte of a unique ID that the chip doesn't have. `refuses_uneven`
+    /// says whether a chip must erase sectors of 4 KiB everywhere.
+    pub fn new(bus: B, missing: u8, refuses_uneven: bool) -> OtherMakers<B>
+        ensures bus { made_by result ≡ bus }
+        ensures missing { missing_as result ≡ missing }
+        ensures uneven { refuses_uneven result ≡ refuses_uneven }
+        ensures history { history_of result ≡ [] }
+    {
+        OtherMakers {
+            bus,
+            missing,
+            refuses_uneven,
+            history: History::new(),
+        }
+    }
+
+    /// Returns the bus inside, which carries out the transactions of this bus.
+    pub fn inner(&self) -> &B
+        ensures { result.now ≡ made_by self.now }
+    {
+        &self.bus
+    }
+}
+
+impl<B: Bus> Bus for OtherMakers<B> {
+    ghost state = { other_makers_state B.state };
+
+    ghost reaches = { λ other honest. absurd (false≢true honest) };
+
+    fn transfer(&mut self, out: &[u8], reply: &mut [u8]) -> Result<(), Stopped>
+        ensures law { Transfers out.now reply.old reply.new result
+            (other_makers_state B.state self.old) (other_makers_state B.state self.new) }
+        ensures missing { missing_as self.new ≡ missing_as self.old }
+        ensures uneven { refuses_uneven self.new ≡ refuses_uneven self.old }
+        ensures passes { begins_with 0x4B out.now ≡ false → begins_with 0x5A out.now ≡ false
+            → Transfers out.now reply.old reply.new result
+            (B.state (made_by self.old)) (B.state (made_by self.new)) }
+        ensures ok { OnOk result (ShowsReply (missing_as self.old) (refuses_uneven self.old) out.now reply.new
+            (B.state (made_by self.old)).history (B.state (made_by self.new)).history) }
+        ensures stops { OnErr result ((B.state (made_by self.new)).history
+            ≡ stopped out.now ∷ (B.state (made_by self.old)).history) }
+    {
+        match self.bus.transfer(out, reply) {
+            Ok(()) => {
+                show(self.missing, self.refuses_uneven, out, reply);
+                self.history = self.history.replied(out, reply);
+                Ok(())
+            }
+            Err(Stopped) => {
+                self.history = self.history.stopped(out);
+                Err(Stopped)
+            }
+        }
+    }
+
+    fn has_further_types(&self) -> bool {
+        self.bus.has_further_types()
+    }
+}
+
+// Makes of the reply to a transaction what this bus returns.
+fn show(missing: u8, refuses_uneven: bool, out: &[u8], reply: &mut [u8])
+    ensures { reply.new ≡ shown_as missing refuses_uneven out.now reply.old }
+{
+    if is_unique_read(out) && is_missing(reply) {
+        reply.fill(missing);
+    } else if refuses_uneven && is_uneven(out, reply) {
+        reply[29] = 0;
+        reply[31] = 0;
+        reply[33] = 0;
+        reply[35] = 0;
+    }
+}
+
+// Returns whether a transaction begins with the opcode of a read of the unique ID.
+fn is_unique_read(out: &[u8]) -> bool
+    ensures { result ≡ is_unique_read out.now }
+{
+    matches!(out, [READ_UNIQUE, ..])
+}
+
+// Returns whether a reply is eight bytes FFh, or eight bytes 00h.
+fn is_missing(reply: &[u8]) -> bool
+    ensures { result ≡ is_missing reply.now }
+{
+    if reply.len() != 8 {
+        return false;
+    }
+    let mut unique = [0; 8];
+    unique.copy_from_slice(reply);
+    unique == [0xFF; 8] || unique == [0; 8]
+}
+
+// Returns whether a transaction reads an SFDP table, and the table doesn't say that sectors of 4 KiB can be erased
+// everywhere.
+fn is_uneven(out: &[u8], reply: &[u8]) -> bool
+    ensures { result ≡ is_uneven out.now reply.now }
+{
+    matches!(out, [READ_SFDP, ..]) && reply.len() == TABLE && reply[0] % 4 != 1
+}

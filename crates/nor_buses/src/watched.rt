@@ -1,0 +1,219 @@
+//! A bus that notices that a chip which seems to be busy has lost its contact or its supply.
+ghost use Rattle.std.specs.Prelude.{◌≡◌, ◌⊎◌, ◌∷◌, [], true, false, OnErr, OnOk};
+ghost use Rattle.std.proofs.lemmas.Bool.{false≢true};
+ghost use Rattle.nor_model.specs.Bus.{Transfers};
+ghost use Rattle.nor_model.specs.History.{replied, stopped};
+ghost use Rattle.nor_buses.specs.Watched.{watched_by, is_lost, row_in, has_status, history_of, watched_state};
+ghost use Rattle.nor_buses.specs.Watched.{is_undriven, row_after, status_after, looks_after, HasLooked, HasFoundLost};
+
+use nor_model::{Bus, History, Stopped};
+
+const READ_STATUS1: u8 = 0x05;
+
+const READ_ID: u8 = 0x9F;
+
+// Each received byte if no chip drives the line, and a pull-up does.
+const UNDRIVEN: u8 = 0xFF;
+
+// After this number of polls in a row with only FFh the ID is read. With the pauses of `Paced` they take 1.5 seconds,
+// and longer over a slow wire.
+const LOOK_AFTER: u32 = 256;
+
+// A status 1 of at least this value has all bits set except WEL and BUSY, so it becomes FFh while the chip is busy.
+const ALL_SET: u8 = 0xFC;
+
+/// A bus that stops if the chip has lost its contact or its supply while the caller waits for it. Each reply is FFh
+/// then, which looks like BUSY, so without this bus a wait uses up its 65,536 polls and takes minutes.
+///
+/// After 256 polls (05h) in a row whose replies had only bytes FFh, this bus reads the ID (9Fh). If the ID is FFFFFFh,
+/// this bus and each later transaction stop, and nothing more is sent. Any other transaction is passed on unchanged.
+///
+/// A chip that is really busy is waited for. It ignores 9Fh, so its ID may be read as FFFFFFh; but in status 1 it still
+/// shows its protection bits and SRP0, which no erase and no program changes (W25Q64FV datasheet, Status Registers).
+/// They are all set only if status 1 was FCh or more when it was last read with another value than FFh. Then the ID is
+/// not read, and neither is it if no poll returned another value yet. A status write may set all these bits, but ends
+/// after at most 30 ms, before 256 polls.
+///
+/// A line that is pulled low reads as 00h. That shows that the chip is ready, so the wait ends at once, and
+/// `CheckedStatus` finds the other ID.
+///
+/// The history lists each transaction over this bus with its reply. In contracts, the chip is that of the bus inside.
+/// This bus is not claimed to be well-behaved.
+#[derive(Drop)]
+pub struct Watched<B> {
+    bus: B,
+    // How many of the last transactions were polls in a row with only FFh, at most `LOOK_AFTER`.
+    row: u32,
+    // True if the last poll with another reply returned a status 1 below `ALL_SET`.
+    has_status: bool,
+    is_lost: bool,
+    history: History,
+}
+
+impl<B: Bus + Drop> Watched<B> {
+    /// Returns a bus over `bus` that notices a lost chip.
+    pub fn new(bus: B) -> Watched<B>
+        ensures bus { watched_by result ≡ bus }
+        ensures lost { is_lost result ≡ false }
+        ensures row { row_in result ≡ 0 }
+        ensures status { has_status result ≡ false }
+        ensures history { history_of result ≡ [] }
+    {
+        Watched {
+            bus,
+            row: 0,
+            has_status: false,
+            is_lost: false,
+            history: History::new(),
+        }
+    }
+
+    /// Returns the bus inside, which carries out the transactions of this bus.
+    pub fn inner(&self) -> &B
+        ensures { result.now ≡ watched_by self.now }
+    {
+        &self.bus
+    }
+
+    /// Returns whether the chip has lost its contact or its supply.
+    pub fn is_lost(&self) -> bool
+        ensures { result ≡ is_lost self.now }
+    {
+        self.is_lost
+    }
+}
+
+impl<B: Bus> Watched<B> {
+    // Records the reply to a transaction.
+    fn count(&mut self, out: &[u8], reply: &[u8])
+        ensures history { history_of self.new ≡ history_of self.old }
+        ensures bus { watched_by self.new ≡ watched_by self.old }
+        ensures lost { is_lost self.new ≡ is_lost self.old }
+        ensures row { row_in self.new ≡ row_after out.now reply.now (row_in self.old) }
+        ensures status { has_status self.new ≡ status_after out.now reply.now (has_status self.old) }
+    {
+        self.has_status = status_after(out, reply, self.has_status);
+        self.row = match is_undriven(out, reply) {
+            true if self.row < LOOK_AFTER => self.row + 1,
+            true => LOOK_AFTER,
+            false => 0,
+        };
+    }
+
+    // Reads the ID. If it is FFFFFFh, the chip is lost.
+    fn look(&mut self) -> Result<(), Stopped>
+        ensures history { history_of self.new ≡ history_of self.old }
+        ensures looked { HasLooked (B.state (watched_by self.old)).history (B.state (watched_by self.new)).history }
+        ensures found { is_lost self.old ≡ false → is_lost self.new ≡ true → (B.state (watched_by self.new)).history
+            ≡ replied (0x9F ∷ []) (255 ∷ 255 ∷ 255 ∷ []) ∷ (B.state (watched_by self.old)).history }
+        ensures there { is_lost self.old ≡ false → OnOk result (is_lost self.new ≡ false) }
+    {
+        let mut id = [0; 3];
+        self.bus.transfer(&[READ_ID], &mut id)?;
+        if id == [UNDRIVEN; 3] {
+            self.is_lost = true;
+            return Err(Stopped);
+        }
+        Ok(())
+    }
+
+    // Makes one transaction, and does not add it to the history.
+    fn carry(&mut self, out: &[u8], reply: &mut [u8]) -> Result<(), Stopped>
+        ensures history { history_of self.new ≡ history_of self.old }
+        ensures silent { is_lost self.old ≡ true → (self.new ≡ self.old) × OnOk result ⊥ }
+        ensures passes { is_lost self.old ≡ false
+            → looks_after out.now reply.new (row_in self.old) (has_status self.old) ≡ false
+            → Transfers out.now reply.old reply.new result
+            (B.state (watched_by self.old)) (B.state (watched_by self.new)) }
+        ensures looks { is_lost self.old ≡ false
+            → looks_after out.now reply.new (row_in self.old) (has_status self.old) ≡ true
+            → OnOk result (HasLooked (replied out.now reply.new ∷ (B.state (watched_by self.old)).history)
+            (B.state (watched_by self.new)).history) }
+        ensures stops { is_lost self.old ≡ false → OnErr result (((B.state (watched_by self.new)).history
+            ≡ stopped out.now ∷ (B.state (watched_by self.old)).history)
+            ⊎ HasLooked (replied out.now reply.new ∷ (B.state (watched_by self.old)).history)
+            (B.state (watched_by self.new)).history) }
+        ensures found { is_lost self.old ≡ false → is_lost self.new ≡ true
+            → HasFoundLost out.now reply.new (row_in self.old) (has_status self.old)
+            (B.state (watched_by self.old)).history (B.state (watched_by self.new)).history }
+        ensures there { OnOk result (is_lost self.new ≡ false) }
+    {
+        if self.is_lost {
+            return Err(Stopped);
+        }
+        self.bus.transfer(out, reply)?;
+        self.count(out, reply);
+        if self.row >= LOOK_AFTER && self.has_status {
+            self.row = 0;
+            return self.look();
+        }
+        Ok(())
+    }
+}
+
+impl<B: Bus> Bus for Watched<B> {
+    ghost state = { watched_state B.state };
+
+    ghost reaches = { λ watched honest. absurd (false≢true honest) };
+
+    fn transfer(&mut self, out: &[u8], reply: &mut [u8]) -> Result<(), Stopped>
+        ensures law { Transfers out.now reply.old reply.new result
+            (watched_state B.state self.old) (watched_state B.state self.new) }
+        ensures silent { is_lost self.old ≡ true → (watched_by self.new ≡ watched_by self.old)
+            × (is_lost self.new ≡ true) × OnOk result ⊥ }
+        ensures passes { is_lost self.old ≡ false
+            → looks_after out.now reply.new (row_in self.old) (has_status self.old) ≡ false
+            → Transfers out.now reply.old reply.new result
+            (B.state (watched_by self.old)) (B.state (watched_by self.new)) }
+        ensures looks { is_lost self.old ≡ false
+            → looks_after out.now reply.new (row_in self.old) (has_status self.old) ≡ true
+            → OnOk result (HasLooked (replied out.now reply.new ∷ (B.state (watched_by self.old)).history)
+            (B.state (watched_by self.new)).history) }
+        ensures stops { is_lost self.old ≡ false → OnErr result (((B.state (watched_by self.new)).history
+            ≡ stopped out.now ∷ (B.state (watched_by self.old)).history)
+            ⊎ HasLooked (replied out.now reply.new ∷ (B.state (watched_by self.old)).history)
+            (B.state (watched_by self.new)).history) }
+        ensures found { is_lost self.old ≡ false → is_lost self.new ≡ true
+            → HasFoundLost out.now reply.new (row_in self.old) (has_status self.old)
+            (B.state (watched_by self.old)).history (B.state (watched_by self.new)).history }
+        ensures there { OnOk result (is_lost self.new ≡ false) }
+    {
+        match self.carry(out, reply) {
+            Ok(()) => {
+                self.history = self.history.replied(out, reply);
+                Ok(())
+            }
+            Err(Stopped) => {
+                self.history = self.history.stopped(out);
+                Err(Stopped)
+            }
+        }
+    }
+
+    fn has_further_types(&self) -> bool {
+        self.bus.has_further_types()
+    }
+}
+
+// Returns whether a transaction is a poll whose reply is one or two bytes FFh.
+fn is_undriven(out: &[u8], reply: &[u8]) -> bool
+    ensures { result ≡ is_undriven out.now reply.now }
+{
+    match (out, reply) {
+        ([READ_STATUS1], [one]) => *one == UNDRIVEN,
+        ([READ_STATUS1], [one, two]) => *one == UNDRIVEN && *two == UNDRIVEN,
+        _ => false,
+    }
+}
+
+// Returns whether the last poll with another reply than FFh returned a status 1 below `ALL_SET`, after a transaction.
+// `known` is the result before it.
+fn status_after(out: &[u8], reply: &[u8], known: bool) -> bool
+    ensures { result ≡ status_after out.now reply.now known }
+{
+    match (out, reply) {
+        ([READ_STATUS1], [one]) if *one != UNDRIVEN => *one < ALL_SET,
+        ([READ_STATUS1], [_, two]) if !is_undriven(out, reply) => *two < ALL_SET,
+        _ => known,
+    }
+}

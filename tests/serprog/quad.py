@@ -1,0 +1,113 @@
+"""Cases of chips found by SFDP: QE in bit 6 of status 1, no erase of 4 KiB everywhere, and no unique ID.
+
+QE is in bit 6 of status 1 if the quad enable requirements (JESD216B, double word 15, bits 22 to 20) are 010b. A chip
+erases 4 KiB everywhere only if bits 1 and 0 of double word 1 are 01b (JESD216). A chip that ignores 4Bh leaves the line
+floating, so its unique ID is read as FFh or 00h in all bytes.
+"""
+import reference
+from bench import check
+from chip import PARTS
+from losses import FEW, chip_images
+from makers import connect, table
+
+QE = 0x40
+FULL, NONE = b"\xff" * 8, bytes(8)
+# The lines of a chip that doesn't erase 4 KiB everywhere.
+UNEVEN = ["Error 2: unknown chip, SFDP fault 8.",
+          "Its ID is fe1010. Its SFDP doesn't say that it erases sectors of 4 KiB everywhere, so a restore could fail: "
+          "change this chip with another tool."]
+MAYBE_QUAD = "Chip fault 1: status 1 of this chip is 40h. Its bit 6 may protect sectors, as on Winbond's chips."
+WRITES = (b"\x01", b"\x02", b"\x06", b"\x20", b"\x52", b"\xd8", b"\xc7")
+
+
+def modifies(bench):
+    """Returns whether a modifying command was sent in the last run."""
+    return any(out[:1] in WRITES for out, _ in bench.server.log)
+
+
+def keeps_quad(start):
+    """A chip with QE in bit 6 is backed up, written, erased and restored. QE stays set, and no status write is sent."""
+    bench, old, new = connect(start, 0b010, status=bytes([QE, 0]))
+    found = reference.found("TINY64")
+    for words in (("--backup", "b"), ("-w", "new", "--journal", "j")):
+        check(f"exit status of {words}", bench.run(*words).status, 0)
+    bench.check_chip(new, bytes([QE, 0]))
+    bench.check_file("j", reference.journal("TINY64", old, FEW))
+    bench.expect("--restore", "j", out=[found, reference.report(reference.restore("TINY64", old, FEW), len(FEW))])
+    bench.check_chip(old, bytes([QE, 0]))
+    check("the erase", bench.run("-E", "--journal", "k").status, 0)
+    check("the restore of the backup", bench.run("--restore", "b").status, 0)
+    bench.check_chip(old, bytes([QE, 0]))
+    check("status writes", [out for out, _ in bench.server.log if out[:1] == b"\x01"], [])
+
+
+def restores_saved_quad(start):
+    """A journal that has bit 6 set, as older versions wrote it, restores the chip that still has it."""
+    old, new = chip_images(FEW)
+    bench, _, _ = connect(start, 0b010, status=bytes([QE, 0]))
+    bench.write("j", reference.journal("TINY64", old, FEW, bytes([QE, 0])))
+    bench.chip.data[:] = new
+    check("exit status", bench.run("--restore", "j").status, 0)
+    bench.check_chip(old, bytes([QE, 0]))
+
+
+def refuses_other_bits(start):
+    """Bit 6 is no QE for any other requirements, nor are bits 2 to 5 for these: chip fault 1, before a journal."""
+    for requirements, status in ((None, QE), (0b000, QE), (0b001, QE), (0b011, QE), (0b100, QE), (0b101, QE),
+                                 (0b110, QE), (0b111, QE), (0b010, QE | 0x04), (0b010, 0x20)):
+        bench, old, _ = connect(start, requirements, enters_qpi=False, status=bytes([status, 0]))
+        got = bench.run("-w", "new", "--journal", "j")
+        check(f"exit status with {requirements} and {status:02x}", got.status, 1)
+        shown = status & ~QE if requirements == 0b010 else status
+        check("the line", got.err[0].startswith(f"Chip fault 1: status 1 of this chip is {shown:02X}h."), True)
+        check("the advice", got.err[0].startswith(MAYBE_QUAD), shown == QE)
+        bench.check_absent("j")
+        check("modifying commands", modifies(bench), False)
+        bench.check_chip(old, bytes([status, 0]))
+
+
+def needs_even_sectors(start):
+    """A chip that doesn't erase 4 KiB everywhere is read and compared. It gets no journal and no modifying command."""
+    for bits in 0b11, 0b00, 0b10:
+        bench, old, _ = connect(start, None)
+        changed = bytearray(table(bench.chip.size, None))
+        changed[16] = changed[16] & ~3 | bits
+        bench.chip.table = bytes(changed)
+        for words in (("-w", "new", "--journal", "j"), ("-E", "--journal", "j"), ("--backup", "j")):
+            bench.expect(*words, err=UNEVEN)
+            bench.check_absent("j")
+            check(f"modifying commands in {words}", modifies(bench), False)
+        bench.expect("-r", "out", out=[reference.found("TINY64"), "Read 65536 bytes."])
+        bench.check_file("out", old)
+        check("the comparison", bench.run("-v", "out").status, 0)
+        bench.check_chip(old)
+
+
+def takes_no_floating_id(start):
+    """A unique ID of FFh or 00h in all bytes is none: the journal has zeros, and restores with either level."""
+    old, new = chip_images(FEW)
+    for before in FULL, NONE:
+        for after in FULL, NONE:
+            bench = start(data=old, unique=before)
+            bench.write("new", new)
+            check("the session", bench.run("-w", "new", "--journal", "j").status, 0)
+            bench.check_file("j", reference.journal("TINY64", old, FEW))
+            bench.chip.unique = after
+            check("the restore", bench.run("--restore", "j").status, 0)
+            bench.check_chip(old)
+
+
+def restores_a_floating_id(start):
+    """A journal whose unique ID is FFh in all bytes, as older versions wrote it, restores with either level."""
+    old, new = chip_images(FEW)
+    for unique, status in ((FULL, 0), (NONE, 0), (b"\xff" * 7 + b"\xfe", 1), (b"\0" * 7 + b"\1", 1)):
+        bench = start(data=new, unique=unique)
+        bench.write("j", reference.journal("TINY64", old, FEW, b"\0\0", FULL))
+        got = bench.run("--restore", "j")
+        check(f"exit status with {unique.hex()}, {got.err}", got.status, status)
+        bench.check_chip(new if status else old)
+    check("the part", PARTS["TINY64"].has_row, False)
+
+
+CASES = [keeps_quad, restores_saved_quad, refuses_other_bits, needs_even_sectors, takes_no_floating_id,
+         restores_a_floating_id]
