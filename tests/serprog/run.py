@@ -3,7 +3,8 @@
 
 The programmer is server.py, and its chip is a model from the datasheets (chip.py). The cases are in options.py,
 journals.py, locks.py, maps.py, chip_maps.py, regions.py, terminal.py, logs.py, backups.py, refusals.py, faults.py,
-wire.py, contact.py, rest.py, sectors.py, narrow.py, extract.py, ports.py, units.py, printed.py, typed.py and makers.py;
+wire.py, contact.py, rest.py, sectors.py, narrow.py, extract.py, ports.py, units.py, printed.py, typed.py, makers.py and
+all_makers.py;
 manual.py and rescue.py play the manual page. bits.py tries each single wrong bit of each reply, and misses each single
 frame. losses.py kills the program, and loses replies, at each transaction of a session and of its restores; busy.py
 does so while the chip is busy.
@@ -21,6 +22,7 @@ from concurrent.futures import ProcessPoolExecutor
 from functools import partial
 from pathlib import Path
 
+import all_makers
 import backups
 import bits
 import busy
@@ -53,6 +55,7 @@ from bench import Bench, Differs
 MODULES = (
     options, journals, maps, chip_maps, regions, terminal, backups, refusals, faults, wire, contact, rest, sectors, narrow,
     busy, ports, manual, rescue, logs, locks, units, extract, printed, typed, makers,
+    all_makers,
 )
 CASES = {case.__name__: case for module in MODULES for case in module.CASES}
 
