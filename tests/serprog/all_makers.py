@@ -14,29 +14,41 @@ from models import Model, action_of
 
 SECTOR, BLOCK = 4096, 65536
 READS = ("data", "status", "id", "sfdp", "unique", "wake")
-# What a session is stopped at, as (operation, poll), and its restore. The first operation erases, the last ones program.
+# What a session is stopped at, as (operation, poll), and its restore. The first ones erase, and the last ones program.
 STOPS = (("kill", (1, 0)), ("power", (1, 1)), ("lose", (2, 0)), ("power", (3, 0)), ("kill", (6, 1)), ("power", (9, 0)),
          ("dip", (2, 0)), ("dip", (8, 0)))
 RESTORE_STOPS = (("power", (1, 0)), ("kill", (4, 0)))
+# A write of the regions that contain what changes, without the comparison of the whole chip.
+IN_REGIONS = "-w", "new", "-N", "-l", "layout", "-i", "low", "-i", "block", "-i", "high", "--journal"
 # Each reply byte of a line that nobody drives.
 LEVELS = 0xFF, 0x00
 
 
 class Refused(NamedTuple):
-    """The beginnings of the lines of each job, or of `-w` and `-E` only, if `reads` is true."""
+    """The beginnings of the lines of the jobs that are refused. The other jobs only read, and succeed."""
 
     err: tuple
-    reads: bool = False
+    jobs: tuple
 
 
-NO_SECTORS = Refused(("Error 2: unknown chip, SFDP fault 8.",))
-PROTECTED = Refused(("Chip fault 1: status 1 of this chip is ",), True)
-# The chips that are refused. All others are written.
+CHANGES = ("-w", "new", "--journal", "j"), ("-E", "--journal", "j")
+BACKUP = ("--backup", "j")
+READINGS = (), ("--flash-size",), ("-r", "out")
+NO_SECTORS = Refused(("Error 2: unknown chip, SFDP fault 8.",), (*CHANGES, BACKUP))
+PROTECTED = Refused(("Chip fault 1: status 1 of this chip is ",), CHANGES)
+
+
+def unknown(fault):
+    return Refused((f"Error 2: unknown chip, SFDP fault {fault}.",), (*CHANGES, BACKUP, *READINGS, ("--wp-status",)))
+
+
+# The chips that are refused. All others are written. 32 MiB; no SFDP; 256 KiB sectors; 4 KiB sectors at one end.
 REFUSED = {
-    "W25Q256JV": Refused(("Error 2: unknown chip, SFDP fault 7.",)),
-    "MX25L6405D": Refused(("Error 2: unknown chip, SFDP fault 1.",)),
-    "S25FL128S-256": NO_SECTORS, "S25FL128S": NO_SECTORS, "S25FL128S-top": NO_SECTORS, "S25FL128S-old": NO_SECTORS,
+    "W25Q256JV": unknown(7), "MX25L6405D": unknown(1), "S25FL128S-256": unknown(8),
+    "S25FL128S": NO_SECTORS, "S25FL128S-top": NO_SECTORS, "S25FL128S-old": NO_SECTORS,
 }
+# The chips whose SFDP says that bit 6 of status 1 is QE, which is no protection bit and isn't restored.
+QUAD = "MX25L12873G", "IS25LP064", "IS25LP128"
 # Chips with another status 1 than from the factory: QE in bit 6, BP0, and all that protects.
 STATUS = {
     "MX25L12835F": (0x40, PROTECTED), "MX25L6436F": (0x04, PROTECTED), "IS25LP064": (0x40, None),
@@ -105,8 +117,8 @@ class Play:
         got = self.run(*words)
         check(f"exit status of {words}, {got.err}", got.status, 0)
         check(f"the first line of {words}", f"({self.it.id.hex()}), {self.it.size} bytes." in got.out[0], True)
-        for begins, line in zip(out, got.out[1:], strict=True):
-            check(f"a line of {words}", line[: len(begins)], begins)
+        lines = tuple(line[: len(begins)] for begins, line in zip(out, got.out[1:]))
+        check(f"how the next lines of {words} begin", lines, out)
 
     def check_chip(self, data):
         check_data(f"the chip {self.it.name}", bytes(self.chip.data), data)
@@ -120,16 +132,14 @@ class Play:
             check("the unique ID", unique in (b"\xff" * 8, bytes(8)), True)
         else:
             check("the unique ID", unique, self.it.unique[:8])
-        second = self.registers[1] if self.reads_status_2() else 0
-        wanted = b"NORUNDO2" + self.it.id + unique + bytes([self.registers[0], second])
+        second = self.registers[1] if 0x35 in {out[0] for out, _ in self.bench.server.log} else 0
+        first = self.registers[0] & ~0x40 if self.it.name in QUAD else self.registers[0]
+        wanted = b"NORUNDO2" + self.it.id + unique + bytes([first, second])
         wanted += self.it.size.to_bytes(4, "little")
         for number in numbers:
             wanted += number.to_bytes(4, "little") + self.old[number * SECTOR : (number + 1) * SECTOR]
         wanted += b"\xff" * 4
         check_data(name, found, wanted + hashlib.sha256(wanted).digest())
-
-    def reads_status_2(self):
-        return any(out[0] == 0x35 for out, _ in self.bench.server.log)
 
 
 def identifies(play):
@@ -140,8 +150,8 @@ def identifies(play):
     play.check_chip(play.old)
 
 
-def is_written(play, level):
-    """The whole chip: a backup, a write, the comparison, and a restore while floating lines have this level."""
+def is_written(play):
+    """The whole chip: a backup, a write, the comparison, and a restore."""
     play.expect("--backup", "b", out=("Read ",))
     play.only_reads("--backup")
     play.check_journal("b", range(play.it.size // SECTOR))
@@ -150,17 +160,15 @@ def is_written(play, level):
     play.check_journal("j", play.changed)
     play.expect("-v", "new", out=("Verified.",))
     play.only_reads("-v")
-    play.chip.floating = level
     play.expect("--restore", "j", out=("Done: ",))
     play.check_chip(play.old)
 
 
 def is_restored(play):
     """Interrupted sessions in regions, each with a restore, which is interrupted too in the last two."""
-    words = "-w", "new", "-l", "layout", "-i", "low", "-i", "block", "-i", "high", "--journal"
     for number, (event, at) in enumerate(STOPS):
         journal = f"j{number}"
-        stop(play, (*words, journal), event, at)
+        stop(play, (*IN_REGIONS, journal), event, at)
         if number < len(RESTORE_STOPS):
             stop(play, ("--restore", journal, "-N"), *RESTORE_STOPS[number])
         play.expect("--restore", journal, "-N", out=("Done: ",))
@@ -195,17 +203,19 @@ def is_protected(play):
 
 
 def is_refused(play, refused):
-    """No job sends anything but reads, and no journal is created."""
-    jobs = [("-w", "new", "--journal", "j"), ("-E", "--journal", "j")]
-    if not refused.reads:
-        jobs += [(), ("--flash-size",), ("-r", "out"), ("-v", "new"), ("--backup", "j"), ("--wp-status",)]
-    for words in jobs:
+    """The refused jobs send only reads, and create no journal. The others read the chip."""
+    for words in refused.jobs:
         got = play.run(*words)
         begins = tuple(line[: len(wanted)] for wanted, line in zip(refused.err, got.err))
         check(f"the refusal of {words}", (begins, got.out, got.status), (refused.err, [], 1))
         play.only_reads(words)
         play.bench.check_absent("j")
         play.check_chip(play.old)
+    if READINGS[0] not in refused.jobs:
+        identifies(play)
+        play.expect("-r", "out", out=("Read ",))
+        play.only_reads("-r")
+        play.bench.check_file("out", play.old)
 
 
 # The chips whose ID is in the program's table: only their protected range is changed.
@@ -216,12 +226,20 @@ def writes(start, it):
     """identified, backed up, written, compared and restored, and each byte and status bit is as it must be"""
     play = Play(start, it)
     identifies(play)
-    is_written(play, LEVELS[0])
+    is_written(play)
 
 
 def moves(start, it):
     """restored at another clip, whose floating lines have another level"""
-    is_written(Play(start, it), LEVELS[1])
+    play = Play(start, it)
+    for before, after in (LEVELS, LEVELS[::-1]):
+        journal = f"j{before}"
+        play.chip.floating = before
+        play.expect(*IN_REGIONS, journal, out=("Done: ",))
+        play.check_chip(play.new)
+        play.chip.floating = after
+        play.expect("--restore", journal, "-N", out=("Done: ",))
+        play.check_chip(play.old)
 
 
 def stops(start, it):
@@ -232,6 +250,19 @@ def stops(start, it):
 def protects(start, it):
     """protected in half, refused a write there, and restored to no protection"""
     is_protected(Play(start, it))
+
+
+def has_own_locks(start, it):
+    """left as it was if WPS is set, and restored when WPS is clear"""
+    play = Play(start, it)
+    play.chip.status[2] |= 4
+    got = play.bench.run("-w", "new", "--journal", "j")
+    check("the write", (got.err[0][:9], got.status), ("Error 14:", 1))
+    play.chip.status[2] &= ~4
+    play.chip.ignored.clear()
+    play.check_chip(play.old)
+    play.expect("--restore", "j", out=("Done: ",))
+    play.check_chip(play.old)
 
 
 def refuses(start, it):
@@ -246,7 +277,7 @@ def has_status(start, it):
     if refused:
         is_refused(play, refused)
     else:
-        is_written(play, LEVELS[0])
+        is_written(play)
 
 
 def case_of(played, it):
@@ -260,8 +291,11 @@ def case_of(played, it):
 
 def cases():
     for it in ALL.values():
-        for played in [refuses] if it.name in REFUSED else [writes, moves, stops]:
+        for played in (refuses,) if it.name in REFUSED else (writes, stops):
             yield case_of(played, it)
+        if it.name not in REFUSED and not {0x35, 0x4B} <= set(it.opcodes):
+            yield case_of(moves, it)
+    yield case_of(has_own_locks, ALL["W25Q128JV"])
     yield from (case_of(protects, ALL[name]) for name in ROWS)
     yield from (case_of(has_status, ALL[name]) for name in STATUS)
 

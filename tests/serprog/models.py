@@ -53,10 +53,10 @@ def with_own_locks(registers, size):
 class Description(NamedTuple):
     """What the datasheet says of a chip. `sources` are its sections.
 
-    An opcode's action has the name of a method of `Model`, without `do_`, and its arguments. The registers are status 1,
-    status 2 or the configuration register, and status 3: their values from the factory, which of their bits a status
-    write changes, and which of these it can only set. The bits `errors` of status 1 are set by a program and by an erase
-    that is refused; the chip then stays busy. `idle` are the opcodes that also a busy chip carries out.
+    An opcode's action has the name of a method of `Model`, without `do_`, and its arguments. The registers are status
+    1, status 2 or the configuration register, and status 3: their values from the factory, which of their bits a status
+    write changes, and which of these it can only set. The bits `errors` of status 1 are set by a refused program and a
+    refused erase, and then the chip stays busy. `idle` are the opcodes that a busy chip carries out, too.
     """
 
     name: str
@@ -107,7 +107,7 @@ class Model:
         self.wel = self.is_asleep = self.is_in_qpi = self.is_armed = self.has_four = self.is_stuck = False
 
     def tear(self):
-        """Leaves what an interrupted operation leaves: any bytes of an erase, some bits of a program or status write."""
+        """Interrupts the operation: an erase leaves any bytes, a program or a status write some of its bits."""
         if self.left and self.changing:
             start, before = self.changing
             after = self.data[start : start + len(before)]
@@ -143,7 +143,7 @@ class Model:
         return bytes([self.floating]) * replies
 
     def in_qpi(self, out, replies):
-        """Takes the lines as QPI does: in each clock WP# and HOLD#, which are high, the floating line, and the one sent.
+        """Takes four lines in each clock, as QPI does: WP# and HOLD# are high, one floats, and one has the bit sent.
 
         So the first two bits sent are the low bits of the two digits of an opcode.
         """

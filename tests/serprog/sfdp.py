@@ -8,8 +8,8 @@ BASIC, SECTOR_MAP = 0xFF00, 0xFF81
 # The lengths of the basic table: JESD216 has nine double words, JESD216A and B have sixteen.
 FIRST, LATER = 9, 16
 # Quad enable requirements (double word 15, bits 22 to 20): there is no QE; QE is bit 1 of status 2, and a write of one
-# byte to status 1 clears status 2; bit 6 of status 1; as 001b, but such a write leaves status 2; status 2 is read by 35h
-# and written by 01h with two bytes; it is read by 35h and written by 31h.
+# byte to status 1 clears status 2; bit 6 of status 1; as 001b, but such a write leaves status 2; status 2 is read by
+# 35h and written by 01h with two bytes; it is read by 35h and written by 31h.
 NO_QE, QE_CLEARED, QE_IN_STATUS_1, QE_KEPT, QE_BY_01, QE_BY_31 = 0b000, 0b001, 0b010, 0b100, 0b101, 0b110
 # How 4-4-4 mode (QPI) is entered (double word 15, bits 8 to 4), and how it is left (bits 3 to 0).
 BY_38, BY_35 = 0b00010, 0b00100

@@ -11,8 +11,8 @@ SECTIONS = ("Status Register", "Function Register", "Device Operation: QPIEN 35h
 def one(name, number, size, wake):
     modes = Modes(True, BY_35, BY_F5 | BY_RESET)
     table = basic(size, (K4, K32, K64), modes, minor=6, quad=QE_IN_STATUS_1)
-    return Description(name, "ISSI", bytes.fromhex(number), size, build(6, table), {**OPCODES, **sleeps(wake)}, SECTIONS,
-                       unique=bytes(range(0x91, 0xA1)), protected=by_blocks((2, 3, 4, 5)))
+    return Description(name, "ISSI", bytes.fromhex(number), size, build(6, table), {**OPCODES, **sleeps(wake)},
+                       SECTIONS, unique=bytes(range(0x91, 0xA1)), protected=by_blocks((2, 3, 4, 5)))
 
 
 CHIPS = one("IS25LP064", "9d6017", M8, 0x16), one("IS25LP128", "9d6018", M16, 0x17)

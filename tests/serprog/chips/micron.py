@@ -10,7 +10,8 @@ from sfdp import BY_35, BY_F5, K4, K32, K64, NO_QE, Modes, basic, build
 OPCODES = {**BASE, **ERASES, **SFDP, **RESET, **WRITE_1, 0x4B: ("unique", 5, True)}
 AFTER_ID = bytes.fromhex("104000") + bytes(range(0x51, 0x5F))
 OTP = b"\xff" * 65
-SECTIONS = ("Status Register", "Command Set", "Device ID Data", "READ OTP ARRAY", "Serial Flash Discovery Parameter Data")
+SECTIONS = ("Status Register", "Command Set", "Device ID Data", "READ OTP ARRAY",
+            "Serial Flash Discovery Parameter Data")
 
 
 def one(name, number, size, opcodes, sfdp):

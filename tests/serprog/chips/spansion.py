@@ -44,7 +44,7 @@ CHIPS = (
     Description("S25FL128S-top", sfdp=build(6, s_table((K4, K64), 0x20), sector_map()),
                 opcodes={**S, 0x20: ("erase", 4096, M16 - SMALL)}, after_id=bytes.fromhex("4d0180"),
                 registers=(0, 0x04, 0), **S_CHIP),
-    # Before JESD216B: nine double words, and no sector map. Double word 1 says that 4 KiB erases don't reach everything.
+    # Before JESD216B: nine double words and no sector map. Double word 1 says that 4 KiB erases reach only a part.
     Description("S25FL128S-old", sfdp=build(0, basic(M16, (K4, K64), Modes(is_uniform=False, addresses=1))),
                 opcodes={**S, 0x20: ("erase", 4096, 0, SMALL)}, after_id=bytes.fromhex("4d0180"), **S_CHIP),
     # Sectors of 256 KiB, and no 4 KiB erase.

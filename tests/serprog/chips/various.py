@@ -1,6 +1,6 @@
 """Chips of Eon, Puya, XMC, Adesto (Dialog, Renesas) and Boya."""
-from chips.common import BASE, ERASES, M8, M16, RESET, SFDP, STATUS_2, STATUS_3, UNIQUE, WRITE_1, WRITE_2, WRITE_2_CLEARS, \
-    sleeps
+from chips.common import BASE, ERASES, M8, M16, RESET, SFDP, STATUS_2, STATUS_3, UNIQUE, WRITE_1, WRITE_2, \
+    WRITE_2_CLEARS, sleeps
 from models import Description, by_blocks
 from sfdp import K4, K32, K64, QE_BY_01, QE_BY_31, Modes, basic, build
 

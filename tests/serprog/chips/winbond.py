@@ -27,7 +27,8 @@ def later(size, **modes):
 
 CHIPS = (
     one("W25Q64FV", "ef4017", M8, FV, build(0, basic(M8, TYPES, Modes(True), at=0x80))),
-    one("W25Q64JV", "ef4017", M8, {**JV, **sleeps(0x16)}, later(M8), registers=(0, 0x02, 0x60), protected=with_own_locks),
+    one("W25Q64JV", "ef4017", M8, {**JV, **sleeps(0x16)}, later(M8), registers=(0, 0x02, 0x60),
+        protected=with_own_locks),
     one("W25Q128JV", "ef4018", M16, {**JV, **sleeps(0x17)}, later(M16), registers=(0, 0x02, 0x60),
         protected=with_own_locks),
     one("W25Q64JV-M", "ef7017", M8, {**JV, **sleeps(0x16)},
