@@ -46,7 +46,7 @@ def by_sixty_fourths(registers, size):
 
 
 def with_own_locks(registers, size):
-    """Returns the range if WPS, bit 2 of status 3, may be set: then each block is locked after power-up."""
+    """Returns the range if the bit 2 of status 3 (WPS of Winbond) says that each block has its own lock."""
     return (0, size) if registers[2] & 0x04 else by_parts(registers, size)
 
 
@@ -75,6 +75,9 @@ class Description(NamedTuple):
     protected: object = by_parts
     has_srp1: bool = False
     errors: tuple = (0, 0)
+    # The bits of status 1 that show BUSY, and those of the registers that are set after each power-up.
+    busy: int = BUSY
+    power_up: tuple = (0, 0, 0)
     leaves_qpi: tuple = ()
     idle: tuple = (0x05,)
 
@@ -104,6 +107,8 @@ class Model:
         self.tear()
         if self.it.has_srp1 and not self.status[0] & 0x80:
             self.status[1] &= ~1
+        for register, bits in enumerate(self.it.power_up):
+            self.status[register] |= bits
         self.wel = self.is_asleep = self.is_in_qpi = self.is_armed = self.has_four = self.is_stuck = False
 
     def tear(self):
@@ -173,7 +178,7 @@ class Model:
         for _ in range(len(out) - 1 + replies):
             value = self.status[register]
             if register == 0:
-                value = value & 0xFC | BUSY * self.is_busy() | WEL * self.wel
+                value = value & 0xFC | self.it.busy * self.is_busy() | WEL * self.wel
                 self.left = max(0, self.left - 1)
                 if not self.is_busy():
                     self.wel, self.changing, self.writing = self.wel and value & BUSY == 0, None, None
@@ -280,6 +285,19 @@ class Model:
         self.change(out, start - start % length, b"\xff" * length, True)
         return b""
 
+    def do_erase_in(self, out, replies, lengths):
+        """Erases the block of an address, whose length depends on the first region that ends after the address."""
+        address = self.address(out)
+        return self.do_erase(out, replies, next(length for after, length in lengths if address < after))
+
+    def do_unlock(self, out, replies):
+        """Unlocks each block until the next power-up (98h)."""
+        if not self.wel or len(out) != 1 or replies:
+            return self.ignore(out, replies)
+        self.status[2] &= ~0x04
+        self.wel = False
+        return b""
+
     def do_chip_erase(self, out, replies):
         if not self.wel or len(out) != 1 or replies:
             return self.ignore(out, replies)
@@ -305,7 +323,8 @@ class Model:
 
 
 # The actions that change the chip, or what it takes its next bytes for.
-CHANGING = ("latch", "write", "program", "erase", "chip_erase", "sleep", "qpi", "arm", "reset", "four", "clear")
+CHANGING = ("latch", "write", "program", "erase", "erase_in", "unlock", "chip_erase", "sleep", "qpi", "arm", "reset",
+            "four", "clear")
 
 
 def action_of(it, out):

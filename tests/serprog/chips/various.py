@@ -1,14 +1,17 @@
-"""Chips of Eon, Puya, XMC, Adesto (Dialog, Renesas) and Boya."""
-from chips.common import BASE, ERASES, M8, M16, RESET, SFDP, STATUS_2, STATUS_3, UNIQUE, WRITE_1, WRITE_2, \
-    WRITE_2_CLEARS, sleeps
-from models import Description, by_blocks
-from sfdp import K4, K32, K64, QE_BY_01, QE_BY_31, Modes, basic, build
+"""Chips of Eon, Puya, XMC, Adesto (Dialog, Renesas), Boya and Microchip."""
+from chips.common import BASE, ERASE_4, ERASES, M8, M16, RESET, SFDP, STATUS_2, STATUS_3, UNIQUE, WRITE_1, \
+    WRITE_2, WRITE_2_CLEARS, sleeps
+from models import Description, by_blocks, with_own_locks
+from sfdp import K4, K32, K64, QE_BY_01, QE_BY_31, SECTOR_MAP, Modes, Table, basic, build, regions
 
 TYPES = (K4, K32, K64)
 OPCODES = {**BASE, **ERASES, **SFDP, **RESET}
 # Those that have the registers of Winbond, and 35h.
 ALIKE = {**OPCODES, **STATUS_2, **UNIQUE, **WRITE_2}
 ALIKE_CHIP = dict(writable=(0xFC, 0x7B, 0x60), once=(0, 0x38, 0), has_srp1=True, idle=(0x05, 0x35, 0x15))
+# SST26VF064B: where blocks of 8, 32, 64, 32 and 8 KiB end, and each of these regions with its erase types.
+SST_BLOCKS = ((0x8000, 8192), (0x10000, 32768), (M8 - 0x10000, 65536), (M8 - 0x8000, 32768), (M8, 8192))
+SST_MAP = ((0x8000, 0b0011), (0x8000, 0b0101), (M8 - 0x20000, 0b1001), (0x8000, 0b0101), (0x8000, 0b0011))
 
 
 def later(size, quad):
@@ -35,6 +38,18 @@ CHIPS = (
     Description("AT25SF128A", "Adesto", bytes.fromhex("1f8901"), M16, later(M16, QE_BY_31),
                 {**ALIKE, **STATUS_3, **sleeps(0x17), 0x31: ("write", (1,))},
                 ("Status Registers", "Command Listing", "SFDP"), unique=bytes(range(0xB1, 0xC1)), **ALIKE_CHIP),
+    # Status: BUSY RES SEC WPLD WSP WSE WEL BUSY. 35h reads the configuration register. 4 KiB erases reach everything,
+    # but D8h erases 8, 32 or 64 KiB, by the address: its SFDP has three erase types of D8h, and a sector map. Each block
+    # is locked after power-up, until 98h; here the third register shows that. 38h enters QPI, and ABh is ignored.
+    Description("SST26VF064B", "Microchip", bytes.fromhex("bf2643"), M8,
+                build(6, basic(M8, (K4, (13, 0xD8), (15, 0xD8), K64), Modes(True), minor=6, quad=QE_BY_01),
+                      Table(SECTOR_MAP, (1, 0), 0x100, regions(0, SST_MAP, is_end=True))),
+                {**BASE, **SFDP, **RESET, **STATUS_2, **ERASE_4, 0xC7: ("chip_erase",), 0x98: ("unlock",),
+                 0xD8: ("erase_in", SST_BLOCKS), 0x38: ("qpi",), 0x01: ("write", (0, 1))},
+                ("Memory organization", "Status Register", "Configuration Register", "Block-Erase (D8h)",
+                 "Global Block-Protection Unlock (98h)", "SFDP: sector map parameter table"),
+                registers=(0, 0, 4), writable=(0, 0x8A, 0), power_up=(0, 0, 4), busy=0x81, protected=with_own_locks,
+                leaves_qpi=(0xFF,)),
     # A single status byte clears the second one.
     Description("BY25Q64AS", "Boya", bytes.fromhex("684017"), M8, build(0, basic(M8, TYPES)),
                 {**ALIKE, **WRITE_2_CLEARS, **sleeps(0x16)}, ("Status Register", "Command Set", "Read Unique ID (4BH)"),
