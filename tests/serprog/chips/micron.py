@@ -1,0 +1,28 @@
+"""Micron N25Q and MT25Q. Status: SRWD BP3 TB BP2 BP1 BP0 WEL WIP, without QE: quad modes are in registers of their own.
+
+4Bh reads the one-time area (OTP), whose bytes are FFh when it was never programmed. After the ID follow 17 bytes: their
+number, two bytes of the device, and a unique ID of 14 bytes.
+"""
+from chips.common import BASE, ERASES, M8, M16, RESET, SFDP, WRITE_1, sleeps
+from models import Description, by_blocks
+from sfdp import BY_35, BY_F5, K4, K32, K64, NO_QE, Modes, basic, build
+
+OPCODES = {**BASE, **ERASES, **SFDP, **RESET, **WRITE_1, 0x4B: ("unique", 5, True)}
+AFTER_ID = bytes.fromhex("104000") + bytes(range(0x51, 0x5F))
+OTP = b"\xff" * 65
+SECTIONS = ("Status Register", "Command Set", "Device ID Data", "READ OTP ARRAY",
+            "Serial Flash Discovery Parameter Data")
+
+
+def one(name, number, size, opcodes, sfdp):
+    return Description(name, "Micron", bytes.fromhex(number), size, sfdp,
+                       {at: it for at, it in {**OPCODES, **opcodes}.items() if it}, SECTIONS, after_id=AFTER_ID,
+                       unique=OTP, protected=by_blocks((2, 3, 4, 6), 5), idle=(0x05, 0x70))
+
+
+CHIPS = (
+    # The 3 V part has no 32 KiB erase, no 60h and no deep power-down: ABh is ignored. No command enters QPI.
+    one("N25Q064A", "20ba17", M8, {0x52: None, 0x60: None}, build(0, basic(M8, (K4, K64)))),
+    one("MT25QL128", "20ba18", M16, {0x35: ("qpi",), **sleeps(0x17)},
+        build(6, basic(M16, (K4, K32, K64), Modes(True, BY_35, BY_F5), minor=6, quad=NO_QE))),
+)

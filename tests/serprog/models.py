@@ -1,0 +1,332 @@
+"""A model of a SPI NOR chip that reads a description: which opcodes the chip knows, and what each of them does.
+
+The rules are those of JESD216 and of the datasheets that a description names, not those of docs/SPECIFICATION.md. The
+bytes sent and received are the clocks between two edges of CS#. While a reply is received, the chip gets 00h, so a
+program that also receives bytes programs zeros. A transaction that the chip ignores leaves the line to the programmer
+floating. It is recorded in `ignored`, except for a read.
+"""
+import random
+from typing import NamedTuple
+
+BUSY, WEL = 0x01, 0x02
+# How many samples of status 1 show BUSY after a status write, a program, and an erase.
+SAMPLES = {"write": 3, "program": 2, "erase": 5}
+
+
+def by_parts(registers, size):
+    """Returns the protected range by SEC, TB and BP2 to BP0 of status 1, and CMP of status 2 (Winbond and others)."""
+    sec, tb, bp = registers[0] >> 6 & 1, registers[0] >> 5 & 1, registers[0] >> 2 & 7
+    length = [0, 1, 2, 4, 8, 8, 8, 0][bp] * 4096 if sec else size * [0, 1, 2, 4, 8, 16, 32, 64][bp] // 64
+    if bp == 7 or (bp == 6 and sec):
+        return (0, 0) if registers[1] & 0x40 and bp == 7 else (0, size)
+    at_start = (0, length) if tb else (size - length, size)
+    if not registers[1] & 0x40:
+        return at_start
+    return (length, size) if tb else (0, size - length)
+
+
+def by_blocks(bits, top_bit=None, register=0):
+    """Returns a function for the range of 2^(BP-1) blocks of 64 KiB (Macronix, Micron, ISSI, Eon).
+
+    `bits` are the positions of BP0, BP1 and so on in status 1. The range is at the end of the chip, or at its start if
+    the bit `top_bit` of a register is set.
+    """
+    def protected(registers, size):
+        bp = sum((registers[0] >> at & 1) << place for place, at in enumerate(bits))
+        length = min(size, (1 << bp >> 1) * 65536)
+        at_start = top_bit is not None and registers[register] >> top_bit & 1
+        return (0, length) if at_start else (size - length, size)
+    return protected
+
+
+def by_sixty_fourths(registers, size):
+    """Returns the range of BP2 to BP0, and TBPROT in bit 5 of the configuration register (S25FL128S)."""
+    length = size * [0, 1, 2, 4, 8, 16, 32, 64][registers[0] >> 2 & 7] // 64
+    return (0, length) if registers[1] & 0x20 else (size - length, size)
+
+
+def with_own_locks(registers, size):
+    """Returns the range if the bit 2 of status 3 (WPS of Winbond) says that each block has its own lock."""
+    return (0, size) if registers[2] & 0x04 else by_parts(registers, size)
+
+
+class Description(NamedTuple):
+    """What the datasheet says of a chip. `sources` are its sections.
+
+    An opcode's action has the name of a method of `Model`, without `do_`, and its arguments. The registers are status
+    1, status 2 or the configuration register, and status 3: their values from the factory, which of their bits a status
+    write changes, and which of these it can only set. The bits `errors` of status 1 are set by a refused program and a
+    refused erase, and then the chip stays busy. `idle` are the opcodes that a busy chip carries out, too.
+    """
+
+    name: str
+    maker: str
+    id: bytes
+    size: int
+    sfdp: bytes
+    opcodes: dict
+    sources: tuple
+    registers: tuple = (0, 0, 0)
+    writable: tuple = (0xFC, 0, 0)
+    once: tuple = (0, 0, 0)
+    # What follows the ID. `None`: the ID again.
+    after_id: bytes = None
+    unique: bytes = b""
+    protected: object = by_parts
+    has_srp1: bool = False
+    errors: tuple = (0, 0)
+    # The bits of status 1 that show BUSY, and those of the registers that are set after each power-up.
+    busy: int = BUSY
+    power_up: tuple = (0, 0, 0)
+    leaves_qpi: tuple = ()
+    idle: tuple = (0x05,)
+
+
+class Model:
+    """A chip by its description, with its data. `floating` is the level of a line that nobody drives, as a byte."""
+
+    def __init__(self, it, data, registers=None, floating=0xFF, wp_low=False):
+        if len(data) != it.size:
+            raise ValueError(f"the image has {len(data)} bytes, and the chip {it.size}")
+        self.it, self.data, self.floating, self.wp_low = it, bytearray(data), floating, wp_low
+        self.size = it.size
+        self.status = bytearray(registers or it.registers)
+        self.wel = self.is_asleep = self.is_in_qpi = self.is_armed = self.has_four = self.is_stuck = False
+        # The samples of status 1 that show BUSY, and what is in progress until then: the address and the bytes before a
+        # program or an erase, or the registers before a status write.
+        self.left, self.changing, self.writing, self.is_erase = 0, None, None, False
+        self.ignored, self.chance = [], random.Random(it.name)
+        self.count_anew()
+
+    def count_anew(self):
+        """Counts operations from 1 again, and the polls after each of them."""
+        self.operations = self.polls = 0
+
+    def lose_power(self):
+        """Interrupts what is in progress, and sets all volatile bits to their values after power-up."""
+        self.tear()
+        if self.it.has_srp1 and not self.status[0] & 0x80:
+            self.status[1] &= ~1
+        for register, bits in enumerate(self.it.power_up):
+            self.status[register] |= bits
+        self.wel = self.is_asleep = self.is_in_qpi = self.is_armed = self.has_four = self.is_stuck = False
+
+    def tear(self):
+        """Interrupts the operation: an erase leaves any bytes, a program or a status write some of its bits."""
+        if self.left and self.changing:
+            start, before = self.changing
+            after = self.data[start : start + len(before)]
+            some = self.chance.randbytes(len(before))
+            self.data[start : start + len(before)] = some if self.is_erase else bytes(
+                new | old & bits for old, new, bits in zip(before, after, some))
+        if self.left and self.writing:
+            for at, old in enumerate(self.writing):
+                bits = self.chance.randrange(256)
+                self.status[at] = old & ~bits | self.status[at] & bits
+        self.left, self.changing, self.writing = 0, None, None
+
+    def is_busy(self):
+        return self.left > 0 or self.is_stuck
+
+    def transfer(self, out, replies):
+        """Carries out one transaction, and returns the bytes received."""
+        if out[:1] == b"\x05":
+            self.polls += 1
+        if self.is_in_qpi:
+            return self.in_qpi(out, replies)
+        action = self.it.opcodes.get(out[0]) if out else None
+        was_armed, self.is_armed = self.is_armed, False
+        if not action or self.is_asleep and action[0] != "wake" or self.is_busy() and out[0] not in self.it.idle:
+            return self.ignore(out, replies)
+        if action[0] == "reset" and not was_armed:
+            return self.ignore(out, replies)
+        return getattr(self, f"do_{action[0]}")(out, replies, *action[1:])
+
+    def ignore(self, out, replies):
+        if not replies or action_of(self.it, out) in CHANGING:
+            self.ignored.append(bytes(out))
+        return bytes([self.floating]) * replies
+
+    def in_qpi(self, out, replies):
+        """Takes four lines in each clock, as QPI does: WP# and HOLD# are high, one floats, and one has the bit sent.
+
+        So the first two bits sent are the low bits of the two digits of an opcode.
+        """
+        digits = [0xC | (self.floating & 1) << 1 | out[0] >> at & 1 for at in (7, 6)]
+        if digits[0] << 4 | digits[1] in self.it.leaves_qpi:
+            self.is_in_qpi = False
+        return self.ignore(out, replies)
+
+    def stream(self, out, replies, header, byte_at):
+        """Returns what is received if bytes follow a header of this length. `byte_at` returns a number of them."""
+        early = min(replies, max(0, header - len(out)))
+        return bytes([self.floating]) * early + byte_at(max(0, len(out) - header), replies - early)
+
+    def address(self, sent):
+        """Returns the address of a transaction, of three or four bytes; the chip takes no higher bits than it needs."""
+        return int.from_bytes(sent[1 : 5 if self.has_four else 4], "big") % self.size
+
+    def do_id(self, out, replies):
+        rest = self.it.after_id if self.it.after_id is not None else self.it.id * (replies + len(out))
+        found = self.it.id + rest
+        return self.stream(out, replies, 1, lambda at, count: found[at : at + count].ljust(
+            count, bytes([self.floating])))
+
+    def do_status(self, out, replies, register):
+        """Returns samples of a register. Each sample of status 1 is one poll of the operation in progress."""
+        found = bytearray()
+        for _ in range(len(out) - 1 + replies):
+            value = self.status[register]
+            if register == 0:
+                value = value & 0xFC | self.it.busy * self.is_busy() | WEL * self.wel
+                self.left = max(0, self.left - 1)
+                if not self.is_busy():
+                    self.wel, self.changing, self.writing = self.wel and value & BUSY == 0, None, None
+            found.append(value)
+        return bytes(found[len(out) - 1 :])
+
+    def do_data(self, out, replies, header=4):
+        start = self.address(out + bytes(replies))
+        def data(at, count):
+            begin = (start + at) % self.size
+            found = bytes(self.data[begin : begin + count])
+            return found if len(found) == count else found + data(at + len(found), count - len(found))
+        return self.stream(out, replies, header + self.has_four, data)
+
+    def do_sfdp(self, out, replies):
+        start = int.from_bytes((out + bytes(replies))[1:4], "big")
+        return self.stream(out, replies, 5, lambda at, count: self.it.sfdp[start + at :][:count].ljust(count, b"\xff"))
+
+    def do_unique(self, out, replies, header=5, addressed=False):
+        """Returns the unique ID, or the one-time area, after the dummy bytes. Then it follows again."""
+        start = int.from_bytes((out + bytes(replies))[1:4], "big") if addressed else 0
+        found = self.it.unique
+        return self.stream(out, replies, header, lambda at, count: bytes(
+            found[(start + at + place) % len(found)] for place in range(count)))
+
+    def do_wake(self, out, replies, number):
+        self.is_asleep = False
+        return self.stream(out, replies, 4, lambda at, count: bytes([number]) * count)
+
+    def alone(self, out, replies):
+        """Returns whether the opcode was the whole transaction. Otherwise the chip ignores it."""
+        if len(out) == 1 and not replies:
+            return True
+        self.ignore(out, 0)
+        return False
+
+    def do_sleep(self, out, replies):
+        self.is_asleep = self.alone(out, replies)
+        return bytes([self.floating]) * replies
+
+    def do_latch(self, out, replies, is_set):
+        if self.alone(out, replies):
+            self.wel = is_set
+        return bytes([self.floating]) * replies
+
+    def do_qpi(self, out, replies):
+        """Enters QPI at the eighth clock. The rest of the transaction is lost."""
+        self.is_in_qpi = True
+        return bytes([self.floating]) * replies
+
+    def do_arm(self, out, replies):
+        self.is_armed = self.alone(out, replies)
+        return bytes([self.floating]) * replies
+
+    def do_reset(self, out, replies):
+        if self.alone(out, replies):
+            self.lose_power()
+        return bytes([self.floating]) * replies
+
+    def do_four(self, out, replies, is_set):
+        if self.alone(out, replies):
+            self.has_four = is_set
+        return bytes([self.floating]) * replies
+
+    def do_clear(self, out, replies):
+        """Clears the error bits of an operation that was refused (30h of S25FL128S)."""
+        if self.alone(out, replies):
+            self.status[0] &= ~(self.it.errors[0] | self.it.errors[1])
+            self.is_stuck = self.wel = False
+        return bytes([self.floating]) * replies
+
+    def do_write(self, out, replies, registers, clears=False):
+        """Writes registers, of which the first may be sent without the others; with `clears` these become 0."""
+        sent = out[1:] + bytes(replies)
+        locked = self.status[0] & 0x80 and self.wp_low or self.it.has_srp1 and self.status[1] & 1
+        if not self.wel or locked or not 1 <= len(sent) <= len(registers):
+            return self.ignore(out, replies)
+        self.writing = bytes(self.status)
+        for register, value in zip(registers, sent + bytes(len(registers) - len(sent)) * clears):
+            mask, once = self.it.writable[register], self.it.once[register]
+            old = self.status[register]
+            self.status[register] = old & ~mask | value & mask | old & once
+        self.begin("write")
+        return bytes([self.floating]) * replies
+
+    def do_program(self, out, replies):
+        sent, header = out + bytes(replies), 4 + self.has_four
+        if not self.wel or len(sent) <= header:
+            return self.ignore(out, replies)
+        start = self.address(sent)
+        page = start - start % 256
+        new = bytearray(b"\xff" * 256)
+        for place, value in enumerate(sent[header:]):
+            new[(start + place) % 256] = value
+        old = self.data[page : page + 256]
+        self.change(out, page, bytes(one & other for one, other in zip(old, new)), False)
+        return bytes([self.floating]) * replies
+
+    def do_erase(self, out, replies, length, first=0, after=1 << 32):
+        """Erases a block. An erase of an address that isn't from `first` to before `after` is ignored."""
+        start = self.address(out)
+        if not self.wel or len(out) != 4 + self.has_four or replies or not first <= start < after:
+            return self.ignore(out, replies)
+        self.change(out, start - start % length, b"\xff" * length, True)
+        return b""
+
+    def do_erase_in(self, out, replies, lengths):
+        """Erases the block of an address, whose length depends on the first region that ends after the address."""
+        address = self.address(out)
+        return self.do_erase(out, replies, next(length for after, length in lengths if address < after))
+
+    def do_unlock(self, out, replies):
+        """Unlocks each block until the next power-up (98h)."""
+        if not self.wel or len(out) != 1 or replies:
+            return self.ignore(out, replies)
+        self.status[2] &= ~0x04
+        self.wel = False
+        return b""
+
+    def do_chip_erase(self, out, replies):
+        if not self.wel or len(out) != 1 or replies:
+            return self.ignore(out, replies)
+        self.change(out, 0, b"\xff" * self.size, True)
+        return b""
+
+    def change(self, out, start, new, is_erase):
+        """Stores bytes, unless one of them is protected."""
+        first, after = self.it.protected(self.status, self.size)
+        if max(start, first) < min(start + len(new), after):
+            self.ignore(out, 0)
+            self.status[0] |= self.it.errors[is_erase]
+            self.is_stuck = bool(self.it.errors[is_erase])
+            return
+        self.changing, self.is_erase = (start, bytes(self.data[start : start + len(new)])), is_erase
+        self.data[start : start + len(new)] = new
+        self.begin("erase" if is_erase else "program")
+
+    def begin(self, kind):
+        """Sets BUSY for some samples of status 1. WEL is clear when it ends."""
+        self.operations, self.polls = self.operations + 1, 0
+        self.left = SAMPLES[kind]
+
+
+# The actions that change the chip, or what it takes its next bytes for.
+CHANGING = ("latch", "write", "program", "erase", "erase_in", "unlock", "chip_erase", "sleep", "qpi", "arm", "reset",
+            "four", "clear")
+
+
+def action_of(it, out):
+    """Returns the name of the action that a chip carries out for these bytes, or `None`."""
+    return it.opcodes[out[0]][0] if out and out[0] in it.opcodes else None
