@@ -4,7 +4,6 @@ use Rattle.std.specs.Str.{bytes_eq}
 use Rattle.bench.specs.declared.words.Request.{Request}
 use Rattle.bench.specs.declared.words.Request.TheVariants.{Usage, Chip, Plan, Journal, Session, Read, Answers, Unknown}
 
--- The job that the argument `word` selects; `Unknown` if it is none of the six words.
 abbrev pub request_named : List ℕ → Request
 request_named word =
     if bytes_eq word (codes "chip") then Chip
@@ -15,8 +14,7 @@ request_named word =
     else if bytes_eq word (codes "answers") then Answers
     else Unknown
 
--- The job that the arguments select. No argument prints the usage, one argument selects the job with its name
--- (`request_named`), and more than one are an error.
+-- the job that the arguments select: without one the usage, and several are an error
 abbrev pub request_of : List (List ℕ) → Request
 request_of [] = Usage
 request_of (word ∷ []) = request_named word

@@ -36,9 +36,8 @@ const PROGRAMS: Measurement = Measurement {
     rounds: 301,
 };
 
-/// Prints the times of the simulated chip's reads, erases and programs, each as a ratio to the time of a reference that
-/// copies 16 MiB sector by sector. The reference for reads copies each sector of memory to a buffer. The reference for
-/// erases and programs copies a buffer to each sector. Returns a checksum of all results.
+/// Prints the times of the simulated chip's reads, erases and programs, each as a ratio to that of copying 16 MiB
+/// sector by sector, out of memory for reads and into it otherwise. Returns a checksum of all results.
 pub fn measure<R: Clock + Print + AllocGlobal>(rt: &R) -> Result<u64, Fault> {
     let mut bus = open_bus(rt.alloc())?;
     let mut memory = erased_bytes(rt.alloc())?;
@@ -72,7 +71,6 @@ pub fn answer<R: Print + AllocGlobal>(rt: &R) -> Result<(), Fault> {
     Ok(())
 }
 
-// Returns how many of `bytes` have the value `byte`.
 fn count(bytes: &[u8], byte: u8) -> usize {
     bytes.iter().filter(|found| **found == byte).count()
 }
@@ -89,15 +87,13 @@ fn measure_reads<R: Clock + Print>(rt: &R, bus: &mut SimBus, memory: &[u8]) -> R
     compare(rt, READS, &mut reads, &mut copies)
 }
 
-// Returns the contents of an erased chip: 16 MiB of FFh.
 fn erased_bytes(alloc: Global) -> Result<Vec<u8>, AllocError>
     ensures { IfOk result (λ bytes. vec_len bytes ≡ 16777216) }
 {
     vec![in alloc; 0xFF; CHIP]
 }
 
-// Returns a bus to an erased W25Q128FV that shows BUSY in one poll after each operation. The number of transactions
-// left on the bus is greater than any measurement needs.
+// The bus shows BUSY in one poll after each operation, and has more transactions left than are needed.
 fn open_bus(alloc: Global) -> Result<SimBus, Fault> {
     let delays = Delays { now: 0, each: 1 };
     let bytes = erased_bytes(alloc)?;
@@ -153,7 +149,6 @@ impl Work for Programs<'_> {
     }
 }
 
-// The reference for reads, which copies each sector of `memory` to a buffer.
 #[derive(Drop)]
 struct CopiesOut<'a> {
     memory: &'a [u8],
@@ -171,7 +166,6 @@ impl Work for CopiesOut<'_> {
     }
 }
 
-// The reference for erases and programs, which copies a buffer to each sector of `memory`.
 #[derive(Drop)]
 struct CopiesIn<'a> {
     memory: &'a mut [u8],

@@ -28,8 +28,8 @@ const READING: Measurement = Measurement {
     rounds: 15,
 };
 
-/// Prints the times of writing and of reading the journal, each as a ratio to the time of computing a SHA-256 digest of
-/// all its bytes. Returns a checksum of all results.
+/// Prints the times of writing and of reading the journal, each as a ratio to that of its SHA-256. Returns a checksum
+/// of all results.
 pub fn measure<R: Clock + Print + AllocGlobal>(rt: &R) -> Result<u64, Fault> {
     let alloc = rt.alloc();
     let mut vault = MemVault::new(alloc);
@@ -51,8 +51,7 @@ pub fn answer<R: Print + AllocGlobal>(rt: &R) -> Result<(), Fault> {
     Ok(())
 }
 
-// Writes the journal of a chip whose bytes are all 5Ah to `vault`, which must be empty and unsealed. After success the
-// vault is sealed.
+// All bytes of the chip are 5Ah.
 fn write<V: Vault>(vault: &mut V) -> Result<(), VaultFault>
     requires { IsFresh (V.state vault.old) }
     ensures { OnOk result ((V.state vault.new).sealed ≡ true) }
@@ -89,7 +88,6 @@ impl Work for Reading<'_> {
     }
 }
 
-// The reference for both measurements, which computes the SHA-256 digest of all bytes of a journal.
 #[derive(Drop)]
 struct Digests<'a> {
     bytes: &'a [u8],

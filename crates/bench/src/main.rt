@@ -1,6 +1,5 @@
-//! Measures parts of this project. A measurement times a piece of work and a simpler reference in the same run. It
-//! prints one line with the ratio of the two times and the greatest ratio that is acceptable, and marks the line if the
-//! ratio is greater.
+//! Measures parts of this project. A measurement times a piece of work and a simpler reference in the same run, and
+//! prints the ratio of the two times, marked if it is greater than acceptable.
 //!
 //! - `main.rt`: runs the measurement that the argument selects
 //! - `words.rt`: the arguments
@@ -62,8 +61,7 @@ fn main(rt: HostRuntime) -> Result<ExitCode, Fault> {
     Ok(ExitCode::SUCCESS)
 }
 
-// Does the work of `chip`, `plan`, `journal` and `read` once, untimed, and prints the results. Then prints two sample
-// lines of a measurement, for times that are fixed. The gate compares this output with the file `stdout`.
+// The gate compares this output, with two sample lines for fixed times, with the file `stdout`.
 fn answer<R: Print + AllocGlobal>(rt: &R) -> Result<(), Fault> {
     chip::answer(rt)?;
     plan::answer(rt)?;

@@ -24,8 +24,8 @@ const BOUNDS: Measurement = Measurement {
     rounds: 10001,
 };
 
-/// Prints the times of `differs` (whether two sectors differ) and of `bounds` (their first and last difference), each
-/// as a ratio to the time of copying the same number of sectors. Returns a checksum of all results.
+/// Prints the times of `differs` and of `bounds` (the first and last difference), each as a ratio to that of copying as
+/// many sectors. Returns a checksum of all results.
 pub fn measure<R: Clock + Print + AllocGlobal>(rt: &R) -> Result<u64, Fault> {
     let mut copies = Copies(Sectors::new(rt.alloc())?);
     let mut work = Differs(Sectors::new(rt.alloc())?);
@@ -42,8 +42,7 @@ pub fn answer<R: Print + AllocGlobal>(rt: &R) -> Result<(), Fault> {
     Ok(())
 }
 
-// The bytes of a sector, its target (the bytes that it should get), and space for a copy of the target. Each has an
-// allocation of its own, as in a real program.
+// Each has an allocation of its own, as in a real program.
 #[derive(Drop)]
 struct Sectors {
     old: Box<[u8; SECTOR_LEN as usize]>,
@@ -59,8 +58,7 @@ impl Sectors {
         Ok(Sectors { old, target, copy })
     }
 
-    // Makes the target differ from the old sector in the last byte only. The new last byte differs from that of the
-    // pass before.
+    // The new last byte differs from that of the pass before.
     fn touch(&mut self, pass: u32) {
         self.target[4095] = self.old[4095] ^ ((pass % 255) as u8 + 1);
     }
@@ -98,7 +96,6 @@ impl Work for Bounds {
     }
 }
 
-// The reference, which copies the target sector in each pass.
 #[derive(Drop)]
 struct Copies(Sectors);
 

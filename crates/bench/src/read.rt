@@ -25,9 +25,8 @@ const VERIFYING: Measurement = Measurement {
     rounds: 31,
 };
 
-/// Prints the times of reading out and of verifying, each as a ratio to the time of a reference. The reference copies
-/// the same number of bytes into newly allocated memory, because reading out allocates memory, too. Returns a checksum
-/// of all results.
+/// Prints the times of reading out and of verifying, each as a ratio to that of copying as many bytes into newly
+/// allocated memory, which reading out needs, too. Returns a checksum of all results.
 pub fn measure<R: Clock + Print + AllocGlobal>(rt: &R) -> Result<u64, Fault> {
     let alloc = rt.alloc();
     let image = bytes(alloc)?;
@@ -66,12 +65,11 @@ pub fn answer<R: Print + AllocGlobal>(rt: &R) -> Result<(), Fault> {
     Ok(())
 }
 
-// Returns the contents of the chip: each byte is 5Ah.
 fn bytes(alloc: Global) -> Result<Vec<u8>, AllocError> {
     vec![in alloc; 0x5A; CHIP]
 }
 
-// Returns a bus to an idle W25Q128FV. The number of transactions left on the bus is greater than any measurement needs.
+// More transactions are left on the bus than are needed.
 fn open_bus(alloc: Global) -> Result<SimBus, Fault> {
     let delays = Delays { now: 0, each: 0 };
     let mut bus = SimBus::new(Config::w25q128fv(), bytes(alloc)?, [0, 0], delays)?;

@@ -50,9 +50,9 @@ const TOUCHING: Measurement = Measurement {
     rounds: 15,
 };
 
-/// Prints the times of three sessions and a restore, each as a ratio to the time of a reference. The first session and
-/// the restore are timed with an erase of the chip before them. The reference computes the SHA-256 digest of a journal,
-/// or copies the contents of the chip. Returns a checksum of all results.
+/// Prints the times of three sessions and a restore, each as a ratio to that of a SHA-256 of a journal or of a copy of
+/// the chip's contents. The first session and the restore include an erase of the chip. Returns a checksum of all
+/// results.
 pub fn measure<R: Clock + Print + AllocGlobal>(rt: &R) -> Result<u64, Fault> {
     let alloc = rt.alloc();
     let image = scattered(alloc)?;
@@ -86,8 +86,7 @@ pub fn measure<R: Clock + Print + AllocGlobal>(rt: &R) -> Result<u64, Fault> {
     Ok(sum ^ compare(rt, TOUCHING, &mut touching, &mut copies)?)
 }
 
-// Returns pseudo-random contents for the chip, which are the same in each run: the high bytes of a linear congruential
-// generator.
+// Pseudo-random contents: the high bytes of a linear congruential generator.
 fn scattered(alloc: Global) -> Result<Vec<u8>, Fault> {
     let mut bytes = vec![in alloc; 0; CHIP]?;
     let mut state: u64 = 1;
@@ -100,7 +99,7 @@ fn scattered(alloc: Global) -> Result<Vec<u8>, Fault> {
     Ok(bytes)
 }
 
-// Returns a bus to an idle W25Q128FV. The number of transactions left on the bus is greater than any measurement needs.
+// More transactions are left on the bus than are needed.
 fn chip_of(bytes: Vec<u8>) -> Result<SimBus, Fault> {
     let idle = Delays { now: 0, each: 0 };
     let mut bus = SimBus::new(Config::w25q128fv(), bytes, [0x00, 0x00], idle)?;
@@ -108,7 +107,6 @@ fn chip_of(bytes: Vec<u8>) -> Result<SimBus, Fault> {
     Ok(bus)
 }
 
-// Returns a vault with the journal of a session that erased a chip with the contents `bytes`.
 fn saved(alloc: Global, bytes: &[u8]) -> Result<MemVault, Fault> {
     let mut bus = chip_of(bytes.to_vec(alloc)?)?;
     let mut image = vec![in alloc; 0; CHIP]?;
@@ -121,14 +119,14 @@ fn saved(alloc: Global, bytes: &[u8]) -> Result<MemVault, Fault> {
     Ok(vault)
 }
 
-// Writes a copy of the image in a session, because a session overwrites its image. Returns the number of transactions.
+// A session overwrites its image. Returns the number of transactions.
 fn write(alloc: Global, bus: &mut SimBus, image: &[u8]) -> Result<u64, Fault> {
     let mut copy = image.to_vec(alloc)?;
     let mut vault = MemVault::new(alloc);
     Ok(session(bus, &mut vault, copy.as_mut_slice(), &WRITE)?.transactions)
 }
 
-// Work that erases the chip, and then writes a whole image in a session. The time of both is measured.
+// Erases the chip, and then writes a whole image in a session.
 #[derive(Drop)]
 struct Writing {
     alloc: Global,
@@ -147,8 +145,7 @@ impl Work for Writing {
     }
 }
 
-// Work that erases the chip, reads a journal of all its sectors, and restores the chip from it. The time of all three
-// is measured.
+// Erases the chip, reads a journal of all its sectors, and restores the chip from it.
 #[derive(Drop)]
 struct Restoring<'a> {
     bus: SimBus,
@@ -167,8 +164,7 @@ impl Work for Restoring<'_> {
     }
 }
 
-// Work that inverts the bits `flips` in one byte of the image, and writes the image in a session. If `flips` is 0 and
-// the chip already has the contents of the image, the session changes nothing.
+// Inverts the bits `flips` in one byte of the image, and writes it. With 0 the session changes nothing.
 #[derive(Drop)]
 struct Touching {
     alloc: Global,
@@ -186,7 +182,6 @@ impl Work for Touching {
     }
 }
 
-// The reference, which computes the SHA-256 digest of all bytes of a journal.
 #[derive(Drop)]
 struct Digests<'a> {
     bytes: &'a [u8],

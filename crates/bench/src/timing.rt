@@ -8,18 +8,16 @@ use std::time::{Duration, Instant};
 
 /// A piece of work that is timed.
 pub trait Work {
-    /// Does the work once. The result depends on the work, so that the compiler can't remove the work.
+    /// Does the work once. The compiler can't remove the work, because the result depends on it.
     fn run(&mut self) -> Result<u64, Fault>;
 }
 
-/// Returns the sum of `sum` and one of `bytes`, modulo 2^64. The value of `sum` selects the byte, so the compiler can't
-/// omit the computation of the other bytes.
+/// Returns the sum of `sum` and the byte that it selects, modulo 2^64, so the compiler can't omit the other bytes.
 pub fn look_at(bytes: &[u8; SECTOR_LEN as usize], sum: u64) -> u64 {
     sum.wrapping_add(u64::from(bytes[(sum % u64::from(SECTOR_LEN)) as usize]))
 }
 
-/// A measurement. `what` names the work, and `beside` names the reference. `at_most` is the greatest acceptable ratio
-/// of the work's time to the reference's time.
+/// A measurement of the work `what` and the reference `beside`, with the greatest acceptable ratio of their times.
 #[derive(Clone, Copy)]
 pub struct Measurement {
     pub what: &'static str,
@@ -58,8 +56,8 @@ impl fmt::Display for Outcome {
     }
 }
 
-/// Prints the lines for two pieces of work that took 111 ms and 150 ms, with a reference that took 100 ms. The gate
-/// compares these lines with those in the file `stdout`, to test their form.
+/// Prints the lines for work that took 111 ms and 150 ms, with a reference that took 100 ms. The gate compares them
+/// with the file `stdout`.
 pub fn answer<R: Print>(rt: &R) -> Result<(), Fault> {
     let measurement = Measurement {
         what: "timing",
@@ -83,9 +81,8 @@ pub fn answer<R: Print>(rt: &R) -> Result<(), Fault> {
     Ok(())
 }
 
-/// Times `work` and its reference `plain` in turn, each `measurement.rounds` times, and prints the ratio of their
-/// shortest times. The two alternate so that a slow phase of the machine affects both. Returns the sum of all their
-/// results, modulo 2^64.
+/// Times `work` and its reference `plain` in turn, `measurement.rounds` times, so that a slow phase of the machine
+/// affects both. Prints the ratio of their shortest times. Returns the sum of their results, modulo 2^64.
 pub fn compare<R: Clock + Print, W: Work, P: Work>(
     rt: &R,
     measurement: Measurement,
@@ -106,7 +103,6 @@ pub fn compare<R: Clock + Print, W: Work, P: Work>(
     Ok(sum)
 }
 
-// Does the work once, adds its result to `sum`, and returns the time that it took.
 fn time<C: Clock, W: Work>(clock: &C, work: &mut W, sum: &mut u64) -> Result<Duration, Fault> {
     let start = Instant::now(clock)?;
     let answer = work.run()?;

@@ -17,16 +17,14 @@ pub enum Request {
     Session,
     /// `read`: measure a readout and a verification of a whole chip.
     Read,
-    /// `answers`: do the work of `chip`, `plan`, `journal` and `read` once, untimed, and print the results. Then print
-    /// two sample lines, for times that are fixed.
+    /// `answers`: do the work of `chip`, `plan`, `journal` and `read` once, untimed, and print the results.
     Answers,
     /// Any other argument, or more than one: print the usage to standard error, and fail.
     Unknown,
 }
 
-/// Returns the job that the arguments `words` select; `words` doesn't contain the program's name. Returns
-/// `Request::Usage` if there is no argument, and `Request::Unknown` if there are several or the only one selects no
-/// job.
+/// Returns the job that the arguments after the program's name select: `Usage` without any, and `Unknown` for several
+/// or for one that is no job.
 pub fn request_of(words: &[String]) -> Request
     ensures { result ≡ request_of (map string_bytes words.now) }
 {
@@ -37,7 +35,6 @@ pub fn request_of(words: &[String]) -> Request
     }
 }
 
-// Returns the job with the name `word`, or `Request::Unknown` if there is none.
 fn request_named(word: &str) -> Request
     ensures { result ≡ request_named word.now }
 {

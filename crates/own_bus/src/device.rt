@@ -10,8 +10,8 @@ use std::io::{Read, Write};
 use std::os::unix::fs::FileTypeExt;
 use std::{fs, io};
 
-/// A port over a device file. Reads of the file must time out (`stty min 0 time 50`); otherwise a programmer that sends
-/// nothing blocks the program forever.
+/// A port over a device file. Its reads must time out (`stty min 0 time 50`), or a silent programmer blocks the
+/// program.
 #[derive(Drop)]
 pub struct DevicePort<F> {
     file: F,
@@ -19,11 +19,9 @@ pub struct DevicePort<F> {
 }
 
 impl DevicePort<File> {
-    /// Opens a character device for reading and writing, and locks it. The lock keeps out other programs that lock the
-    /// device, too. Nothing is sent.
-    ///
-    /// Returns `NoDevice` if the name refers to any other file, `InUse` if another program has locked the device, and
-    /// `System` if the device is missing, or can't be opened or locked.
+    /// Opens a character device for reading and writing, and locks it against other programs that lock it. Returns
+    /// `NoDevice` for any other file, `InUse` if another program has locked the device, and `System` for any other
+    /// failure.
     pub fn open(rt: &HostRuntime, name: &str) -> Result<DevicePort<File>, Fault> {
         if !fs::metadata(rt, name)?.file_type().is_char_device() {
             return Err(Fault::NoDevice);

@@ -1,10 +1,9 @@
 //! An example of how to connect flashnor's engine to a programmer of your own, through the traits `Port` and `Bus`.
 //! `docs/OWN_BUS.md` explains the example.
 //!
-//! Without arguments the example simulates a serial programmer and a chip: it reads the chip out into a file, changes
-//! the chip with a journal, and restores it. Then it begins the same change on a second simulated chip, over a bus that
-//! does not speak serprog and whose wires are cut during the session. If the argument is the name of a serial port, the
-//! example identifies the chip of the programmer at that port, and does not change the chip.
+//! Without arguments the example simulates a serial programmer and a chip: it reads the chip out, changes it with a
+//! journal, and restores it. Then it begins the same change over a bus that does not speak serprog, and whose wires are
+//! cut. If the argument is the name of a serial port, it only identifies the chip there.
 //!
 //! - `main.rt`: the steps of the example
 //! - `device.rt`: a port over a device file
@@ -35,8 +34,7 @@ use played::{PlayedPort, PlayedWires};
 use std::alloc::Global;
 use std::{env, fs};
 
-/// The example's bus over a port. The bus pauses between polls that show BUSY. It reads IDs, SFDP and data twice, and
-/// stops if the two replies differ.
+/// The example's bus over a port. It pauses between polls that show BUSY, reads twice, and stops if two replies differ.
 type PortBus<'a, P> = Paced<ReadTwice<SerprogBus<P>>, &'a HostRuntime>;
 
 fn main(rt: HostRuntime) -> Result<(), Fault> {
@@ -46,7 +44,6 @@ fn main(rt: HostRuntime) -> Result<(), Fault> {
     }
 }
 
-// Identifies the programmer and the chip at `port`, and prints the size of the chip.
 fn identify_chip<P: Port<Cause = std::io::Error> + Drop>(
     rt: &HostRuntime,
     port: P,
@@ -59,8 +56,7 @@ fn identify_chip<P: Port<Cause = std::io::Error> + Drop>(
     Ok(())
 }
 
-// Identifies the programmer at `port`, and returns a bus to its chip. No port of the example counts as well-behaved
-// (`honest`), so no contract promises anything about the programmer.
+// No port of the example counts as well-behaved (`honest`), so no contract promises anything about the programmer.
 fn open<P: Port + Drop>(
     rt: &HostRuntime,
     port: P,
@@ -73,8 +69,7 @@ fn open<P: Port + Drop>(
     Ok(Paced::new(bus, rt))
 }
 
-// Runs the example without hardware: reads, changes and restores a simulated chip, and then interrupts the change of a
-// second simulated chip.
+// Runs the example without hardware.
 fn play(rt: &HostRuntime) -> Result<(), Fault> {
     let mut bus = open(rt, PlayedPort::new(erased_chip(rt.alloc())?))?;
     let found = probe(&mut bus, None)?;
@@ -87,8 +82,7 @@ fn play(rt: &HostRuntime) -> Result<(), Fault> {
     cut_off(rt)
 }
 
-// Returns a simulated bus to a chip of 65,536 bytes that are all FFh. The bus carries out up to `u64::MAX`
-// transactions.
+// The bus carries out up to `u64::MAX` transactions.
 fn erased_chip(alloc: Global) -> Result<SimBus, Fault> {
     let idle = Delays { now: 0, each: 0 };
     let erased = vec![in alloc; 0xFF; 65536]?;
@@ -97,7 +91,6 @@ fn erased_chip(alloc: Global) -> Result<SimBus, Fault> {
     Ok(chip)
 }
 
-// Reads the chip out into the new file `chip.bin`, and prints the number of transactions.
 fn back_up<B: Bus>(rt: &HostRuntime, bus: &mut B) -> Result<(), Fault> {
     let mut backup = Disk::new(rt).vault_in_new("chip.bin")?;
     let report = read_out(bus, None, None, &mut backup)?;
@@ -106,8 +99,7 @@ fn back_up<B: Bus>(rt: &HostRuntime, bus: &mut B) -> Result<(), Fault> {
     Ok(())
 }
 
-// Writes an image to the chip: the contents of `chip.bin` with the first byte changed to 5Ah. The session writes its
-// journal to a new file, whose name is the argument `journal`.
+// The image is `chip.bin` with the first byte changed to 5Ah.
 fn change<B: Bus>(rt: &HostRuntime, bus: &mut B, journal: &str) -> Result<Report, Fault> {
     let mut image = fs::read(rt, "chip.bin")?;
     if let Some(first) = image.first_mut() {
@@ -118,8 +110,7 @@ fn change<B: Bus>(rt: &HostRuntime, bus: &mut B, journal: &str) -> Result<Report
     Ok(report)
 }
 
-// Tries a second change whose journal has the file name of the existing journal. If that fails because the file exists,
-// prints whether the existing journal is as it was. Otherwise returns the result of the change, and prints nothing.
+// The journal's file exists, so the change must fail, and leave this journal as it was.
 fn change_again<B: Bus>(rt: &HostRuntime, bus: &mut B) -> Result<(), Fault> {
     let before = fs::read(rt, "undo.journal")?;
     match change(rt, bus, "undo.journal") {
@@ -136,8 +127,6 @@ fn change_again<B: Bus>(rt: &HostRuntime, bus: &mut B) -> Result<(), Fault> {
     Ok(())
 }
 
-// Restores the chip from the journal, and compares the chip with the backup. Prints the numbers of erases and programs
-// of the restore, and that the chip equals the backup.
 fn undo<B: Bus>(rt: &HostRuntime, bus: &mut B) -> Result<(), Fault> {
     let saved = fs::read(rt, "undo.journal")?;
     let done = restore(bus, &Journal::read(&saved)?)?;
@@ -158,8 +147,7 @@ fn print_counts(rt: &HostRuntime, what: &str, done: &Report) -> Result<(), Fault
     Ok(())
 }
 
-// Begins the change of an erased chip over wires that are cut after 10 transactions, while the session is still
-// scanning the chip. Prints the error, the number of modifying commands that were sent, and the cause of the error.
+// The wires are cut after 10 transactions, while the session still scans the chip.
 fn cut_off(rt: &HostRuntime) -> Result<(), Fault> {
     let mut bus = OwnBus::new(PlayedWires::new(erased_chip(rt.alloc())?, 10));
     let refusal = match change(rt, &mut bus, "second.journal") {

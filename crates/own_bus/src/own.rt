@@ -1,5 +1,4 @@
-//! A bus for a programmer that does not speak serprog, over wires that you implement. The bus doesn't count as
-//! well-behaved (`honest`), so only the contract clauses for any bus apply to it.
+//! A bus for a programmer that does not speak serprog, over wires that you implement.
 ghost use Rattle.std.specs.Prelude.{true};
 ghost use Rattle.std.proofs.lemmas.Bool.{false≢true};
 ghost use Rattle.nor_model.specs.Bus.{unknown_bus};
@@ -11,17 +10,15 @@ pub trait Wires {
     /// The reason why a transaction failed.
     type Cause: Drop;
 
-    /// Makes one transaction: pulls chip select low, sends `out`, then reads bytes from the chip until `reply` is full,
-    /// and releases chip select. An implementation must release chip select after an error, too.
+    /// Makes one transaction: pulls chip select low, sends `out`, reads until `reply` is full, and releases chip
+    /// select, also after an error.
     ///
-    /// The engine sends at most 260 bytes and reads at most 4,096 in one transaction. If an implementation returns an
-    /// error, the engine ends its call.
+    /// The engine sends at most 260 bytes and reads at most 4,096 in one transaction, and ends its call after an error.
     fn transact(&mut self, out: &[u8], reply: &mut [u8]) -> Result<(), Self::Cause>;
 }
 
-/// A bus over `wires`. The bus doesn't count as well-behaved (`honest`), so only the contract clauses for any bus apply
-/// to it. The field `cause` has the cause of the last transaction that failed, since error 12 contains no cause. The
-/// bus adds each transaction to its history, which only contracts can read.
+/// A bus over `wires`. It doesn't count as well-behaved (`honest`), so only the contract clauses for any bus apply.
+/// `cause` has the cause of the last failure, since error 12 contains none.
 #[derive(Drop)]
 pub struct OwnBus<W: Wires + Drop> {
     pub wires: W,

@@ -1,5 +1,4 @@
-//! A simulated programmer at a port, and simulated wires, each with a simulated chip, so that the example needs no
-//! hardware.
+//! A simulated programmer and simulated wires, each with a simulated chip, so that the example needs no hardware.
 ghost use Rattle.std.proofs.lemmas.Bool.{false≢true};
 ghost use Rattle.nor_serprog.specs.Device.{unknown_port};
 ghost use Rattle.nor_serprog.specs.Wire.{asked_on, received_on};
@@ -11,18 +10,17 @@ use nor_serprog::{Port, Wire, frame_len};
 use std::io::ErrorKind;
 use std::{fmt, io, mem};
 
-// The length of the longest frame, which is that of a page program: 7 bytes of header, an opcode, three address bytes
-// and 256 data bytes.
+// A page program: 7 bytes of header, an opcode, three address bytes and 256 data bytes.
 const MOST_BEGUN: usize = 267;
 
-// The length of the longest reply: ACK and the 4,096 bytes of a sector.
+// ACK and the 4,096 bytes of a sector.
 const MOST_PENDING: usize = 4097;
 
 const ACK: u8 = 0x06;
 
 const NAK: u8 = 0x15;
 
-// The reply to Q_CMDMAP: ACK, and the map with the commands 00h, 01h, 02h, 10h, 12h and 13h.
+// ACK, and the map with the commands 00h, 01h, 02h, 10h, 12h and 13h.
 const COMMANDS: [u8; 33] = [
     ACK, 0x07, 0, 0x0D, 0, 0, 0, 0, 0, 0, 0, 0, 0, 0, 0, 0, 0, 0, 0, 0, 0, 0, 0, 0, 0, 0, 0, 0, 0,
     0, 0, 0, 0,
@@ -32,8 +30,7 @@ const COMMANDS: [u8; 33] = [
 #[derive(Drop)]
 pub struct PlayedPort {
     chip: SimBus,
-    // The bytes received of a command that is not complete yet (`begun`), and the reply bytes that the host has not
-    // received yet (`pending`).
+    // The bytes of an incomplete command, and the reply bytes that the host has not received yet.
     begun: ArrayVec<u8, MOST_BEGUN>,
     pending: ArrayVec<u8, MOST_PENDING>,
     wire: Wire,
@@ -49,7 +46,6 @@ impl PlayedPort {
         }
     }
 
-    // Takes the bytes of a call, and carries out each command that they complete.
     fn take(&mut self, bytes: &[u8]) -> io::Result<()> {
         for byte in bytes {
             self.begun
@@ -63,14 +59,13 @@ impl PlayedPort {
         Ok(())
     }
 
-    // Appends `bytes` to the pending replies.
     fn reply(&mut self, bytes: &[u8]) -> io::Result<()> {
         self.pending
             .try_extend_from_slice(bytes)
             .map_err(|_| ErrorKind::OutOfMemory.into())
     }
 
-    // Carries out the command of a whole frame (flashrom's Documentation/serprog-protocol.txt).
+    // As in flashrom's Documentation/serprog-protocol.txt.
     fn carry_out(&mut self, frame: &[u8]) -> io::Result<()> {
         match frame {
             [0x00 | 0x12, ..] => self.reply(&[ACK]),
@@ -84,8 +79,7 @@ impl PlayedPort {
         }
     }
 
-    // Carries out one transaction with the chip, and appends the reply: ACK and at most 4,096 bytes, or NAK if the
-    // simulated bus stops.
+    // Replies NAK if the simulated bus stops.
     fn operate(&mut self, out: &[u8], replies: u16) -> io::Result<()> {
         let mut reply = [0; 4096];
         let len = usize::from(replies).min(4096);

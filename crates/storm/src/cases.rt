@@ -17,14 +17,12 @@ pub struct Case {
     pub chip: Chip,
     pub image: Vec<u8>,
     pub request: Request,
-    /// The spans that the request includes, in the order in which they were drawn. With `None` the whole chip is
-    /// included.
+    /// The spans that the request includes, as drawn, or `None` for the whole chip.
     pub included: Option<Vec<Span>>,
 }
 
 impl Case {
-    /// Draws a case. On average one case in five has a chip with block protection, so that errors of block protection
-    /// occur often enough.
+    /// Draws a case. One chip in five has block protection, so that its errors occur often enough.
     pub fn next(alloc: Global, dice: &mut Dice) -> Result<Case, Fault> {
         let chip = chip_for(alloc, dice)?;
         let image = image_for(alloc, dice, &chip)?;
@@ -48,7 +46,6 @@ impl Case {
         self.reaches(first, first.saturating_add(4095))
     }
 
-    // True if the request includes at least one address from `first` to `last`, both inclusive.
     fn reaches(&self, first: u32, last: u32) -> bool {
         let Some(spans) = &self.included else {
             return true;
@@ -78,7 +75,6 @@ fn chip_for(alloc: Global, dice: &mut Dice) -> Result<Chip, Fault> {
     }
 }
 
-// Draws a request for a chip. Returns the request with the spans that it includes, or `None` for the whole chip.
 fn request_for(
     alloc: Global,
     dice: &mut Dice,
@@ -104,8 +100,7 @@ fn request_for(
     Ok((request, spans))
 }
 
-// Draws an image: the chip's bytes, usually with changes. In some images all bytes are replaced, and on average one
-// image in 25 has another length than the chip.
+// In some images all bytes are replaced, and one in 25 has another length than the chip.
 fn image_for(alloc: Global, dice: &mut Dice, chip: &Chip) -> Result<Vec<u8>, Fault> {
     let mut image = chip.bytes.to_vec(alloc)?;
     contents::alter(dice, image.as_mut_slice());
@@ -130,7 +125,6 @@ fn change_length(dice: &mut Dice, chip: &Chip, image: &mut Vec<u8>) -> Result<()
     Ok(())
 }
 
-// Changes the first or the last byte of the protected range, unless the range is empty.
 fn change_guarded(dice: &mut Dice, chip: &Chip, image: &mut [u8]) {
     let (start, len) = guards::guarded_places(guards::code_of(chip.status), chip.config.size);
     let last = start.saturating_add(len).saturating_sub(1);
@@ -141,8 +135,7 @@ fn change_guarded(dice: &mut Dice, chip: &Chip, image: &mut [u8]) {
     }
 }
 
-// Draws what the request asks for: a write, an erase or a protection range. A range is drawn for 8 in 20 chips with
-// block protection, and for 1 in 20 chips without it.
+// A range is drawn for 8 in 20 chips with block protection, and for 1 in 20 without.
 fn what_for(dice: &mut Dice, chip: &Chip) -> What {
     let ranges = if chip.config.scheme { 8 } else { 1 };
     if dice.hits(ranges, 20) {
@@ -154,8 +147,7 @@ fn what_for(dice: &mut Dice, chip: &Chip) -> What {
     dice.pick(What::Write, &[What::Write, What::Erase])
 }
 
-// Draws the chip's name in the request. Of 24 requests, on average 19 have no name, 4 have the right name, and 1 has a
-// name drawn from the right one and others.
+// Of 24 requests, 19 have no name, 4 the right one, and 1 some name.
 fn name_for(dice: &mut Dice, chip: &Chip) -> Option<ChipName> {
     let right = verdicts::name_of(&chip.config);
     let listed = chips::row(dice).map_or(right, |part| part.name);
@@ -167,7 +159,6 @@ fn name_for(dice: &mut Dice, chip: &Chip) -> Option<ChipName> {
     }
 }
 
-// Draws one to four spans of addresses.
 fn spans_for(alloc: Global, dice: &mut Dice, chip: &Chip) -> Result<Vec<Span>, Fault> {
     let mut spans = Vec::new(alloc);
     for _ in 0..dice.pick(1, &[2, 3, 4]) {
@@ -176,8 +167,8 @@ fn spans_for(alloc: Global, dice: &mut Dice, chip: &Chip) -> Result<Vec<Span>, F
     Ok(spans)
 }
 
-// Draws a span. Its greatest length is drawn, too: 300 bytes, one sector, 40,000 bytes or half of the chip. On average
-// one span in 40 may be longer, and ends at the chip's last address or after it. All others end on the chip.
+// The greatest length is 300 bytes, one sector, 40,000 bytes or half of the chip. One span in 40 may be longer, and
+// ends at the chip's last address or after it.
 fn span_for(dice: &mut Dice, size: u32) -> Span {
     let sector = contents::sector(dice, size / SECTOR_LEN);
     let offset = dice.pick(0, &[0, 0x800, 0xFFF, 0x100]);
@@ -197,7 +188,7 @@ fn span_for(dice: &mut Dice, size: u32) -> Span {
     }
 }
 
-// Returns the included ranges of a layout in which each span is a region and all regions are included.
+// Each span is an included region of a layout.
 fn ranges_of(alloc: Global, spans: &[Span]) -> Result<Ranges, Fault> {
     let mut names = String::from_str(alloc, "r0")?;
     let mut text = String::new(alloc);

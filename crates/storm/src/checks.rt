@@ -59,15 +59,13 @@ pub fn is_same(bus: &SimBus, chip: &Chip) -> bool {
     bus.bytes() == chip.bytes.as_slice() && guards::kept(bus.status()) == guards::kept(chip.status)
 }
 
-// True if the chip on the bus isn't busy, and its write enable latch is set only if it was set before.
 fn is_quiet(bus: &SimBus, chip: &Chip) -> bool {
     let now = bus.status()[0];
     now & 0x01 == 0 && (now & 0x02 == 0 || chip.status[0] & 0x02 != 0)
 }
 
-/// Checks that a refused session returned this error and sent the expected transactions, none of them a modifying
-/// command. The chip must be idle, with its bytes and non-volatile status bits as before, and with its write enable
-/// latch set only if it was set before. The vault must be unsealed.
+/// Checks a refused session: the error, the transactions without a modifying command, an idle chip as before, and an
+/// unsealed vault.
 pub fn check_refused(alloc: Global, case: &Case, refusal: Refusal, ran: &Ran) -> Result<(), Fault> {
     agree_all(&[
         (ran.answer == Err(refusal), "the refusal of a session"),
@@ -81,8 +79,8 @@ pub fn check_refused(alloc: Global, case: &Case, refusal: Refusal, ran: &Ran) ->
     traces::check_lines(sent, lines.text(), "a refused session")
 }
 
-/// Checks that an accepted session succeeded and sent the transactions `lines`. The chip must equal the target, the
-/// report must count the expected work, and the vault must hold a sealed journal with exactly the touched sectors.
+/// Checks an accepted session: it sent `lines`, the chip is the target, the report counts the work, and the sealed
+/// journal has exactly the touched sectors.
 pub fn check_ended(case: &Case, wanted: &Wanted, lines: &str, ran: &Ran) -> Result<(), Fault> {
     let Ok(report) = ran.answer else {
         return Err(Fault::Differs("an accepted session ends"));
@@ -115,7 +113,7 @@ pub fn check_report(chip: &Chip, work: Work, report: &Report) -> Result<(), Faul
     ])
 }
 
-/// Checks that `found` describes `chip`, with status 1 as the first poll that shows BUSY clear returns it.
+/// Checks that `found` describes `chip`, with status 1 as the first poll without BUSY returns it.
 pub fn check_found(chip: &Chip, found: &Found) -> Result<(), Fault> {
     let config = &chip.config;
     let named = found.name == verdicts::name_of(config);
@@ -131,7 +129,7 @@ pub fn check_found(chip: &Chip, found: &Found) -> Result<(), Fault> {
     ])
 }
 
-/// Checks that the chip on the bus has the target's bytes and non-volatile status bits, and is idle.
+/// Checks that the chip on the bus is idle, with the target's bytes and non-volatile status bits.
 pub fn check_wanted(wanted: &Wanted, bus: &SimBus) -> Result<(), Fault> {
     let bytes = bus.bytes() == wanted.bytes.as_slice();
     let kept = guards::kept(bus.status()) == guards::kept(wanted.status);
@@ -143,7 +141,6 @@ pub fn check_wanted(wanted: &Wanted, bus: &SimBus) -> Result<(), Fault> {
     ])
 }
 
-// Checks that the vault holds a journal of the original chip, with exactly the touched sectors.
 fn check_vault(chip: &Chip, wanted: &Wanted, vault: &MemVault) -> Result<(), Fault> {
     let journal = Journal::read(vault.bytes())?;
     check_head(chip, wanted, &journal)?;

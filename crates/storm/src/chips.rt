@@ -1,4 +1,4 @@
-//! Random chips, as plain values that no bus is connected to.
+//! Random chips, which no bus is connected to.
 
 use crate::contents;
 use crate::dice::Dice;
@@ -15,13 +15,13 @@ use std::alloc::Global;
 pub struct Chip {
     pub config: Config,
     pub bytes: Vec<u8>,
-    /// Status 1 and status 2. Bit 1 of status 1 is the write enable latch; BUSY and SUS are ignored.
+    /// Status 1 and 2. Bit 1 of status 1 is the write enable latch; BUSY and SUS are ignored.
     pub status: Status,
     pub delays: Delays,
 }
 
 impl Chip {
-    /// Returns a bus to a simulated copy of this chip. The bus stops as `stop` says.
+    /// Returns a bus to a copy of this chip, which stops as `stop` says.
     pub fn bus(&self, alloc: Global, stop: Stop) -> Result<SimBus, Fault> {
         let bytes = self.bytes.to_vec(alloc)?;
         let mut bus = SimBus::new(self.config, bytes, self.status, self.delays)?;
@@ -52,8 +52,8 @@ impl Chip {
     }
 }
 
-/// Draws a chip of 64, 128 or 256 KiB without block protection, whose ID isn't in the table. A few of these chips have
-/// SFDP bytes that a probe rejects, or an ID that means that there is no chip.
+/// Draws a chip of 64, 128 or 256 KiB without a row. A few have SFDP bytes that a probe rejects, or an ID without a
+/// chip.
 pub fn small(alloc: Global, dice: &mut Dice) -> Result<Chip, Fault> {
     let told = Told {
         size: dice.pick(65_536, &[131_072, 262_144]),
@@ -64,7 +64,7 @@ pub fn small(alloc: Global, dice: &mut Dice) -> Result<Chip, Fault> {
     if dice.hits(1, 20) {
         parameters::damage(dice, &mut shown);
     }
-    // If a probe accepts the SFDP bytes, the chip has the size and erase types that they describe.
+    // A chip whose SFDP a probe accepts has the size and erase types that it describes.
     let told = parameters::read(&shown, told.size).unwrap_or(told);
     let id = id_for(dice);
     let Some(config) = Config::new(id, told.size, told.k32, told.k64, false, &shown) else {
@@ -74,7 +74,7 @@ pub fn small(alloc: Global, dice: &mut Dice) -> Result<Chip, Fault> {
     chip_of(alloc, dice, config, status)
 }
 
-// Draws an ID that is not in the table. One such ID in 40 means that there is no chip.
+// One ID in 40 means that there is no chip.
 fn id_for(dice: &mut Dice) -> [u8; 3] {
     let last = dice.byte();
     let ids = [
@@ -95,13 +95,13 @@ pub fn row(dice: &mut Dice) -> Option<Part> {
     Some(dice.pick(*first, others))
 }
 
-/// Returns the configuration of the emulated chip with this ID, or `None` if no row of the table has this ID.
+/// Returns the configuration of the emulated chip with this ID, or `None` without a row.
 pub fn listed(id: [u8; 3]) -> Option<Config> {
     let part = part_of(id)?;
     Some(Config::emulated(part.id, part.size, part.kinds, part.scheme))
 }
 
-/// Draws a chip of the table, with block protection: four times in five a W25Q64FV, otherwise any chip of the table.
+/// Draws a chip of the table, with block protection: four times in five a W25Q64FV.
 pub fn large(alloc: Global, dice: &mut Dice) -> Result<Chip, Fault> {
     let status = protection(dice);
     if dice.hits(4, 5) {
@@ -112,8 +112,8 @@ pub fn large(alloc: Global, dice: &mut Dice) -> Result<Chip, Fault> {
     chip_of(alloc, dice, config, status)
 }
 
-/// Draws status bytes. On average about a third of them are locked, at least a third have no protection bit set or only
-/// BP0, and at least one in eight has protection bits that the datasheets don't define.
+/// Draws status bytes: about a third locked, at least a third without a protection bit or with BP0 only, and at least
+/// one in eight with protection bits that the datasheets don't define.
 pub fn protection(dice: &mut Dice) -> Status {
     let lock1 = dice.pick(0x80, &[0x00, 0x00, 0x00, 0x00]);
     let lock2 = dice.pick(0x01, &[0x00, 0x00, 0x00, 0x00]);
@@ -128,7 +128,6 @@ pub fn protection(dice: &mut Dice) -> Status {
     [lock1 | code1 | latch, lock2 | code2 | others]
 }
 
-// Returns a chip with this configuration and status, and with random bytes, unique ID and delays.
 fn chip_of(alloc: Global, dice: &mut Dice, config: Config, status: Status) -> Result<Chip, Fault> {
     let mut bytes = vec![in alloc; 0xFF; config.size as usize]?;
     contents::paint(dice, bytes.as_mut_slice());

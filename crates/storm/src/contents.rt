@@ -20,8 +20,7 @@ enum Style {
     OneByte,
 }
 
-/// Draws the number of a sector below `sectors`. Sectors near the ends of the chip, and near the ends of ranges that
-/// protection bits can select, are more likely.
+/// Draws a sector below `sectors`, most likely near the ends of the chip or of ranges that protection bits can select.
 pub fn sector(dice: &mut Dice, sectors: u32) -> u32 {
     let last = sectors.saturating_sub(1);
     let near = dice.below(3);
@@ -42,7 +41,7 @@ pub fn sector(dice: &mut Dice, sectors: u32) -> u32 {
     }
 }
 
-/// Returns the bytes of the sector with this number, or no bytes if there is no such sector.
+/// Returns the bytes of this sector, or no bytes if there is no such sector.
 pub fn sector_at(bytes: &[u8], number: u32) -> &[u8] {
     let start = number.saturating_mul(SECTOR_LEN) as usize;
     bytes
@@ -50,8 +49,8 @@ pub fn sector_at(bytes: &[u8], number: u32) -> &[u8] {
         .unwrap_or(&[])
 }
 
-/// Fills a chip with FFh or 00h, or about one in five chips of up to 256 KiB with random bytes. Then changes up to
-/// eight runs of adjacent sectors.
+/// Fills a chip with FFh or 00h (or a fifth of the chips of up to 256 KiB with random bytes), and changes up to eight
+/// runs of sectors.
 pub fn paint(dice: &mut Dice, bytes: &mut [u8]) {
     let base = dice.pick(Style::Erased, &[Style::Erased, Style::Cleared]);
     let small = bytes.len() <= 262_144;
@@ -69,8 +68,8 @@ pub fn paint(dice: &mut Dice, bytes: &mut [u8]) {
     }
 }
 
-/// Changes up to six runs of adjacent sectors in `image`, which has the bytes of a chip. For about one in five chips of
-/// up to 256 KiB, all bytes are replaced before that.
+/// Changes up to six runs of sectors in `image`. For a fifth of the chips of up to 256 KiB, all bytes are replaced
+/// first.
 pub fn alter(dice: &mut Dice, image: &mut [u8]) {
     let small = image.len() <= 262_144;
     if small && dice.hits(1, 10) {
@@ -92,7 +91,6 @@ pub fn alter(dice: &mut Dice, image: &mut [u8]) {
     }
 }
 
-// Draws a run of sectors, and changes each of them in this style.
 fn change_run(dice: &mut Dice, bytes: &mut [u8], style: Style) {
     let sectors = u32::try_from(bytes.len() / SECTOR_LEN as usize).unwrap_or(0);
     let (from, count) = run_for(dice, sectors);
@@ -105,8 +103,7 @@ fn change_run(dice: &mut Dice, bytes: &mut [u8], style: Style) {
     }
 }
 
-// Draws the first sector and the length of a run of adjacent sectors. The run has one to three sectors, or it begins at
-// a multiple of 32 or 64 KiB and is at least that long.
+// A run of one to three sectors, or one of at least 32 or 64 KiB from a multiple of that on.
 fn run_for(dice: &mut Dice, sectors: u32) -> (u32, usize) {
     let from = sector(dice, sectors);
     match dice.below(4) {
@@ -116,7 +113,6 @@ fn run_for(dice: &mut Dice, sectors: u32) -> (u32, usize) {
     }
 }
 
-// Changes the bytes of one sector in this style.
 fn change(dice: &mut Dice, sector: &mut [u8], style: Style) {
     match style {
         Style::Erased => sector.fill(0xFF),
@@ -130,8 +126,7 @@ fn change(dice: &mut Dice, sector: &mut [u8], style: Style) {
     }
 }
 
-// Changes bytes at `places` random positions of a sector. With `Falls` their bits only change from 1 to 0, with `Rises`
-// only from 0 to 1, and with any other style they become random.
+// Bits change only from 1 to 0 with `Falls`, only from 0 to 1 with `Rises`, and in any way with other styles.
 fn change_some(dice: &mut Dice, sector: &mut [u8], places: u32, style: Style) {
     for _ in 0..places {
         let at = dice.below(SECTOR_LEN) as usize;

@@ -5,7 +5,6 @@ use crate::fault::{Fault, agree};
 use nor_journal::{Journal, JournalFault};
 use std::alloc::Global;
 
-// The way in which a journal is damaged.
 #[derive(Clone, Copy)]
 enum Damage {
     CutOff,
@@ -13,8 +12,8 @@ enum Damage {
     Changed,
 }
 
-/// Truncates a copy of the journal, appends a byte to it, or changes one of its bytes. Checks that `Journal::read`
-/// rejects the result: a truncated journal with `Short`, and a longer one with `Long`.
+/// Truncates, lengthens or changes the journal. Checks that `Journal::read` rejects it, with `Short` or `Long` for the
+/// length.
 pub fn check(alloc: Global, dice: &mut Dice, journal: &[u8]) -> Result<(), Fault> {
     let mut bytes = journal.to_vec(alloc)?;
     let damage = make(dice, &mut bytes)?;
@@ -56,7 +55,7 @@ fn check_damaged(bytes: &[u8], damage: Damage) -> Result<(), Fault> {
     }
 }
 
-// Draws a position below `length`: half of the time any position, otherwise one of the last 40.
+// Half of the time one of the last 40 positions.
 fn place(dice: &mut Dice, length: usize) -> usize {
     let length = u32::try_from(length).unwrap_or(u32::MAX);
     let at = if dice.hits(1, 2) {

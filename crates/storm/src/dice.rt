@@ -7,13 +7,12 @@ use rand_pcg::Pcg32;
 #[derive(Drop)]
 pub struct Dice {
     words: Pcg32,
-    // A second stream of numbers, for stops inside a transaction. Drawing from it does not change the rest of a case.
+    // A second stream, for stops inside a transaction, so that drawing from it doesn't change the rest of a case.
     cuts: Pcg32,
 }
 
 impl Dice {
-    /// Returns the source for one case of a seed. Each case has its own stream of numbers, so that it can be run
-    /// without the others.
+    /// Returns the source for one case of a seed, which doesn't depend on the other cases.
     pub fn new(seed: u64, case: u64) -> Dice {
         let mixed = case.wrapping_mul(0x9E37_79B9_7F4A_7C15);
         Dice {
@@ -27,9 +26,8 @@ impl Dice {
         below(&mut self.words, n)
     }
 
-    /// Draws how many bytes of the interrupted transaction are still sent at a stop. At two stops in three none are
-    /// sent, and the result is `None`. For the other stops the number is from 0 to 6, from 0 to 260 (the length of a
-    /// full page program), or `u32::MAX` for all bytes.
+    /// Draws how many bytes of the interrupted transaction a stop still sends: at two stops in three none (`None`),
+    /// otherwise 0 to 6, 0 to 260 (a full page program), or `u32::MAX` for all.
     pub fn cut(&mut self) -> Option<u32> {
         match below(&mut self.cuts, 12) {
             0 | 1 => Some(below(&mut self.cuts, 7)),

@@ -4,7 +4,7 @@ use crate::fault::Fault;
 use nor_session::Refusal;
 use std::alloc::{AllocError, AllocFailed};
 
-/// The reason why a call did not succeed: the error that it must return, or a fault of the test.
+/// The error that a call must return, or a fault of the test.
 #[derive(Drop)]
 pub enum CallError {
     Refused(Refusal),

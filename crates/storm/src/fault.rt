@@ -15,12 +15,12 @@ pub enum Fault {
     Memory,
     /// The case can't be drawn or set up.
     Case,
-    /// The result differs from that of the reference implementation. The text names the difference.
+    /// The result differs from that of the reference implementation, as the text says.
     Differs(&'static str),
-    /// The call, which the text names, sent other, fewer or more transactions than the reference implementation. The
-    /// number is that of the first transaction that differs, is missing or is additional, counted from 1.
+    /// The call that the text names sent other transactions than the reference implementation. The number is that of
+    /// the first difference, from 1.
     Sends(&'static str, u64),
-    /// A comparison did not detect a planted error. The text names the error.
+    /// A comparison did not detect the planted error that the text names.
     Untold(&'static str),
 }
 
@@ -33,8 +33,7 @@ pub fn agree(agrees: bool, what: &'static str) -> Result<(), Fault> {
     }
 }
 
-/// Returns `Differs` with the text of the first comparison that is false, if there is one. Callers pass a list, since
-/// the prover would prove each exit of several calls of `agree` separately.
+/// Returns `Differs` for the first comparison that is false. A list is proved faster than several calls of `agree`.
 pub fn agree_all(things: &[(bool, &'static str)]) -> Result<(), Fault> {
     for (agrees, what) in things {
         if !*agrees {

@@ -1,15 +1,14 @@
-//! The addresses that each value of the protection bits protects, by the table in the datasheets of W25Q64FV and
-//! W25Q128FV.
+//! The addresses that protection bits protect, by the table in the datasheets of W25Q64FV and W25Q128FV.
 
 /// Status 1 and status 2.
 pub type Status = [u8; 2];
 
-/// Returns the non-volatile bits of `status`: all except BUSY and WEL in status 1, and SUS in status 2.
+/// Returns the non-volatile bits: all except BUSY, WEL and SUS.
 pub fn kept(status: Status) -> Status {
     [status[0] & 0b1111_1100, status[1] & 0b0111_1111]
 }
 
-/// Returns the non-volatile bits of `status` that are not protection bits.
+/// Returns the non-volatile bits that are not protection bits.
 pub fn fixed(status: Status) -> Status {
     [status[0] & 0b1000_0000, status[1] & 0b0011_1111]
 }
@@ -19,7 +18,7 @@ pub fn is_locked(status: Status) -> bool {
     status[0] & 0b1000_0000 != 0 || status[1] & 0b0000_0001 != 0
 }
 
-/// Returns the protection bits CMP, SEC, TB, BP2, BP1 and BP0 as a number below 64, with CMP as the highest bit.
+/// Returns the protection bits as a number below 64: CMP, SEC, TB, BP2, BP1, BP0.
 pub fn code_of(status: Status) -> u8 {
     let low = status[0] / 4 % 32;
     if status[1] & 0b0100_0000 == 0 {
@@ -29,7 +28,7 @@ pub fn code_of(status: Status) -> u8 {
     }
 }
 
-/// Returns the non-volatile bits of `status`, with the protection bits replaced by those of `code`.
+/// Returns the non-volatile bits of `status`, with the protection bits of `code`.
 pub fn with_code(status: Status, code: u8) -> Status {
     let [fixed1, fixed2] = fixed(status);
     let high = if code / 32 % 2 == 0 { 0 } else { 0b0100_0000 };
@@ -41,8 +40,7 @@ pub fn is_undefined(code: u8) -> bool {
     code / 16 % 2 == 1 && code % 8 == 6
 }
 
-// Returns the length of the range that SEC and BP select, which is at one end of the chip. The protection bits must be
-// defined.
+// The protection bits must be defined.
 fn part_len(code: u8, size: u32) -> u32 {
     let by_sectors = code / 16 % 2 == 1;
     match (by_sectors, code % 8) {
@@ -61,8 +59,7 @@ fn part_len(code: u8, size: u32) -> u32 {
     }
 }
 
-/// Returns the first address and the length of the protected range on a chip of this size. For undefined protection
-/// bits this is the whole chip.
+/// Returns the start and the length of the protected range: the whole chip for undefined protection bits.
 pub fn guarded_places(code: u8, size: u32) -> (u32, u32) {
     if is_undefined(code) {
         return (0, size);
@@ -79,13 +76,13 @@ pub fn guarded_places(code: u8, size: u32) -> (u32, u32) {
     }
 }
 
-/// True if `code` protects this address on a chip of this size. The chip must have block protection.
+/// True if `code` protects this address on a chip of this size with block protection.
 pub fn guards(code: u8, size: u32, address: u32) -> bool {
     let (start, len) = guarded_places(code, size);
     start <= address && address < start.saturating_add(len)
 }
 
-/// True if `code` protects an address of the sector on a chip of this size. The chip must have block protection.
+/// True if `code` protects an address of the sector on a chip of this size with block protection.
 pub fn guards_some(code: u8, size: u32, sector: u32) -> bool {
     let start = sector.saturating_mul(4096);
     for address in start..start.saturating_add(4096) {
@@ -96,8 +93,8 @@ pub fn guards_some(code: u8, size: u32, sector: u32) -> bool {
     false
 }
 
-/// Returns the least defined value of the protection bits that protects exactly `len` bytes from `start` on, if there
-/// is one. If `len` is 0, `start` doesn't matter.
+/// Returns the least protection bits that protect exactly `len` bytes from `start` on, if any do. Without bytes, any
+/// start will do.
 pub fn least_code(start: u32, len: u32, size: u32) -> Option<u8> {
     (0..64).find(|code| !is_undefined(*code) && protects_exactly(*code, start, len, size))
 }

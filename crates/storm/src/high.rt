@@ -11,8 +11,7 @@ pub struct High {
     pub bit: u8,
 }
 
-/// A bus over `bus`. If `high` is `Some`, this bus sets a bit in each byte of the replies to one opcode. Otherwise it
-/// passes on all replies as they are.
+/// A bus over `bus` that sets a bit in each reply byte to one opcode if `high` is `Some`.
 #[derive(Drop)]
 pub struct HighBus<B> {
     bus: B,
@@ -56,7 +55,6 @@ impl<B: Bus> Bus for HighBus<B> {
     }
 }
 
-// Sets the bit with this number in each byte. If the number is above 7, changes nothing.
 fn set_bit(bytes: &mut [u8], bit: u8) {
     let mask = [0x01, 0x02, 0x04, 0x08, 0x10, 0x20, 0x40, 0x80];
     let mask = mask.get(usize::from(bit)).copied().unwrap_or(0);

@@ -1,4 +1,4 @@
-//! The journal that a session must write to its vault, computed by simple rules from the chip and the session's target.
+//! The journal that a session must write, computed by simple rules from the chip and the session's target.
 
 use crate::cases::Case;
 use crate::chips::Chip;
@@ -9,11 +9,10 @@ use crate::{guards, lengths};
 use nor_journal::{Journal, MemVault};
 use std::alloc::Global;
 
-// The length of what follows the records: an end mark of four bytes and a SHA-256.
+// An end mark of four bytes, and a SHA-256.
 const END_LEN: usize = 36;
 
-/// Returns the journal as it is after the sectors below `below` were scanned. It has the header and, in ascending
-/// order, a record for each touched sector among them. The end mark and the digest are missing.
+/// Returns the journal after the scan of the sectors below `below`, without the end mark and the digest.
 pub fn begun(alloc: Global, case: &Case, wanted: &Wanted, below: u32) -> Result<Vec<u8>, Fault> {
     let mut text = Vec::new(alloc);
     put_head(&mut text, &case.chip)?;
@@ -52,9 +51,7 @@ fn put_record(text: &mut Vec<u8>, number: u32, sector: &[u8]) -> Result<(), Faul
     Ok(())
 }
 
-/// Checks the vault of a session on a faulty bus. If `sealed` is true, the vault must be sealed, and hold a journal
-/// that begins with `begun` and has only the end mark and the digest after it. Otherwise it must be unsealed and hold
-/// exactly `begun`.
+/// Checks the vault of a session on a faulty bus: exactly `begun`, and if `sealed` also the end mark and the digest.
 pub fn check_put(vault: &MemVault, begun: &[u8], sealed: bool) -> Result<(), Fault> {
     let held = vault.bytes();
     let same = if sealed {
@@ -69,8 +66,7 @@ pub fn check_put(vault: &MemVault, begun: &[u8], sealed: bool) -> Result<(), Fau
     ])
 }
 
-/// Checks the vault of a session that was refused after its whole scan. The vault must hold the journal without the end
-/// mark and the digest.
+/// Checks the vault of a session that was refused after its scan: the journal without the end mark and the digest.
 pub fn check_refused(
     alloc: Global,
     case: &Case,
@@ -84,9 +80,8 @@ pub fn check_refused(
     )
 }
 
-/// Checks the vault of a session that stopped after `sent` transactions, before its seal. If the identification was
-/// complete, the vault must hold the header and the records of the touched sectors that were scanned. Otherwise the
-/// vault must be empty.
+/// Checks the vault of a session that stopped before its seal: the header and the records so far, or nothing before the
+/// identification was complete.
 pub fn check_stopped(
     alloc: Global,
     case: &Case,
@@ -101,8 +96,7 @@ pub fn check_stopped(
     agree(held == begun.as_slice(), "the journal that a stop leaves")
 }
 
-// Returns one more than the number of the last scanned sector, after the first `scanned` sectors with an included
-// address were scanned. Returns 0 if `scanned` is 0.
+// One more than the last of the first `scanned` included sectors, or 0 without one.
 fn below(case: &Case, scanned: u64) -> u32 {
     let mut below = 0;
     let mut left = scanned;

@@ -35,7 +35,6 @@ pub struct Left {
     model: Model,
 }
 
-// A call with a stop. `whole` has the lines that the call sends without a stop.
 #[derive(Clone, Copy)]
 struct Call<'a> {
     whole: &'a str,
@@ -43,12 +42,11 @@ struct Call<'a> {
 }
 
 impl<'a> Call<'a> {
-    // True if the stop is after all transactions of the call, so that the call succeeds.
     fn ends(self) -> bool {
         self.stop.after >= lines::count(self.whole)
     }
 
-    // Returns the lines that the call sends before the stop. A transaction that the stop interrupts has no line.
+    // A transaction that the stop interrupts has no line.
     fn lines(self) -> &'a str {
         lines::first(self.whole, self.stop.after)
     }
@@ -63,8 +61,8 @@ fn restore_lines_on(alloc: Global, accepted: Accepted<'_>, chip: &Chip) -> Resul
     transactions::restore(alloc, chip, saved.sectors, &restored)
 }
 
-/// Runs an accepted session with a stop. Checks that the session succeeds if and only if the stop is after all its
-/// transactions, that it sends exactly the transactions before the stop, and that afterwards the chip equals the model.
+/// Runs an accepted session with a stop. Checks that it succeeds only if the stop is late enough, that it sends the
+/// transactions before the stop, and that the chip equals the model.
 pub fn run(alloc: Global, accepted: Accepted<'_>, stop: Stop) -> Result<(Left, MemVault), Fault> {
     let ran = checks::run(alloc, accepted.case, stop)?;
     let call = Call {
@@ -82,7 +80,6 @@ pub fn run(alloc: Global, accepted: Accepted<'_>, stop: Stop) -> Result<(Left, M
     Ok((left, ran.vault))
 }
 
-// Returns the model of `chip` after a call, or a fault if the chip on the bus differs from the model.
 fn model_after(alloc: Global, chip: &Chip, call: Call<'_>, bus: &SimBus) -> Result<Model, Fault> {
     let mut model = Model::of(alloc, chip)?;
     model.call(call.whole, call.stop);
@@ -105,10 +102,8 @@ fn check_session(call: Call<'_>, ran: &Ran) -> Result<(), Fault> {
     traces::check_trace(ran.sent.as_slice(), call.lines(), "a stopped session")
 }
 
-/// Restores from the journal of a session, with a stop, on the chip that the previous call left. Checks that the
-/// restore succeeds if and only if the stop is after all its transactions, that it sends exactly the transactions
-/// before the stop, and that afterwards the chip equals the model. After a success, the chip must have the bytes and
-/// non-volatile status bits of the original chip.
+/// Restores with a stop on the chip that the previous call left, with the checks of `run`. After a success, the chip
+/// must be the original chip.
 pub fn restore(
     alloc: Global,
     accepted: Accepted<'_>,

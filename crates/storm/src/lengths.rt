@@ -6,7 +6,7 @@ use crate::verdicts;
 use crate::wanted::Work;
 use nor_session::{Refusal, What};
 
-/// Returns the sum of a few numbers, which are all far below the greatest `u64`.
+/// Returns the sum of a few small numbers.
 fn sum(numbers: &[u64]) -> u64 {
     let mut sum = 0_u64;
     for number in numbers {
@@ -15,8 +15,8 @@ fn sum(numbers: &[u64]) -> u64 {
     sum
 }
 
-/// Returns the number of transactions of a probe: polls up to the first one that shows BUSY clear, the ID, and three
-/// reads of SFDP. A probe doesn't read SFDP if the ID is in the table, or means that there is no chip.
+/// Returns the number of transactions of a probe: polls, the ID, and three reads of SFDP if the ID has no row and means
+/// a chip.
 pub fn probe(chip: &Chip) -> u64 {
     let polls = u64::from(chip.delays.now) + 1;
     let known = verdicts::is_in_table(&chip.config) || verdicts::is_no_chip(&chip.config);
@@ -47,9 +47,8 @@ pub fn saving(case: &Case) -> u64 {
     sum(&[identity(&case.chip), scanned])
 }
 
-/// Returns the number of transactions of a session that is refused with this error. Errors 1 to 3 are returned after
-/// the probe, errors 4 to 8 after the identification, and errors 9 and 10 after the scan. A request for a protection
-/// range has no scan.
+/// Returns the number of transactions of a session that is refused: errors 1 to 3 follow the probe, errors 4 to 8 the
+/// identification, and errors 9 and 10 the scan, which a request for a range lacks.
 pub fn refused(case: &Case, refusal: Refusal) -> u64 {
     match refusal {
         Refusal::NoChip | Refusal::UnknownChip(_) | Refusal::OtherName => probe(&case.chip),
@@ -58,8 +57,8 @@ pub fn refused(case: &Case, refusal: Refusal) -> u64 {
     }
 }
 
-/// Returns the number of transactions of the changes to a chip: one read for each touched sector that isn't erased, and
-/// the operations. An operation is a write enable, a command, and polls until BUSY is clear.
+/// Returns the number of transactions of the changes: a read of each touched sector that isn't erased, and for each
+/// operation a write enable, a command, and polls.
 pub fn changes(chip: &Chip, work: Work) -> u64 {
     let operations = sum(&[work.erases, work.programs, work.status_writes]);
     let each = u64::from(chip.delays.each) + 3;
@@ -73,8 +72,7 @@ pub fn session(case: &Case, work: Work) -> u64 {
     sum(&[saving(case), changes(&case.chip, work), checked])
 }
 
-/// Returns the number of transactions of a restore that succeeds, from a journal with `saved` sectors. A restore always
-/// verifies.
+/// Returns the number of transactions of a restore that succeeds, from `saved` sectors. A restore always verifies.
 pub fn restore(chip: &Chip, saved: u64, work: Work) -> u64 {
     sum(&[identity(chip), saved, changes(chip, work), work.touched])
 }

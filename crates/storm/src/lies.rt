@@ -1,5 +1,4 @@
-//! Sessions, restores and reading calls on faulty buses. Each is compared with the reference implementation on a bus
-//! with the same fault.
+//! Calls on faulty buses, compared with the reference implementation on a bus with the same fault.
 
 use crate::cases::Case;
 use crate::chips::Chip;
@@ -17,7 +16,6 @@ use nor_journal::{Journal, MemVault};
 use nor_session::{Refusal, Report, Request, restore, session};
 use std::alloc::Global;
 
-// The result of a call, and its trace.
 #[derive(Drop)]
 struct Ran {
     answer: Result<Report, Refusal>,
@@ -72,8 +70,7 @@ fn tell_session(alloc: Global, bus: Faulty, case: &Case) -> (Told, Put) {
     (Told { answer, sent }, put)
 }
 
-/// Checks a restore of `chip` on a faulty bus, from a journal with the contents `saved`. `count` is the restore's
-/// number of transactions on a bus without a fault.
+/// Checks a restore of `chip` on a faulty bus. `count` is its number of transactions on a bus without a fault.
 pub fn check_restore(
     alloc: Global,
     dice: &mut Dice,
@@ -116,14 +113,12 @@ fn tell_restore(alloc: Global, bus: Faulty, saved: Saved<'_>) -> Told {
     Told { answer, sent }
 }
 
-// Checks that the call sent the same transactions as the reference implementation, and returned the same error,
-// including the address. If both succeeded, the report must count these transactions.
+// Errors must agree including the address. After a success, the report must count the transactions.
 fn check(ran: &Ran, told: Told, call: &'static str) -> Result<(), Fault> {
     let count = check_sent(ran.sent.as_slice(), told.sent.as_slice(), call)?;
     check_answer(ran.answer, told.answer, count)
 }
 
-// Checks that the call and the reference implementation sent the same transactions. Returns their number.
 fn check_sent(sent: &[u8], told: &[u8], call: &'static str) -> Result<u64, Fault> {
     let sent = traces::text(sent)?;
     traces::check_lines(sent, traces::text(told)?, call)?;
@@ -148,15 +143,13 @@ fn check_answer(
     }
 }
 
-// The result of a reading call, and its trace.
 #[derive(Drop)]
 struct Read {
     answer: Result<readings::Told, Refusal>,
     sent: Vec<u8>,
 }
 
-// The result of the reference implementation for a reading call, and the trace of its transactions. After a success the
-// result is a copy of the case in which the chip is the one that the replies describe.
+// After a success the result is the case with the chip that the replies describe.
 #[derive(Drop)]
 struct Known {
     answer: Result<Case, CallError>,
@@ -228,19 +221,16 @@ fn check_known(
     }
 }
 
-// The fault of a bus.
 #[derive(Clone, Copy)]
 enum Lie {
     Spoilt(Spoil),
     Sets(High),
 }
 
-// A bus with one of these faults.
 type Faulty = HighBus<SpoiltBus<SimBus>>;
 
-// Draws a fault of the bus. About three of four faults that clear a bit are replaced by a fault that sets the same bit
-// in the replies to one opcode. Half of the time this opcode is 35h (status 2). Whether a fault is replaced, and the
-// opcode, depend only on `count`.
+// Three of four faults that clear a bit are replaced by one that sets it, in the replies to one opcode, half of the
+// time 35h (status 2). This depends only on `count`.
 fn lie_for(dice: &mut Dice, count: u64) -> Lie {
     let opcodes = [0x35, 0x05, 0x35, 0x9F, 0x35, 0x03, 0x35, 0x4B];
     let high = usize::try_from(count / 4 % 8)
@@ -255,9 +245,8 @@ fn lie_for(dice: &mut Dice, count: u64) -> Lie {
     }
 }
 
-// Draws a fault of a `SpoiltBus`. `Drop` and `BusyFrom` have the number of a transaction. Half of the time this number
-// is in the last quarter of the call, otherwise it is any number from 0 to `count`. A `Drop` at 0 has no effect, as
-// transactions are counted from 1.
+// Half of the time the transaction of `Drop` and `BusyFrom` is in the last quarter of the call. A `Drop` at 0 has no
+// effect.
 fn spoil_for(dice: &mut Dice, count: u64) -> Spoil {
     let late = count / 4 * 3;
     let number = if dice.hits(1, 2) {
@@ -273,7 +262,6 @@ fn spoil_for(dice: &mut Dice, count: u64) -> Spoil {
     }
 }
 
-// Returns a bus with this fault to a copy of the chip. The bus never stops.
 fn liar(alloc: Global, chip: &Chip, lie: Lie) -> Result<Faulty, Fault> {
     let bus = chip.bus(alloc, Stop::NEVER)?;
     let (spoil, high) = match lie {

@@ -8,12 +8,10 @@ use nor_chip::SECTOR_LEN;
 use std::alloc::Global;
 use std::fmt::Write;
 
-/// The trace lines of the transactions sent so far, and the chip's status bits, BUSY and write enable latch, which
-/// determine its next replies. If memory ran out for a line, `whole` returns a fault.
+/// The trace lines of the transactions so far, and the state of the chip that determines its next replies.
 #[derive(Drop)]
 pub struct Lines {
     text: String,
-    // True if memory ran out for a line.
     lost: bool,
     // The chip's non-volatile status bits after these transactions.
     status: Status,
@@ -45,7 +43,7 @@ impl Lines {
         self.text.as_str()
     }
 
-    /// Appends a wait: polls (05h) up to the first one that shows BUSY clear.
+    /// Appends a wait: polls (05h) up to the first without BUSY.
     pub fn wait(&mut self) {
         for _ in 0..=self.pace.busy {
             let status1 = self.status[0] | self.pace.bits();
@@ -63,8 +61,7 @@ impl Lines {
         self.put("\n");
     }
 
-    /// Appends a read of `count` SFDP bytes from `address` on (5Ah): three address bytes and a dummy byte, which is
-    /// 00h.
+    /// Appends a read of `count` SFDP bytes from `address` on (5Ah), with a dummy byte 00h.
     pub fn read_parameters(&mut self, address: u32, count: u32) {
         self.lost |= writeln!(self.text, "5a{address:06x}00 > {count} bytes").is_err();
     }
@@ -76,7 +73,7 @@ impl Lines {
         self.put("\n");
     }
 
-    /// Appends a read of the unique ID (4Bh): four dummy bytes, which are 00h, and eight bytes that are read.
+    /// Appends a read of the unique ID (4Bh), with four dummy bytes 00h.
     pub fn read_unique(&mut self) {
         self.put("4b00000000 > 8 bytes\n");
     }
@@ -87,7 +84,7 @@ impl Lines {
         self.put(" > 4096 bytes\n");
     }
 
-    /// Appends an operation that erases the block at `address`: a write enable, a command with `opcode`, and a wait.
+    /// Appends an erase of the block at `address` with `opcode`.
     pub fn erase(&mut self, opcode: u8, address: u32) {
         self.enable();
         self.put_address(opcode, address);
@@ -102,7 +99,7 @@ impl Lines {
         self.finish(0xC7);
     }
 
-    /// Appends an operation that programs `bytes` from `address` on (02h).
+    /// Appends a program of `bytes` from `address` on (02h).
     pub fn program(&mut self, address: u32, bytes: &[u8]) {
         self.enable();
         self.put_address(0x02, address);
@@ -111,7 +108,7 @@ impl Lines {
         self.finish(0x02);
     }
 
-    /// Appends an operation that writes both status bytes (01h).
+    /// Appends a write of both status bytes (01h).
     pub fn write_status(&mut self, status: Status) {
         self.enable();
         self.put("01");
@@ -125,26 +122,22 @@ impl Lines {
         self.lost |= self.text.push_str(text).is_err();
     }
 
-    // Appends the bytes, with two hexadecimal digits for each.
     fn put_bytes(&mut self, bytes: &[u8]) {
         for byte in bytes {
             self.lost |= write!(self.text, "{byte:02x}").is_err();
         }
     }
 
-    // Appends an opcode and the address after it, which has 24 bits.
     fn put_address(&mut self, opcode: u8, address: u32) {
         let [_, high, middle, low] = address.to_be_bytes();
         self.put_bytes(&[opcode, high, middle, low]);
     }
 
-    // Appends the write enable (06h) with which every operation begins.
     fn enable(&mut self) {
         self.put("06\n");
         self.pace = self.pace.after(0x06);
     }
 
-    // Appends the wait with which every operation ends, after the command with this opcode.
     fn finish(&mut self, opcode: u8) {
         self.pace = self.pace.after(opcode);
         self.wait();
@@ -161,8 +154,7 @@ pub fn first(lines: &str, count: u64) -> &str {
     lines.get(..end).unwrap_or(lines)
 }
 
-/// Returns the byte at the position `place`, counted from 0, in `sent`, which has two hexadecimal digits for each byte.
-/// Returns 0 if `sent` has no such byte.
+/// Returns byte `place` of the hexadecimal digits `sent`, or 0 if there is none.
 pub fn byte_at(sent: &str, place: usize) -> u8 {
     let from = place.saturating_mul(2);
     let digits = sent.get(from..from.saturating_add(2)).unwrap_or("");

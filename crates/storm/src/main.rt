@@ -1,36 +1,34 @@
-//! A random differential test of sessions, restores, rehearsals and reading calls on simulated chips. Each case is
-//! drawn from a seed, and its results are compared with those of a reference implementation. The reference
-//! implementation is written from the specification. Except for the table of chips, it has no code of the engine for
-//! what a call checks, saves, sends and changes.
+//! A random differential test of sessions, restores, rehearsals and reading calls on simulated chips. A reference
+//! implementation, written from the specification, has no code of the engine except the table of chips.
 //!
-//! - `words.rt`: the command line: seeds, number of cases, first case
-//! - `runs.rt`: runs the cases of a seed, and draws which checks each case gets
-//! - `dice.rt`: random numbers that depend only on the seed and the number of the case
+//! - `words.rt`: the command line
+//! - `runs.rt`: runs the cases of a seed
+//! - `dice.rt`: random numbers of a seed and a case
 //! - `cases.rt`: a random chip with a request and an image
 //! - `chips.rt`: random chips
 //! - `contents.rt`: random bytes of chips and images
 //! - `parameters.rt`: random SFDP bytes, and a reference parser for them
-//! - `guards.rt`: the addresses that each value of the protection bits protects
+//! - `guards.rt`: the addresses that protection bits protect
 //! - `verdicts.rt`: the error that a call must return
-//! - `wanted.rt`: the target of a session or restore, and the work that it takes
+//! - `wanted.rt`: the target of a session or restore, and its work
 //! - `lengths.rt`: the number of transactions that a call sends
 //! - `transactions.rt`: the transactions that a call sends, in order
 //! - `lines.rt`: the trace line of each transaction
 //! - `pace.rt`: BUSY and the write enable latch of a chip
 //! - `journals.rt`: the bytes that a session writes to its vault
-//! - `model.rt`: a reference model of the chip, also for stops inside a transaction and power failures
+//! - `model.rt`: a reference model of the chip, its stops and power failures
 //! - `checks.rt`: compares sessions that are not stopped
 //! - `traces.rt`: compares traces
-//! - `stops.rt`: compares sessions that are stopped, and the restores after them
-//! - `left.rt`: runs calls one after the other on a chip and on its model
-//! - `rehearsals.rt`: compares rehearsals with the same session and restores called one by one
-//! - `restores.rt`: compares restores of random chips from the journal of a session
+//! - `stops.rt`: compares sessions that are stopped, and their restores
+//! - `left.rt`: runs calls on a chip and on its model
+//! - `rehearsals.rt`: compares rehearsals with the calls one by one
+//! - `restores.rt`: compares restores of random chips
 //! - `damages.rt`: checks that damaged journals are rejected
 //! - `readings.rt`: compares the calls that only read
 //! - `lies.rt`: compares calls on faulty buses
-//! - `high.rt`: a faulty bus that sets a bit in the replies to one opcode
+//! - `high.rt`: a faulty bus that sets a bit in replies
 //! - `errors.rt`: why a call over a faulty bus does not succeed
-//! - `told.rt`: the reference implementation over a faulty bus, which acts on the replies of that bus
+//! - `told.rt`: the reference implementation over a faulty bus
 //! - `tally.rt`: counts the cases of each kind
 //! - `wrongs.rt`: checks that the comparisons detect errors
 //! - `fault.rt`: the reasons why a run ends early
@@ -91,7 +89,6 @@ fn main(rt: HostRuntime) -> Result<ExitCode, Fault> {
     }
 }
 
-// Runs the cases of each seed, after `wrongs` has checked that the comparisons detect errors.
 fn run_all(rt: &HostRuntime, job: Job) -> Result<ExitCode, Fault> {
     wrongs::check(rt.alloc())?;
     let (mut passed, mut failed) = (0_u64, 0_u64);
@@ -109,8 +106,7 @@ fn run_all(rt: &HostRuntime, job: Job) -> Result<ExitCode, Fault> {
     }
 }
 
-// Runs the cases of a seed, and prints the tally. Returns the number of cases that agreed before the first failure, and
-// the number of failures: 0 or 1. A tally that is not sufficient (`Tally::is_sufficient`) is a failure, too.
+// Returns the number of cases that agreed, and of failures (0 or 1): of a case, or of a tally that isn't sufficient.
 fn run(rt: &HostRuntime, job: Job, seed: u64) -> Result<(u64, u64), Fault> {
     let (tally, failed) = runs::run(rt.alloc(), job, seed);
     eprintln!(rt; "Seed {seed}. {tally}")?;
@@ -129,7 +125,6 @@ fn run(rt: &HostRuntime, job: Job, seed: u64) -> Result<(u64, u64), Fault> {
     Ok((job.count, 0))
 }
 
-// Prints the case and the fault that ended a run, and the command that runs this case again.
 fn tell(rt: &HostRuntime, seed: u64, failed: &FailedCase) -> io::Result<()> {
     let case = failed.case;
     tell_fault(rt, seed, case, &failed.fault)?;

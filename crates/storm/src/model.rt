@@ -1,4 +1,4 @@
-//! A reference model of the chip: the effect of each transaction, given as a line of a trace, and the effect of a stop.
+//! A reference model of the chip: the effect of each line of a trace, and of a stop.
 
 use crate::chips::Chip;
 use crate::fault::{Fault, agree_all};
@@ -13,12 +13,10 @@ use std::alloc::Global;
 pub struct Stop {
     /// The number of transactions that are carried out before the stop.
     pub after: u64,
-    /// The number of bytes of the next transaction that are still sent, or all its bytes if it has fewer. With `None`
-    /// no byte is sent.
+    /// The number of bytes of the next transaction that are still sent, if it has so many. `None` sends none.
     pub cut: Option<u32>,
-    /// The fill byte of a power failure at the stop, or `None` if the chip keeps its power. If a program or an erase is
-    /// in progress, each byte of its page or block becomes the fill byte. If a status write is in progress, an even
-    /// fill byte undoes it.
+    /// With `Some`, the stop is a power failure. Each byte of the page or block in progress becomes this byte; a status
+    /// write in progress is undone if it is even.
     pub fill: Option<u8>,
 }
 
@@ -47,10 +45,9 @@ pub struct Model {
     work: Work,
 }
 
-// The operation that a busy chip performs. A power failure may interrupt it.
 #[derive(Clone, Copy)]
 enum Work {
-    // An operation that began before the model was made. The model doesn't know what it is.
+    // An operation that began before the model was made.
     Unknown,
     // A program or an erase, with the first address and the number of bytes of its page or block.
     Bytes(u32, u32),
@@ -67,8 +64,7 @@ impl Model {
         })
     }
 
-    /// Carries out the transactions of a call up to the stop, and then the stop. `whole` has the lines that the call
-    /// sends without a stop.
+    /// Carries out the transactions of a call up to the stop, and then the stop. `whole` has its lines without a stop.
     pub fn call(&mut self, whole: &str, stop: Stop) {
         let first = lines::first(whole, stop.after);
         for line in first.lines() {
@@ -81,8 +77,7 @@ impl Model {
         }
     }
 
-    /// Returns a fault unless the chip on the bus has the bytes, the non-volatile status bits, BUSY and the write
-    /// enable latch of the model.
+    /// Returns a fault unless the chip on the bus equals the model, in BUSY and the write enable latch, too.
     pub fn check(&self, bus: &SimBus) -> Result<(), Fault> {
         let now = bus.status();
         let shown = now[0] & 0b0000_0011;
@@ -102,8 +97,7 @@ impl Model {
         ])
     }
 
-    // Applies a stop at a transaction. `sent` has the hexadecimal digits of the bytes that the transaction sends
-    // without a stop.
+    // `sent` has the hexadecimal digits of the transaction without a stop.
     fn stop(&mut self, sent: &str, stop: Stop) {
         if let Some(count) = stop.cut {
             let digits = (count as usize).saturating_mul(2);
@@ -114,8 +108,7 @@ impl Model {
         }
     }
 
-    // Carries out a transaction that sends these bytes, as hexadecimal digits. Only polls and modifying commands change
-    // the model. A 04h is ignored, since no call sends it.
+    // Only polls and modifying commands change the model. A 04h is never sent.
     fn carry_out(&mut self, sent: &str) {
         let opcode = byte_at(sent, 0);
         match (opcode, sent.len() / 2) {
@@ -135,8 +128,6 @@ impl Model {
         Pace::of(&self.chip)
     }
 
-    // Sets BUSY and the write enable latch to their values after the chip has carried out a transaction with this
-    // opcode.
     fn pass(&mut self, opcode: u8) {
         self.set_pace(self.pace().after(opcode));
     }
@@ -146,8 +137,7 @@ impl Model {
         self.chip.status[0] = guards::kept(self.chip.status)[0] | pace.bits();
     }
 
-    // True if the chip carries out an operation on these addresses: it is idle, its write enable latch is set, and none
-    // of the addresses is protected.
+    // True if the chip is idle with a set write enable latch, and none of the addresses is protected.
     fn takes(&self, start: u32, len: u32) -> bool {
         let Chip { config, status, .. } = &self.chip;
         let (first, count) = guards::guarded_places(guards::code_of(*status), config.size);
@@ -161,9 +151,7 @@ impl Model {
         self.pace().bits() == 0b0000_0010
     }
 
-    // Writes the non-volatile status bits that are sent, if the chip is idle, its write enable latch is set and its
-    // status isn't locked. There are two exceptions: an LB bit that is set stays set, and the reserved bit keeps its
-    // value.
+    // An LB bit that is set stays set, and the reserved bit keeps its value.
     fn write_status(&mut self, one: u8, two: u8) {
         let before = guards::kept(self.chip.status);
         if !self.is_ready() || guards::is_locked(before) {
@@ -200,8 +188,7 @@ impl Model {
         }
     }
 
-    // Programs the bytes that follow the address in `sent`, if the chip accepts the operation. Bits change only from 1
-    // to 0. After the last byte of the page, programming continues at the first byte of the same page.
+    // Bits change only from 1 to 0. The last byte of the page is followed by its first.
     fn program(&mut self, sent: &str) {
         let address = self.address_of(sent);
         if !self.takes(address, 1) {
@@ -222,7 +209,6 @@ impl Model {
         }
     }
 
-    // Returns the address that follows the opcode in `sent`, modulo the chip's size.
     fn address_of(&self, sent: &str) -> u32 {
         let digits = sent.get(2..8).unwrap_or("");
         let address = u32::from_str_radix(digits, 16).unwrap_or(0);
@@ -237,8 +223,7 @@ impl Model {
         self.set_pace(pace.without_power());
     }
 
-    // Interrupts the operation. A program or an erase leaves `fill` in each byte of its page or block. A status write
-    // leaves the old bits if `fill` is even, and the new bits if it is odd. An unknown operation changes nothing.
+    // A status write leaves the old bits if `fill` is even, and the new bits if it is odd.
     fn cut_off(&mut self, fill: u8) {
         match self.work {
             Work::Bytes(start, len) => self.fill(start, len, fill),
@@ -248,7 +233,6 @@ impl Model {
     }
 }
 
-// Returns the hexadecimal digits of the bytes that a transaction sends, from its line.
 fn sent_by(line: &str) -> &str {
     match line.split_once(' ') {
         Some((sent, _)) => sent,
@@ -256,7 +240,6 @@ fn sent_by(line: &str) -> &str {
     }
 }
 
-// Returns the first address of the aligned block of this length that holds the address.
 fn aligned(address: u32, len: u32) -> u32 {
     address.saturating_sub(address.checked_rem(len).unwrap_or(0))
 }

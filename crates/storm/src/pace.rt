@@ -9,7 +9,6 @@ pub struct Pace {
     /// The number of polls that will still show BUSY.
     pub busy: u16,
     latch: bool,
-    // The number of polls that show BUSY after each operation.
     each: u16,
 }
 
@@ -28,8 +27,8 @@ impl Pace {
         u8::from(self.busy > 0) | u8::from(self.latch) << 1
     }
 
-    /// Returns the pace after the chip carried out a transaction with this opcode. For a write enable or an operation
-    /// the chip must be idle, and for an operation its write enable latch must be set, too.
+    /// Returns the pace after a transaction with this opcode. For a write enable or an operation the chip must be idle,
+    /// and for an operation its write enable latch set.
     pub fn after(self, opcode: u8) -> Pace {
         match opcode {
             0x05 => self.after_poll(),
@@ -46,8 +45,7 @@ impl Pace {
         }
     }
 
-    // Returns the pace after a poll. A poll of a busy chip reduces `busy` by one. When `busy` becomes 0, the write
-    // enable latch is cleared.
+    // The write enable latch is cleared when `busy` becomes 0.
     fn after_poll(self) -> Pace {
         let busy = self.busy.saturating_sub(1);
         Pace {
@@ -75,7 +73,7 @@ impl Pace {
         pace
     }
 
-    /// Returns the pace after a power failure: the chip is idle, and its write enable latch is clear.
+    /// Returns the pace after a power failure: idle, with a clear write enable latch.
     pub fn without_power(self) -> Pace {
         Pace {
             busy: 0,

@@ -6,7 +6,7 @@ use nor_probe::SfdpFault;
 /// The first 256 SFDP bytes of a chip, as 5Ah returns them.
 pub type Shown = [u8; 256];
 
-/// The size of a chip, and whether it has the erase types of 32 KiB and 64 KiB, according to its SFDP bytes.
+/// The size of a chip and its erase types of 32 and 64 KiB, according to its SFDP bytes.
 #[derive(Clone, Copy)]
 pub struct Told {
     pub size: u32,
@@ -14,8 +14,7 @@ pub struct Told {
     pub k64: bool,
 }
 
-/// Draws SFDP bytes that describe a chip of this size with these erase types. Most bytes that don't change the result
-/// of `read` are random or FFh.
+/// Draws SFDP bytes that describe this chip. Most bytes that don't matter to `read` are random or FFh.
 pub fn show(dice: &mut Dice, told: Told) -> Shown {
     let mut shown = [0xFF; 256];
     let at = dice.pick(0x10, &[0x10, 0x30, 0x80]);
@@ -40,8 +39,7 @@ pub fn show(dice: &mut Dice, told: Told) -> Shown {
     dice.fill(&mut table);
     let start = usize::from(at);
     put(&mut shown, start, &table);
-    // The first double word. Bit 2 is set: the write granularity is 64 bytes or more. Bit 18 is clear: three address
-    // bytes are accepted.
+    // Bit 2 is set: the write granularity is 64 bytes or more. Bit 18 is clear: three address bytes are accepted.
     let first = [
         dice.byte() | 0x04,
         dice.byte(),
@@ -58,8 +56,7 @@ pub fn show(dice: &mut Dice, told: Told) -> Shown {
     shown
 }
 
-// Draws the second double word, which describes the size in bits. It is the number of bits minus one or, if bit 31 is
-// set, the binary logarithm of the number of bits.
+// The number of bits minus one or, with bit 31 set, its binary logarithm.
 fn density(dice: &mut Dice, size: u32) -> [u8; 4] {
     let bits = size.saturating_mul(8);
     if dice.hits(1, 3) {
@@ -69,7 +66,7 @@ fn density(dice: &mut Dice, size: u32) -> [u8; 4] {
     }
 }
 
-// Writes the four erase types in a random rotation: those that the chip has, and others that `read` ignores.
+// In a random rotation, with others that `read` ignores.
 fn put_kinds(dice: &mut Dice, shown: &mut Shown, start: usize, told: Told) {
     let blank = dice.pick([0x00, 0x00], &[[0x0C, 0x21], [0x12, 0xDC], [0x00, 0x52]]);
     let half = if told.k32 { [0x0F, 0x52] } else { blank };
@@ -82,8 +79,8 @@ fn put_kinds(dice: &mut Dice, shown: &mut Shown, start: usize, told: Told) {
     }
 }
 
-/// Damages the bytes once or twice. After most kinds of damage `read` returns a fault. If the address of the table was
-/// changed, the chip may still find the table, since it takes the address modulo its size.
+/// Damages the bytes once or twice, so that `read` mostly returns a fault. A chip may still find a table whose address
+/// was changed, since it takes the address modulo its size.
 pub fn damage(dice: &mut Dice, shown: &mut Shown) {
     for _ in 0..dice.pick(1, &[1, 2]) {
         damage_once(dice, shown);
@@ -116,7 +113,6 @@ fn damage_once(dice: &mut Dice, shown: &mut Shown) {
     }
 }
 
-// Draws a second double word whose size a probe rejects.
 fn wrong_density(dice: &mut Dice) -> [u8; 4] {
     let wrong = [
         0x0003_FFFF,
@@ -137,9 +133,8 @@ pub fn put(shown: &mut Shown, at: usize, piece: &[u8]) {
     }
 }
 
-/// Returns the size and the erase types that the bytes describe, or the first of the eight faults of `SfdpFault` that
-/// the bytes have. `size` is the size of the chip that returns the bytes. The chip takes the table's address modulo
-/// this size.
+/// Returns what the bytes describe, or the first fault of `SfdpFault` that they have. The chip takes the table's
+/// address modulo its `size`.
 pub fn read(shown: &Shown, size: u32) -> Result<Told, SfdpFault> {
     if shown[..4] != [0x53, 0x46, 0x44, 0x50] {
         return Err(SfdpFault::Signature);
@@ -154,7 +149,7 @@ pub fn read(shown: &Shown, size: u32) -> Result<Told, SfdpFault> {
         return Err(SfdpFault::Length);
     }
     let pointer = u32::from_le_bytes([shown[12], shown[13], shown[14], 0]);
-    // The chip takes the address modulo its size, and returns FFh after the bytes shown.
+    // The chip returns FFh after the bytes shown.
     let start = pointer.checked_rem(size).unwrap_or(0);
     let mut table = [0xFF; 36];
     for (place, byte) in table.iter_mut().zip(shown.iter().skip(start as usize)) {
@@ -163,10 +158,8 @@ pub fn read(shown: &Shown, size: u32) -> Result<Told, SfdpFault> {
     read_table(&table)
 }
 
-// Returns the size and erase types that double words 1 to 9 describe, or the first fault.
 fn read_table(table: &[u8; 36]) -> Result<Told, SfdpFault> {
-    // Bits 17 and 18 of the first double word say how many address bytes the chip accepts. The values 2 (only four
-    // address bytes) and 3 (reserved) are rejected.
+    // Bits 17 and 18 say how many address bytes the chip accepts: 2 (only four) and 3 (reserved) are rejected.
     if table[2] / 2 % 4 >= 2 {
         return Err(SfdpFault::Address);
     }
@@ -193,8 +186,7 @@ fn read_table(table: &[u8; 36]) -> Result<Told, SfdpFault> {
     })
 }
 
-// Returns the size in bytes that `density`, the second double word, describes. Returns `None` if it is none of the nine
-// sizes that a chip may have.
+// `None` for a size that is none of the nine that a chip may have.
 fn size_of(density: u32) -> Option<u32> {
     let bits = if density < 0x8000_0000 {
         Some(u64::from(density) + 1)

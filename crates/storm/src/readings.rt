@@ -32,17 +32,15 @@ pub enum Told {
     Comparison(Report),
 }
 
-// The result of a reading call.
 #[derive(Drop)]
 struct Ran {
     answer: Result<Told, Refusal>,
     bus: SimBus,
-    // The trace, with one line for each transaction.
     sent: Vec<u8>,
 }
 
-/// Checks each reading call on a case's chip: without a stop, with a random stop, and on a faulty bus. Also checks a
-/// readout into a vault that refuses one of its calls.
+/// Checks each reading call on a case's chip: without a stop, with one, on a faulty bus, and a readout into a vault
+/// that refuses a call.
 pub fn check(alloc: Global, dice: &mut Dice, case: &Case) -> Result<(), Fault> {
     for reading in [
         Reading::Probe,
@@ -70,7 +68,7 @@ impl Reading {
         }
     }
 
-    /// Returns the error, if any, that the call must return after the probe, before any other transaction.
+    /// Returns the error that the call must return after the probe, if any.
     pub fn early_refusal(self, case: &Case) -> Option<Refusal> {
         let found = verdicts::of_probe(&case.chip.config, case.request.named);
         match self {
@@ -82,7 +80,6 @@ impl Reading {
         }
     }
 
-    // Returns the lines that the call sends without a stop.
     fn lines(self, alloc: Global, case: &Case) -> Result<Lines, Fault> {
         let is_found = self.early_refusal(case).is_none();
         match self {
@@ -113,10 +110,8 @@ impl Reading {
         lies::check_reading(alloc, dice, case, self, enough)
     }
 
-    // Checks the call with a stop after `allowed` transactions. `whole` has the lines that the call sends without a
-    // stop. If the stop is after all these lines, the call must have the same result as without a stop. Otherwise it
-    // must return `Stopped` after the lines before the stop. In both cases the chip's bytes and non-volatile status
-    // bits must be as before.
+    // With a stop after `allowed` transactions the call must return `Stopped` after those lines of `whole`, or its
+    // result if it sends no more. The chip must be as before.
     fn check_under(
         self,
         alloc: Global,
@@ -167,8 +162,6 @@ impl Reading {
     }
 }
 
-// Checks the result of a call, the lines that it sent, and the chip after it. `refusal` is the expected error, and
-// `first` has the expected lines.
 fn check_ran(
     alloc: Global,
     case: &Case,
@@ -187,7 +180,6 @@ fn check_ran(
     traces::check_trace(ran.sent.as_slice(), first, "a reading")
 }
 
-// Checks the result of a call. `refusal` is the expected error.
 fn check_answer(
     alloc: Global,
     case: &Case,
@@ -201,7 +193,6 @@ fn check_answer(
     }
 }
 
-// Returns `Mismatch` with the first included address at which chip and image differ, if there is one.
 fn first_difference(case: &Case) -> Option<Refusal> {
     let bytes = case.chip.bytes.iter().zip(case.image.iter());
     for (address, (byte, new)) in (0_u32..).zip(bytes) {
@@ -212,9 +203,8 @@ fn first_difference(case: &Case) -> Option<Refusal> {
     None
 }
 
-/// Checks the result of a successful call on a faulty bus. `known` has the chip that the replies described to the
-/// reference implementation. A report on protection must describe this chip, and a copy must have its bytes. The
-/// reports of copies and verifications, and the results of probes, are not checked.
+/// Checks the result of a successful call on a faulty bus: a report on protection, or a copy, must fit the chip that
+/// the replies described. Other results are not checked.
 pub fn check_known(alloc: Global, known: &Case, told: &Told) -> Result<(), Fault> {
     match told {
         Told::Found | Told::Comparison(_) => Ok(()),
@@ -241,7 +231,6 @@ fn check_copy(alloc: Global, case: &Case, out: &MemVault, what: &'static str) ->
     agree(out.bytes() == copy.as_slice(), what)
 }
 
-// Returns the contents that a readout must produce: the included bytes, and FFh for the others.
 fn copy_of(alloc: Global, case: &Case) -> Result<Vec<u8>, Fault> {
     let mut copy = case.chip.bytes.to_vec(alloc)?;
     for (address, byte) in (0_u32..).zip(copy.iter_mut()) {
@@ -252,9 +241,7 @@ fn copy_of(alloc: Global, case: &Case) -> Result<Vec<u8>, Fault> {
     Ok(copy)
 }
 
-// Checks the report on protection: the protected range, whether the status is locked, and the chip's size. An empty
-// range must be reported with address 0 and length 0. If the protection bits are undefined, the report must lack a
-// range.
+// An empty range must be reported as 0, 0, and undefined protection bits without a range.
 fn check_protection(case: &Case, told: Protection) -> Result<(), Fault> {
     let code = guards::code_of(case.chip.status);
     let size = case.chip.config.size;
@@ -273,9 +260,7 @@ fn check_protection(case: &Case, told: Protection) -> Result<(), Fault> {
     ])
 }
 
-// Checks the report of a readout or a verification. The report must describe the chip (`check_found`), and count no
-// changes. Its number of transactions must be that of the probe plus one for each sector that contains an included
-// address.
+// The report counts no changes, the transactions of the probe, and one for each sector with an included address.
 fn check_report(case: &Case, report: &Report) -> Result<(), Fault> {
     checks::check_found(&case.chip, &report.found)?;
     let idle = report.touched == 0 && report.erases == 0 && report.programs == 0;
@@ -286,18 +271,15 @@ fn check_report(case: &Case, report: &Report) -> Result<(), Fault> {
     ])
 }
 
-// The result of a readout into a vault that refuses one of its calls.
 #[derive(Drop)]
 struct Copied {
     answer: Result<Report, Refusal>,
     out: BrokenVault<MemVault>,
-    // The trace, with one line for each transaction.
     sent: Vec<u8>,
 }
 
-// Checks a readout into a vault that refuses one of its calls. If the readout must fail even into a vault that refuses
-// nothing, it must return the same error here. Otherwise it must return error 19 with the number of bytes in the vault,
-// including those that the vault kept of the refused piece.
+// A readout that must fail anyway must return the same error. Otherwise it must return error 19 with the number of
+// bytes in the vault, including those of the refused piece.
 fn check_refused_copy(alloc: Global, dice: &mut Dice, case: &Case) -> Result<(), Fault> {
     let nth = u64::from(dice.below(case.chip.sectors() / 16)).saturating_add(1);
     let kept = dice.pick(0, &[1, 4095, 65_535]);
@@ -310,8 +292,7 @@ fn check_refused_copy(alloc: Global, dice: &mut Dice, case: &Case) -> Result<(),
     }
 }
 
-// Reads out into a vault that refuses its `nth` call, counted from 1. The vault keeps the first `kept` bytes of that
-// call's piece.
+// The vault refuses its call `nth`, from 1, and keeps the first `kept` bytes of its piece.
 fn copy_out(alloc: Global, case: &Case, bus: SimBus, (nth, kept): (u64, usize)) -> Copied {
     let mut sent = Vec::new(alloc);
     let mut bus = TraceBus::new(bus, &mut sent);
@@ -322,9 +303,8 @@ fn copy_out(alloc: Global, case: &Case, bus: SimBus, (nth, kept): (u64, usize)) 
     Copied { answer, out, sent }
 }
 
-// Checks the bytes and the trace of a readout whose vault refused a call. The vault must have the first `written` bytes
-// of the copy. A readout reads and writes pieces of 16 sectors. It must have read the sectors with included addresses
-// up to the end of the piece that the vault refused, and no later sectors.
+// The vault must have the first `written` bytes of the copy. Only sectors up to the end of the refused piece (16
+// sectors each) may have been read.
 fn check_part(alloc: Global, case: &Case, written: u64, copied: &Copied) -> Result<(), Fault> {
     check_first(alloc, case, written, copied.out.inner().bytes())?;
     let piece = u32::try_from(written / 65_536).unwrap_or(u32::MAX);

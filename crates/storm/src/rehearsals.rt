@@ -1,4 +1,4 @@
-//! Rehearsals of accepted sessions, compared with the same session and restores called one by one.
+//! Rehearsals of accepted sessions, compared with the same calls one by one.
 
 use crate::cases::Case;
 use crate::dice::Dice;
@@ -11,19 +11,17 @@ use nor_journal::{Journal, MemVault};
 use nor_session::{Refusal, Rehearsal, Request, rehearse};
 use std::alloc::Global;
 
-// The stops of a rehearsal.
 #[derive(Clone, Copy)]
 struct Plan {
-    // The numbers of transactions after which the session, the first restore and the second restore stop.
+    // The stops of the session and of two restores, in transactions.
     stops: [u64; 3],
-    // How many bytes of the interrupted transaction are still sent at each stop, or `None` if none are sent.
+    // How many bytes of the interrupted transaction each stop still sends.
     cut: Option<u32>,
-    // The fill byte, if the chip loses its power at each stop, or `None` if it keeps its power.
+    // The fill byte, if the chip loses its power at each stop.
     fill: Option<u8>,
 }
 
 impl Plan {
-    // Returns a stop after `after` transactions, with this plan's `cut` and `fill`.
     fn stop(self, after: u64) -> Stop {
         Stop {
             after,
@@ -33,13 +31,11 @@ impl Plan {
     }
 }
 
-// The result of a rehearsal.
 #[derive(Drop)]
 struct Ran {
     answer: Result<Rehearsal, Refusal>,
     bus: SimBus,
     vault: MemVault,
-    // The trace, with one line for each transaction.
     sent: Vec<u8>,
 }
 
@@ -62,7 +58,6 @@ fn plan_for(dice: &mut Dice, accepted: Accepted<'_>) -> Plan {
     Plan { stops, cut, fill }
 }
 
-// Returns the number of transactions of the session without a stop.
 fn whole_of(accepted: Accepted<'_>) -> u64 {
     let case = accepted.case;
     lengths::session(case, accepted.wanted.work(&case.chip))
@@ -70,7 +65,7 @@ fn whole_of(accepted: Accepted<'_>) -> u64 {
 
 fn run(alloc: Global, case: &Case, plan: Plan) -> Result<Ran, Fault> {
     let mut image = case.image.to_vec(alloc)?;
-    // The stop at 0 transactions has no effect, since `rehearse` sets the allowed number of transactions itself.
+    // The stop at 0 has no effect, since `rehearse` sets the allowed number of transactions itself.
     let bus = case.chip.bus(alloc, plan.stop(0))?;
     run_on(alloc, bus, image.as_mut_slice(), &case.request, plan.stops)
 }
@@ -120,8 +115,7 @@ fn check_ran(alloc: Global, accepted: Accepted<'_>, plan: Plan, ran: &Ran) -> Re
     check_restores(alloc, accepted, plan, rehearsal.restores, &ran.sent)
 }
 
-// Calls the session and the restores one by one. Checks that the rehearsal ran the same number of restores, and that
-// its trace `sent` equals the traces of these calls.
+// The number of restores and the trace must be those of the calls one by one.
 fn check_restores(
     alloc: Global,
     accepted: Accepted<'_>,
@@ -135,8 +129,7 @@ fn check_restores(
     traces::check_trace(sent, traces::text(lines.as_slice())?, "a rehearsal")
 }
 
-// Calls the session and the restores one by one. Returns the number of restores, and appends the traces of all these
-// calls to `sent`.
+// Returns the number of restores, and appends the traces of all calls to `sent`.
 fn run_each(
     alloc: Global,
     accepted: Accepted<'_>,

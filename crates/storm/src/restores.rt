@@ -1,4 +1,4 @@
-//! Restores of random chips from the journal of a session that succeeded, compared with the reference implementation.
+//! Restores of random chips from the journal of a session, compared with the reference implementation.
 
 use crate::cases::Case;
 use crate::checks::{self, Ran};
@@ -45,8 +45,7 @@ pub fn run(
     }
 }
 
-// A restore without a stop: its chip, its journal, the journal's contents `saved`, and the target and the error, if
-// any, that the reference implementation computes.
+// A restore without a stop, and the target and the error that the reference implementation computes.
 #[derive(Clone, Copy)]
 struct Whole<'a> {
     chip: &'a Chip,
@@ -56,8 +55,8 @@ struct Whole<'a> {
     refusal: Option<Refusal>,
 }
 
-/// Checks restores of a random chip from the journal of a session that succeeded: without a stop, with a stop, and on a
-/// faulty bus. Returns the error with which the restore is refused, if any.
+/// Checks restores of a random chip: without a stop, with a stop, and on a faulty bus. Returns the error of a refused
+/// one.
 pub fn check(
     alloc: Global,
     dice: &mut Dice,
@@ -88,7 +87,6 @@ fn check_whole(alloc: Global, dice: &mut Dice, whole: Whole<'_>) -> Result<Optio
     Ok(whole.refusal)
 }
 
-// Returns the lines of the transactions that the restore must send.
 fn lines_of(alloc: Global, whole: Whole<'_>) -> Result<Lines, Fault> {
     let sectors = whole.saved.sectors;
     match whole.refusal {
@@ -97,9 +95,7 @@ fn lines_of(alloc: Global, whole: Whole<'_>) -> Result<Lines, Fault> {
     }
 }
 
-// Checks the restore without a stop, with a stop, and on a faulty bus. Without a stop it must send `lines`, and with a
-// stop only the lines before the stop. On a faulty bus it must agree with the reference implementation on a bus with
-// the same fault.
+// It must send `lines`, only those before a stop, or those of the reference implementation on the same faulty bus.
 fn check_lines(alloc: Global, dice: &mut Dice, whole: Whole<'_>, lines: &str) -> Result<(), Fault> {
     check_unstopped(alloc, whole, lines)?;
     check_stopped(alloc, dice, whole, lines)?;
@@ -138,9 +134,8 @@ fn check_ended(whole: Whole<'_>, ran: &Restored) -> Result<(), Fault> {
     checks::check_wanted(whole.wanted, &ran.bus)
 }
 
-// Checks the restore with a random stop. `lines` has the lines that it sends without a stop. If the stop is after all
-// these lines, the restore must have the same result as without a stop. Otherwise it must return `Stopped` after the
-// lines before the stop. In both cases the chip must equal the model.
+// If the stop is after all `lines`, the result is that without a stop, otherwise `Stopped`. The chip must equal the
+// model.
 fn check_stopped(
     alloc: Global,
     dice: &mut Dice,
@@ -162,7 +157,6 @@ fn check_stopped(
     check_left(alloc, whole.chip, lines, stop, &ran)
 }
 
-// Returns a fault unless the chip after the stop equals the model.
 fn check_left(
     alloc: Global,
     chip: &Chip,
@@ -183,8 +177,8 @@ fn check_stop(wanted: Option<Refusal>, lines: &str, ran: &Restored) -> Result<()
     traces::check_trace(ran.sent.as_slice(), lines, "a restore under a stop")
 }
 
-// Draws a chip to restore. One time in twelve this is an unrelated small chip. Otherwise it is the original chip of the
-// journal, usually with changed bytes, half of the time also with new status bits or a new unique ID.
+// One time in twelve an unrelated small chip, otherwise the original one, usually with changed bytes, half of the time
+// with new status bits or another unique ID.
 fn other_chip(alloc: Global, dice: &mut Dice, chip: &Chip) -> Result<Chip, Fault> {
     if dice.hits(1, 12) {
         return chips::small(alloc, dice);
@@ -202,8 +196,7 @@ fn other_chip(alloc: Global, dice: &mut Dice, chip: &Chip) -> Result<Chip, Fault
     Ok(other)
 }
 
-/// Returns the target of a restore on `chip`: its bytes with the saved sectors, and its status bits with the saved
-/// protection bits.
+/// Returns the target of a restore on `chip`: the saved sectors and protection bits, and otherwise the chip's own.
 pub fn restored_of(alloc: Global, chip: &Chip, saved: Saved<'_>) -> Result<Wanted, Fault> {
     let mut bytes = chip.bytes.to_vec(alloc)?;
     take_saved(bytes.as_mut_slice(), saved);

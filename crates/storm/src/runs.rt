@@ -22,7 +22,7 @@ pub struct FailedCase {
     pub fault: Fault,
 }
 
-/// Runs the job's cases for this seed up to the first failure. Returns the counts of cases, and the failure, if any.
+/// Runs the job's cases for this seed up to the first failure, and returns the counts and this failure.
 pub fn run(alloc: Global, job: Job, seed: u64) -> (Tally, Option<FailedCase>) {
     let mut tally = Tally::NONE;
     for case in job.first..job.first.saturating_add(job.count) {
@@ -33,9 +33,8 @@ pub fn run(alloc: Global, job: Job, seed: u64) -> (Tally, Option<FailedCase>) {
     (tally, None)
 }
 
-// Runs a case: its session, one time in four also on a faulty bus. One time in eight the reading calls are run on the
-// chip, too. The session on a faulty bus and the reading calls draw from random numbers of their own, so that they
-// don't change the rest of the case.
+// Runs a case, one time in four also on a faulty bus, and one time in eight the reading calls. These draw from numbers
+// of their own, so that they don't change the rest of the case.
 fn run_case(alloc: Global, seed: u64, number: u64, tally: &mut Tally) -> Result<(), Fault> {
     let mut dice = Dice::new(seed, number);
     let case = Case::next(alloc, &mut dice)?;
@@ -67,8 +66,7 @@ fn check_case(
     check_session(alloc, dice, case, &ran, tally)
 }
 
-// Checks a session. The session may be accepted, refused before the scan (errors 1 to 8), or refused after the scan
-// (errors 9 and 10). A request for a protection range has no scan.
+// Errors 1 to 8 come before the scan, and errors 9 and 10 after it. A request for a range has no scan.
 fn check_session(
     alloc: Global,
     dice: &mut Dice,
@@ -92,7 +90,6 @@ fn check_session(
     }
 }
 
-// Checks a session that is refused with error 9 or 10, after its scan if it has one.
 fn check_late(
     alloc: Global,
     dice: &mut Dice,
@@ -122,9 +119,8 @@ fn check_accepted(
     go_on(alloc, dice, accepted, ran, tally)
 }
 
-// Checks an accepted session. Then runs the same session with a random stop and, if this session sealed its vault,
-// restores from its journal. Also checks a rehearsal one time in four, and a damaged journal and restores of another
-// chip one time in three.
+// Checks an accepted session, also with a stop and restores after it. A rehearsal is checked one time in four, a
+// damaged journal and restores of another chip one time in three.
 fn go_on(
     alloc: Global,
     dice: &mut Dice,

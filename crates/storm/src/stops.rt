@@ -16,9 +16,8 @@ use nor_journal::{Journal, MemVault};
 use nor_session::Refusal;
 use std::alloc::Global;
 
-/// Runs an accepted session with a random stop, and checks the chip and the vault after it. If the session sealed its
-/// vault, also runs restores, up to four of them with stops, until one succeeds. Returns how many of the stops were
-/// inside a transaction.
+/// Runs an accepted session with a random stop, and up to four restores with stops if it was sealed, until one
+/// succeeds. Returns how many stops were inside a transaction.
 pub fn check(alloc: Global, dice: &mut Dice, accepted: Accepted<'_>) -> Result<Cuts, Fault> {
     let stop = Stop {
         after: stop_for(dice, accepted.case, accepted.wanted),
@@ -35,7 +34,6 @@ pub fn check(alloc: Global, dice: &mut Dice, accepted: Accepted<'_>) -> Result<C
     }
 }
 
-// Checks the chip and the vault after the stop of a session.
 fn check_stop(
     alloc: Global,
     accepted: Accepted<'_>,
@@ -58,9 +56,8 @@ fn check_stop(
     }
 }
 
-/// Runs a refused session with a random stop. If the stop is after all its transactions, the session must return the
-/// error `refusal`, otherwise `Stopped`. In both cases the session must send exactly the transactions before the stop,
-/// leave the vault unsealed, and leave the chip's bytes and non-volatile status bits as they were.
+/// Runs a refused session with a random stop: it returns `refusal` if the stop is after its transactions, otherwise
+/// `Stopped`. The vault must be unsealed, and the chip as before.
 pub fn check_refused(
     alloc: Global,
     dice: &mut Dice,
@@ -103,8 +100,7 @@ fn check_refusal(
     traces::check_lines(ran.lines()?, first, "a refused session that was stopped")
 }
 
-/// Draws the number of transactions after which a session stops, at most the number that it sends without a stop. At
-/// least three times in four the number is so high that the session seals its vault before the stop.
+/// Draws after how many transactions a session stops. At least three times in four this is after its seal.
 pub fn stop_for(dice: &mut Dice, case: &Case, wanted: &Wanted) -> u64 {
     let whole = lengths::session(case, wanted.work(&case.chip));
     if dice.hits(1, 4) {
@@ -115,8 +111,7 @@ pub fn stop_for(dice: &mut Dice, case: &Case, wanted: &Wanted) -> u64 {
     saving.saturating_add(changes)
 }
 
-/// Draws the fill byte of a power failure at the stop. Half of the chips that were idle at the start lose their power.
-/// For all other chips returns `None`.
+/// Draws the fill byte of a power failure, for half of the chips that were idle at the start.
 pub fn fill_for(dice: &mut Dice, case: &Case) -> Option<u8> {
     if case.chip.is_idle() && dice.hits(1, 2) {
         Some(dice.pick(0x5A, &[0x00, 0xFF, 0xA5]))
@@ -125,8 +120,8 @@ pub fn fill_for(dice: &mut Dice, case: &Case) -> Option<u8> {
     }
 }
 
-// Checks that the sectors that aren't touched, and the status bits that flashnor never changes, are as before the
-// session. Without block protection, or with a locked status, no non-volatile status bit may differ.
+// Untouched sectors and status bits that flashnor never changes must be as before; without block protection, or with a
+// locked status, all non-volatile status bits.
 fn check_within(case: &Case, wanted: &Wanted, bus: &SimBus) -> Result<(), Fault> {
     check_outside(&case.chip, wanted, bus.bytes())?;
     let (before, after) = (guards::kept(case.chip.status), guards::kept(bus.status()));
@@ -149,8 +144,8 @@ fn check_outside(chip: &Chip, wanted: &Wanted, bytes: &[u8]) -> Result<(), Fault
     Ok(())
 }
 
-// Checks that in each sector that isn't raised, bits changed only from 1 to 0, and only bits that are 0 in the target.
-// Checks nothing if the stop has a fill byte, since the chip may then have lost its power.
+// In a sector that isn't raised, only bits that are 0 in the target may have changed, to 0. A loss of power may do
+// more.
 fn check_gentle(case: &Case, wanted: &Wanted, bus: &SimBus, fill: Option<u8>) -> Result<(), Fault> {
     if fill.is_some() {
         return Ok(());
@@ -174,9 +169,7 @@ fn is_gentle(old: &[u8], new: &[u8], now: &[u8]) -> bool {
         .all(|((old, new), now)| *new & !*now == 0 && *now & !*old == 0)
 }
 
-// Runs up to four restores with stops until one succeeds. If none does, runs a last one without a stop, which must
-// succeed. At each stop the chip loses its power if the session's stop `first` has a fill byte. Returns `cuts`, to
-// which the stops of these restores that were inside a transaction are added.
+// If four restores with stops don't succeed, a last one without a stop must. A stop is a power failure if `first` is.
 fn give_back(
     alloc: Global,
     dice: &mut Dice,
@@ -199,7 +192,6 @@ fn give_back(
     Ok(cuts)
 }
 
-// Draws the stop of a restore. The stop has the fill byte of `first`, the stop of the session.
 fn next_stop(dice: &mut Dice, accepted: Accepted<'_>, first: Stop) -> Stop {
     let (case, wanted) = (accepted.case, accepted.wanted);
     let most = lengths::session(case, wanted.work(&case.chip));
@@ -210,8 +202,7 @@ fn next_stop(dice: &mut Dice, accepted: Accepted<'_>, first: Stop) -> Stop {
     }
 }
 
-// Runs a restore with a stop as `left::restore` does. If the restore did not succeed, also makes the checks of
-// `check_within`.
+// A restore that did not succeed must leave a chip that `check_within` accepts.
 fn give_some(
     alloc: Global,
     accepted: Accepted<'_>,
@@ -227,7 +218,7 @@ fn give_some(
     Ok(left)
 }
 
-/// Draws the number of transactions after which a restore stops: at most `most`, and half of the time at most 40.
+/// Draws after how many transactions a restore stops: at most `most`, and half of the time at most 40.
 pub fn stop_of_restore(dice: &mut Dice, most: u64) -> u64 {
     let most = if dice.hits(1, 2) { most } else { most.min(40) };
     dice.up_to(most)

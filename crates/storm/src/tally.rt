@@ -4,8 +4,7 @@ use crate::model::Stop;
 use nor_session::Refusal;
 use std::fmt;
 
-/// Returns the least value that `Tally::is_sufficient` accepts for a count after `cases` cases: 5 if `cases` is 500 or
-/// more, otherwise 0.
+/// Returns the least count that is sufficient after `cases` cases: 5 from 500 cases on.
 pub fn least(cases: u64) -> u64 {
     if cases < 500 { 0 } else { 5 }
 }
@@ -13,14 +12,13 @@ pub fn least(cases: u64) -> u64 {
 /// The numbers of cases of each kind, and of stops inside a transaction.
 #[derive(Clone, Copy)]
 pub struct Tally {
-    /// The number of accepted sessions. Each of them was run once more with a random stop. If the stopped session had
-    /// sealed its vault, restores followed.
+    /// The number of accepted sessions, each of which was also stopped and, if sealed, restored.
     pub accepted: u64,
-    /// The numbers of refused sessions. The index is the number of the error.
+    /// The numbers of refused sessions, by the number of the error.
     pub refused: [u64; 21],
     /// The number of accepted restores of the random chips of `restores.rt`.
     pub restored: u64,
-    /// The numbers of refused restores of the random chips of `restores.rt`. The index is the number of the error.
+    /// The numbers of refused restores of the random chips of `restores.rt`, by the number of the error.
     pub kept_away: [u64; 21],
     /// The number of accepted sessions that were also rehearsed.
     pub rehearsed: u64,
@@ -32,9 +30,8 @@ pub struct Tally {
     pub cuts: Cuts,
 }
 
-/// The numbers of stops inside a transaction, in the accepted sessions that `stops.rt` stops and in the restores after
-/// them. Before such a stop, a drawn number of bytes of the transaction is sent, which may be 0 or all. Stops in
-/// rehearsals, refused sessions and restores of random chips are not counted.
+/// The stops inside a transaction, in the accepted sessions of `stops.rt` and their restores. A drawn number of bytes
+/// of the transaction was sent, which may be 0 or all.
 #[derive(Clone, Copy)]
 pub struct Cuts {
     /// The number of these stops in sessions.
@@ -53,9 +50,8 @@ impl Cuts {
         losses: 0,
     };
 
-    /// Returns these counts with the stop of a session added. A stop inside a transaction adds one to `sessions`, and
-    /// also one to `losses` if the chip lost its power at the stop. If the session succeeded before its stop (`ended`),
-    /// nothing is added.
+    /// Adds the stop of a session: to `sessions` if it was inside a transaction, and to `losses` if the chip lost its
+    /// power. A session that `ended` before adds nothing.
     pub fn with_session(self, stop: Stop, ended: bool) -> Cuts {
         let more = u64::from(!ended && stop.cut.is_some());
         Cuts {
@@ -64,9 +60,8 @@ impl Cuts {
         }
     }
 
-    /// Returns these counts with the stop of a restore added. A stop inside a transaction adds one to `restores`, and
-    /// also one to `losses` if the chip lost its power at the stop. If the restore succeeded before its stop (`ended`),
-    /// nothing is added.
+    /// Adds the stop of a restore: to `restores` if it was inside a transaction, and to `losses` if the chip lost its
+    /// power. A restore that `ended` before adds nothing.
     pub fn with_restore(self, stop: Stop, ended: bool) -> Cuts {
         let more = u64::from(!ended && stop.cut.is_some());
         Cuts {
@@ -83,7 +78,6 @@ impl Cuts {
         }
     }
 
-    // True if each of the three counts is at least `least`.
     fn are_sufficient(self, least: u64) -> bool {
         self.sessions >= least && self.restores >= least && self.losses >= least
     }
@@ -102,10 +96,8 @@ impl Tally {
         cuts: Cuts::NONE,
     };
 
-    /// True if the counts are sufficient for this number of cases. Accepted sessions, accepted restores of random
-    /// chips, cases whose chip was read, the three counts of stops inside a transaction, and sessions with each of
-    /// errors 1 to 10 must each reach `least(cases)`. No session may have another error. Rehearsals, refused restores
-    /// and sessions on faulty buses are not checked.
+    /// True if accepted sessions, accepted restores, readings, the three counts of stops, and sessions with each of
+    /// errors 1 to 10 reach `least(cases)`. No session may have another error.
     pub fn is_sufficient(&self, cases: u64) -> bool {
         let least = least(cases);
         let mut refused = self.refused.iter().enumerate();

@@ -1,5 +1,5 @@
-//! The reference implementation of sessions, restores and reading calls over a bus that may be faulty. This
-//! implementation knows the chip only by the replies of that bus.
+//! The reference implementation of calls over a bus that may be faulty. It knows the chip only by the replies of that
+//! bus.
 
 use crate::cases::Case;
 use crate::chips::{self, Chip};
@@ -25,8 +25,8 @@ pub type Liar<'a> = TraceBus<HighBus<SpoiltBus<SimBus>>, &'a mut Vec<u8>>;
 /// The number of polls after which a wait returns `Timeout`.
 const MOST_POLLS: u32 = 65_536;
 
-/// The bytes that a session must have written to its vault, without the end mark and the digest, and whether the
-/// session must have sealed the vault.
+/// The bytes that a session must have written to its vault, without the end mark and the digest, and whether it is
+/// sealed.
 #[derive(Drop)]
 pub struct Put {
     pub begun: Vec<u8>,
@@ -53,8 +53,7 @@ impl<'a> Caller<'a> {
 }
 
 impl Caller<'_> {
-    /// Runs the session of a case in the reference implementation. The chip's configuration, status and bytes are what
-    /// the replies say. Bytes that the session doesn't read are taken to be FFh.
+    /// Runs the session of a case. The chip is what the replies say; bytes that aren't read count as FFh.
     pub fn session(&mut self, case: &Case) -> Result<(), CallError> {
         let (config, status1) = self.find(case.request.named)?;
         let chip = self.identify(config, status1)?;
@@ -62,8 +61,6 @@ impl Caller<'_> {
         self.judge(case, &mut told)
     }
 
-    // Checks the request for errors 1 to 8, scans the chip unless the request is for a protection range, checks for
-    // errors 9 and 10, and makes the changes.
     fn judge(&mut self, case: &Case, told: &mut Case) -> Result<(), CallError> {
         refuse(verdicts::of_opening(told))?;
         if !matches!(told.request.what, What::WpRange { .. }) {
@@ -76,7 +73,6 @@ impl Caller<'_> {
         self.make(told, &wanted)
     }
 
-    // Makes the changes, and then verifies them if the request asks for it.
     fn make(&mut self, told: &mut Case, wanted: &Wanted) -> Result<(), CallError> {
         self.change(&mut told.chip, wanted)?;
         if told.request.verify {
@@ -85,8 +81,7 @@ impl Caller<'_> {
         Ok(())
     }
 
-    /// Runs a reading call in the reference implementation. If the call succeeds, returns a copy of `case` in which the
-    /// chip is the one that the replies of the bus describe.
+    /// Runs a reading call. If it succeeds, returns `case` with the chip that the replies describe.
     pub fn reading(&mut self, reading: Reading, case: &Case) -> Result<Case, CallError> {
         let (config, status1) = self.find(case.request.named)?;
         let chip = unread(self.alloc, config, [status1, 0])?;
@@ -114,7 +109,6 @@ impl Caller<'_> {
         self.give_back(saved, &mut chip)
     }
 
-    // Checks for errors 20 and 17, and reads the saved sectors in ascending order.
     fn take_saved(&mut self, saved: Saved<'_>, chip: &mut Chip) -> Result<(), CallError> {
         refuse(verdicts::of_unit(chip, saved))?;
         for number in 0..chip.sectors() {
@@ -125,7 +119,6 @@ impl Caller<'_> {
         Ok(())
     }
 
-    // Checks for error 9, makes the changes that restore the chip, and verifies them.
     fn give_back(&mut self, saved: Saved<'_>, chip: &mut Chip) -> Result<(), CallError> {
         let wanted = restores::restored_of(self.alloc, chip, saved)?;
         refuse(verdicts::of_lock(chip, saved, &wanted))?;
@@ -133,7 +126,6 @@ impl Caller<'_> {
         self.compare(&wanted)
     }
 
-    // Sends one transaction.
     fn send(&mut self, out: &[u8], reply: &mut [u8]) -> Result<(), CallError> {
         match self.bus.transfer(out, reply) {
             Ok(()) => Ok(()),
@@ -141,8 +133,7 @@ impl Caller<'_> {
         }
     }
 
-    // Polls until a poll shows BUSY clear, and returns the status 1 of that poll. Returns `Timeout` with `address` if
-    // `MOST_POLLS` polls show BUSY.
+    // Returns the status 1 without BUSY, or `Timeout` with `address` after `MOST_POLLS` polls.
     fn wait(&mut self, address: u32) -> Result<u8, CallError> {
         for _ in 0..MOST_POLLS {
             let mut status1 = [0];
@@ -154,8 +145,7 @@ impl Caller<'_> {
         Err(CallError::Refused(Refusal::Timeout { address }))
     }
 
-    // Finds the chip: waits, reads the ID, and reads the SFDP. The SFDP is not read if the ID is in the table, or means
-    // that there is no chip. Returns the chip's configuration and its status 1, or the error of the probe.
+    // The SFDP is not read if the ID has a row, or means that there is no chip.
     fn find(&mut self, named: Option<ChipName>) -> Result<(Config, u8), CallError> {
         let status1 = self.wait(0)?;
         let mut id = [0; 3];
@@ -173,8 +163,7 @@ impl Caller<'_> {
         Ok((config, status1))
     }
 
-    // Reads the SFDP header, the first parameter header and its table, and returns the configuration that they
-    // describe. In this configuration the table is right after the headers, although the chip may have it elsewhere.
+    // The returned table is right after the headers, although the chip may have it elsewhere.
     fn find_parameters(&mut self, id: [u8; 3]) -> Result<Config, CallError> {
         let mut signature = [0; 8];
         self.send(&[0x5A, 0x00, 0x00, 0x00, 0x00], &mut signature)?;
@@ -197,7 +186,6 @@ impl Caller<'_> {
         }
     }
 
-    // Reads status 2 and the unique ID.
     fn identify(&mut self, config: Config, status1: u8) -> Result<Chip, CallError> {
         let status2 = self.read_status2()?;
         let mut unique = [0; 8];
@@ -212,7 +200,6 @@ impl Caller<'_> {
         Ok(status2[0])
     }
 
-    // Reads each sector that contains an included address, in ascending order.
     fn scan(&mut self, case: &Case, chip: &mut Chip) -> Result<(), CallError> {
         for number in 0..chip.sectors() {
             if case.includes_in(number) {
@@ -222,7 +209,6 @@ impl Caller<'_> {
         Ok(())
     }
 
-    // Reads a sector from the chip on the bus, and stores its bytes in `chip`.
     fn take_sector(&mut self, number: u32, chip: &mut Chip) -> Result<(), CallError> {
         let sector = chip
             .bytes
@@ -236,8 +222,7 @@ impl Caller<'_> {
         self.send(&[0x03, high, middle, low], sector)
     }
 
-    // Makes the changes in the order of `transactions.rt`: clears the protection bits, erases, programs sectors, and
-    // sets the protection bits.
+    // The order is that of `transactions.rt`.
     fn change(&mut self, chip: &mut Chip, wanted: &Wanted) -> Result<(), CallError> {
         self.prepare(chip, wanted)?;
         for number in 0..chip.sectors() {
@@ -260,8 +245,7 @@ impl Caller<'_> {
         self.play(lines)
     }
 
-    // Programs a sector. A sector that wasn't erased is read again before that, and only the pages in which this read
-    // differs from the target are programmed.
+    // A sector that wasn't erased is read again, and only pages that then differ from the target are programmed.
     fn program(&mut self, chip: &mut Chip, wanted: &Wanted, number: u32) -> Result<(), CallError> {
         if !wanted.raises_all(number, 1) {
             self.take_sector(number, chip)?;
@@ -271,8 +255,8 @@ impl Caller<'_> {
         self.play(lines)
     }
 
-    // Sends the commands of the lines, and waits after each command except a write enable. Lines with a reply are
-    // skipped: this function makes the waits itself, and its caller has made the reads.
+    // Waits after each command except a write enable. Lines with a reply are skipped, since the caller has made the
+    // reads.
     fn play(&mut self, lines: Lines) -> Result<(), CallError> {
         let lines = lines.whole()?;
         self.play_lines(lines.text())
@@ -300,7 +284,6 @@ impl Caller<'_> {
         Ok(())
     }
 
-    // Reads each touched sector, in ascending order, and compares it with the target.
     fn compare(&mut self, wanted: &Wanted) -> Result<(), CallError> {
         for number in 0..wanted.count() {
             if wanted.touches(number) {
@@ -317,7 +300,6 @@ impl Caller<'_> {
     }
 }
 
-// Returns `Mismatch` with the first address from `start` on at which the bytes differ, if there is one.
 fn difference(start: u32, shown: &[u8], wanted: &[u8]) -> Option<Refusal> {
     for (address, (byte, new)) in (start..).zip(shown.iter().zip(wanted)) {
         if *byte != *new {
@@ -327,7 +309,7 @@ fn difference(start: u32, shown: &[u8], wanted: &[u8]) -> Option<Refusal> {
     None
 }
 
-// Returns a chip of which no byte has been read yet. Each byte is FFh.
+// Each byte is FFh.
 fn unread(alloc: Global, config: Config, status: Status) -> Result<Chip, Fault> {
     Ok(Chip {
         config,
@@ -337,8 +319,7 @@ fn unread(alloc: Global, config: Config, status: Status) -> Result<Chip, Fault> 
     })
 }
 
-// Returns a copy of `case` in which the chip is `chip`, the one that the replies describe. The included addresses are
-// only in the field `included` of the copy, since the reference implementation doesn't use those of the request.
+// The included addresses are only in `included`, since the reference implementation doesn't use those of the request.
 fn asked_of(alloc: Global, case: &Case, chip: Chip) -> Result<Case, Fault> {
     Ok(Case {
         chip,
@@ -357,7 +338,7 @@ fn asked_of(alloc: Global, case: &Case, chip: Chip) -> Result<Case, Fault> {
     })
 }
 
-// Returns the bytes that a transaction sends, from its line. The line must have no reply.
+// The line must have no reply.
 fn bytes_of(alloc: Global, line: &str) -> Result<Vec<u8>, Fault> {
     let mut bytes = Vec::new(alloc);
     for pair in line.as_bytes().chunks(2) {
@@ -369,7 +350,7 @@ fn bytes_of(alloc: Global, line: &str) -> Result<Vec<u8>, Fault> {
     Ok(bytes)
 }
 
-// Returns the address that a program or a block erase sends, and 0 for any other command.
+// 0 for a command without an address.
 fn address_of(command: &[u8]) -> u32 {
     match command {
         [0x02 | 0x20 | 0x52 | 0xD8, high, middle, low, ..] => {

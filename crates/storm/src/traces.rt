@@ -8,8 +8,8 @@ use crate::wanted::Wanted;
 use nor_chip::SECTOR_LEN;
 use nor_session::Refusal;
 
-/// Checks that the trace `sent` has exactly the lines `wanted`. Otherwise returns `Sends` with the number of the first
-/// line that differs, is missing or is additional, counted from 1.
+/// Checks that the trace `sent` has exactly the lines `wanted`. Otherwise `Sends` has the number of the first
+/// difference, from 1.
 pub fn check_lines(sent: &str, wanted: &str, call: &'static str) -> Result<(), Fault> {
     let mut number = 1_u64;
     for (line, other) in sent.lines().zip(wanted.lines()) {
@@ -25,7 +25,7 @@ pub fn check_lines(sent: &str, wanted: &str, call: &'static str) -> Result<(), F
     }
 }
 
-/// Checks a trace that is given as bytes, as `check_lines` does for text.
+/// Checks a trace of bytes, as `check_lines` does.
 pub fn check_trace(sent: &[u8], wanted: &str, call: &'static str) -> Result<(), Fault> {
     check_lines(text(sent)?, wanted, call)
 }
@@ -62,7 +62,6 @@ pub fn check_ended(case: &Case, wanted: &Wanted, sent: &str) -> Result<(), Fault
     ])
 }
 
-// True if the line begins with the opcode of a modifying command.
 fn changes(line: &str) -> bool {
     matches!(
         byte_at(line, 0),
@@ -70,7 +69,6 @@ fn changes(line: &str) -> bool {
     )
 }
 
-// True if each line erases nothing or only raised sectors.
 fn erases_only_raised(sent: &str, sectors: u32, wanted: &Wanted) -> bool {
     for line in sent.lines() {
         if let Some((first, count)) = erased_by(line, sectors)
@@ -82,8 +80,7 @@ fn erases_only_raised(sent: &str, sectors: u32, wanted: &Wanted) -> bool {
     true
 }
 
-// Returns the first sector that the command of this line erases, and the number of erased sectors, or `None` if it
-// erases nothing. `sectors` is the number of sectors on the chip.
+// The first erased sector and their number, on a chip of `sectors` sectors.
 fn erased_by(line: &str, sectors: u32) -> Option<(u32, u32)> {
     let count = match byte_at(line, 0) {
         0xC7 => return Some((0, sectors)),

@@ -1,19 +1,18 @@
 //! The transactions that each call must send, in order, with one line for each: a part of the reference implementation.
 //!
-//! A wait is a number of polls (05h) until one shows BUSY clear. An operation is a write enable (06h), a command, and a
-//! wait. One 03h reads a sector of 4,096 bytes. If a call is stopped, its lines are a prefix of its lines without a
-//! stop: the transaction that a stop interrupts has no line. A session or restore has these steps:
+//! A wait is a number of polls (05h) until one shows BUSY clear, an operation a write enable (06h), a command and a
+//! wait. A transaction that a stop interrupts has no line. A session or restore has these steps:
 //!
-//! 1. Find the chip: a wait, the ID, and three reads of SFDP. The SFDP is not read if the ID is in the table, or means
-//!    that there is no chip.
+//! 1. Find the chip: a wait, the ID, and three reads of SFDP, except for an ID that has a row or means no chip.
 //! 2. Identify the device: status 2 and the unique ID.
-//! 3. Read the sectors that hold an included address (session) or were saved (restore), in ascending order. A session
-//!    that only sets a protection range reads none.
+//! 3. Read the sectors with an included address (session, unless it only sets a range) or the saved ones (restore).
 //! 4. Clear the protection bits, if a touched sector is protected.
 //! 5. Erase the raised sectors.
-//! 6. Program the touched sectors, in ascending order. A sector that wasn't erased is read first.
+//! 6. Program the touched sectors. A sector that wasn't erased is read first.
 //! 7. Set the protection bits of the target, if they differ.
-//! 8. Verify: read the touched sectors again, in ascending order. A session does so only if the request asks for it.
+//! 8. Verify: read the touched sectors again (for a session, only if the request asks for it).
+//!
+//! Sectors come in ascending order.
 
 use crate::cases::Case;
 use crate::chips::Chip;
@@ -28,20 +27,16 @@ use std::alloc::Global;
 /// Returns the lines of a session that succeeds.
 pub fn session(alloc: Global, case: &Case, wanted: &Wanted) -> Result<Lines, Fault> {
     let mut lines = Lines::new(alloc, &case.chip);
-    // Steps 1 to 3: find the chip, identify the device, and scan.
     save(&mut lines, case, case.chip.sectors());
-    // Steps 4 to 7: make the changes.
     change(&mut lines, &case.chip, wanted);
-    // Step 8: verify, only if the request asks for it.
     if case.request.verify {
         read_touched(&mut lines, wanted.sectors.as_slice());
     }
     lines.whole()
 }
 
-// Appends steps 1 to 3 of a session. Step 3 reads the sectors below `below` that hold an included address, and is left
-// out for a protection range. During step 3 the session writes each touched sector to the vault as soon as it has read
-// the sector. After step 3 the session seals the vault, if the request is accepted. The vault's calls add no line.
+// During step 3 the session writes each touched sector to the vault as soon as it has read it. The vault's calls add no
+// line.
 fn save(lines: &mut Lines, case: &Case, below: u32) {
     find(lines, &case.chip);
     identify(lines);
@@ -50,8 +45,8 @@ fn save(lines: &mut Lines, case: &Case, below: u32) {
     }
 }
 
-/// Returns the lines of a session that is refused with this error. Errors 1 to 3 are returned after step 1, errors 4 to
-/// 8 after step 2, and errors 9 and 10 after step 3.
+/// Returns the lines of a session that is refused: with errors 1 to 3 after step 1, 4 to 8 after step 2, 9 and 10 after
+/// step 3.
 pub fn refused_session(alloc: Global, case: &Case, refusal: Refusal) -> Result<Lines, Fault> {
     let mut lines = Lines::new(alloc, &case.chip);
     match refusal.number() {
@@ -70,17 +65,14 @@ pub fn restore(
     wanted: &Wanted,
 ) -> Result<Lines, Fault> {
     let mut lines = Lines::new(alloc, chip);
-    // Steps 1 to 3: find the chip, identify the device, and scan.
     scan_saved(&mut lines, chip, saved);
-    // Steps 4 to 7: make the changes.
     change(&mut lines, chip, wanted);
-    // Step 8: verify. A restore always does so.
     read_touched(&mut lines, wanted.sectors.as_slice());
     lines.whole()
 }
 
-/// Returns the lines of a restore that is refused with this error. Errors 1, 2 and 16 are returned after step 1, errors
-/// 20 and 17 after step 2, and error 9 after step 3.
+/// Returns the lines of a restore that is refused: with errors 1, 2 and 16 after step 1, 20 and 17 after step 2, 9
+/// after step 3.
 pub fn refused_restore(
     alloc: Global,
     chip: &Chip,
@@ -96,23 +88,21 @@ pub fn refused_restore(
     lines.whole()
 }
 
-// Appends steps 1 to 3 of a restore. Step 3 reads the touched sectors of `saved`, which the journal saved.
 fn scan_saved(lines: &mut Lines, chip: &Chip, saved: &[Sector]) {
     find(lines, chip);
     identify(lines);
     read_touched(lines, saved);
 }
 
-/// Returns the lines of a probe. The name that the caller requires of the chip doesn't change them.
+/// Returns the lines of a probe, which are the same for any name.
 pub fn probe(alloc: Global, chip: &Chip) -> Result<Lines, Fault> {
     let mut lines = Lines::new(alloc, chip);
     find(&mut lines, chip);
     lines.whole()
 }
 
-/// Returns the lines of a readout or a verification: step 1, and then reads of the sectors below `below` that contain
-/// an included address, in ascending order. The call returns an error of the chip, the image's length or a region
-/// before the first of these reads, and a difference after the last one.
+/// Returns the lines of a readout or a verification: step 1, and reads of the included sectors below `below`. A
+/// difference is returned after the last read, any other error before the first.
 pub fn reading(alloc: Global, case: &Case, below: u32) -> Result<Lines, Fault> {
     let mut lines = Lines::new(alloc, &case.chip);
     find(&mut lines, &case.chip);
@@ -120,8 +110,8 @@ pub fn reading(alloc: Global, case: &Case, below: u32) -> Result<Lines, Fault> {
     lines.whole()
 }
 
-/// Returns the lines of a report on protection: step 1, and then a read of status 2 if `is_found` is true. The caller
-/// passes true if the probe returns no error.
+/// Returns the lines of a report on protection: step 1, and a read of status 2 if the probe returned no error
+/// (`is_found`).
 pub fn protection(alloc: Global, chip: &Chip, is_found: bool) -> Result<Lines, Fault> {
     let mut lines = Lines::new(alloc, chip);
     find(&mut lines, chip);
@@ -131,8 +121,7 @@ pub fn protection(alloc: Global, chip: &Chip, is_found: bool) -> Result<Lines, F
     lines.whole()
 }
 
-// Appends step 1: finds the chip. The SFDP reads are the SFDP header, the first parameter header, and the table at the
-// address in that parameter header.
+// The SFDP reads are the header, the first parameter header, and the table at the address in it.
 fn find(lines: &mut Lines, chip: &Chip) {
     let config = &chip.config;
     lines.wait();
@@ -147,13 +136,11 @@ fn find(lines: &mut Lines, chip: &Chip) {
     lines.read_parameters(pointer, 36);
 }
 
-// Appends step 2: reads status 2 and the unique ID.
 fn identify(lines: &mut Lines) {
     lines.read_status2();
     lines.read_unique();
 }
 
-// Appends reads of the sectors below `below` that hold an included address, in ascending order.
 fn read_included(lines: &mut Lines, case: &Case, below: u32) {
     for number in 0..below {
         if case.includes_in(number) {
@@ -162,7 +149,6 @@ fn read_included(lines: &mut Lines, case: &Case, below: u32) {
     }
 }
 
-// Appends reads of the touched sectors, in ascending order.
 fn read_touched(lines: &mut Lines, sectors: &[Sector]) {
     for (number, sector) in (0_u32..).zip(sectors) {
         if sector.touched {
@@ -171,10 +157,8 @@ fn read_touched(lines: &mut Lines, sectors: &[Sector]) {
     }
 }
 
-// Appends steps 4 to 7: clears the protection bits, erases, programs, and sets the protection bits of the target.
 fn change(lines: &mut Lines, chip: &Chip, wanted: &Wanted) {
     prepare(lines, chip, wanted);
-    // Step 6: program the touched sectors.
     for number in 0..chip.sectors() {
         if wanted.touches(number) {
             program_sector(lines, chip, wanted, number);
@@ -183,13 +167,12 @@ fn change(lines: &mut Lines, chip: &Chip, wanted: &Wanted) {
     protect(lines, chip, wanted);
 }
 
-/// Appends steps 4 and 5: clears the protection bits if a touched sector is protected, and erases the raised sectors.
+/// Appends steps 4 and 5.
 pub fn prepare(lines: &mut Lines, chip: &Chip, wanted: &Wanted) {
-    // Step 4: clear the protection bits. The write leaves the other non-volatile status bits as they are.
+    // The write leaves the other non-volatile status bits as they are.
     if wanted.first_guarded(chip).is_some() {
         lines.write_status(guards::with_code(chip.status, 0));
     }
-    // Step 5: erase the raised sectors.
     if wanted.raises_all(0, chip.sectors()) {
         lines.erase_chip();
     } else {
@@ -197,8 +180,7 @@ pub fn prepare(lines: &mut Lines, chip: &Chip, wanted: &Wanted) {
     }
 }
 
-/// Appends step 7: sets the protection bits of the target, unless the chip already has them. If step 4 was sent, the
-/// chip's protection bits are 0 before this step.
+/// Appends step 7. The chip's protection bits are 0 before it if step 4 was sent.
 pub fn protect(lines: &mut Lines, chip: &Chip, wanted: &Wanted) {
     let code = match wanted.first_guarded(chip) {
         Some(_) => 0,
@@ -209,9 +191,8 @@ pub fn protect(lines: &mut Lines, chip: &Chip, wanted: &Wanted) {
     }
 }
 
-// Appends the erases of step 5 for a chip that isn't erased as a whole. The erases are in ascending order. Each erases
-// the largest aligned block (64 KiB, 32 KiB or one sector) that has only raised sectors and that the chip can erase at
-// once.
+// Each erase takes the largest aligned block (64 KiB, 32 KiB or one sector) with only raised sectors that the chip can
+// erase at once.
 fn erase_blocks(lines: &mut Lines, chip: &Chip, wanted: &Wanted) {
     for block in 0..chip.sectors() / 16 {
         let first = block.saturating_mul(16);
@@ -236,8 +217,7 @@ fn erase_half(lines: &mut Lines, chip: &Chip, wanted: &Wanted, first: u32) {
     }
 }
 
-/// Appends step 6 for one sector. A sector that wasn't erased is read first. Each page that then differs from the
-/// target is programmed with one operation of its own.
+/// Appends step 6 for one sector. Each page that differs from the target is one operation.
 pub fn program_sector(lines: &mut Lines, chip: &Chip, wanted: &Wanted, number: u32) {
     let is_erased = wanted.raises_all(number, 1);
     if !is_erased {
@@ -252,8 +232,7 @@ pub fn program_sector(lines: &mut Lines, chip: &Chip, wanted: &Wanted, number: u
     }
 }
 
-// Appends the program of a page, from the first byte that must be programmed to the last one. Appends nothing if no
-// byte must be programmed.
+// From the first byte that must be programmed to the last one, if any.
 fn program_page(lines: &mut Lines, start: u32, (old, new): (&[u8], &[u8]), is_erased: bool) {
     if let Some((first, last)) = span(old, new, is_erased) {
         let bytes = new.get(first..last.saturating_add(1)).unwrap_or(&[]);
@@ -262,7 +241,6 @@ fn program_page(lines: &mut Lines, start: u32, (old, new): (&[u8], &[u8]), is_er
     }
 }
 
-// Returns the page of a chip's bytes that starts at this address.
 fn page_at(bytes: &Vec<u8>, start: u32) -> &[u8] {
     let start = start as usize;
     bytes
@@ -271,8 +249,7 @@ fn page_at(bytes: &Vec<u8>, start: u32) -> &[u8] {
         .unwrap_or(&[])
 }
 
-// Returns the positions in a page of the first and the last byte that must be programmed, or `None` if no byte must. In
-// an erased page these are bytes whose target isn't FFh, otherwise bytes that differ from the target.
+// In an erased page the bytes to program are those whose target isn't FFh, otherwise those that differ.
 fn span(old: &[u8], new: &[u8], is_erased: bool) -> Option<(usize, usize)> {
     let mut found = None;
     for (place, (old, new)) in old.iter().zip(new).enumerate() {

@@ -1,4 +1,4 @@
-//! The error that a call must return, if any. Several errors are checked in the same order as the call must check them.
+//! The error that a call must return, if any, in the order in which the call must check.
 
 use crate::cases::Case;
 use crate::chips::Chip;
@@ -23,7 +23,7 @@ pub fn is_no_chip(config: &Config) -> bool {
     config.id == [0xFF; 3] || config.id == [0x00; 3]
 }
 
-/// Returns the first error that a probe must return, if any: no chip, an unknown chip, or another name than `named`.
+/// Returns the first error of a probe: no chip, an unknown chip, or another name than `named`.
 pub fn of_probe(config: &Config, named: Option<ChipName>) -> Option<Refusal> {
     if is_no_chip(config) {
         return Some(Refusal::NoChip);
@@ -70,7 +70,6 @@ pub fn of_opening(case: &Case) -> Option<Refusal> {
     }
 }
 
-// Returns an error if the chip has block protection, and its protection bits are not defined by the datasheets.
 fn of_protection(scheme: bool, code: u8) -> Option<Refusal> {
     if scheme && guards::is_undefined(code) {
         Some(Refusal::UndefinedProtection)
@@ -79,7 +78,6 @@ fn of_protection(scheme: bool, code: u8) -> Option<Refusal> {
     }
 }
 
-// Returns an error if no defined value of the protection bits protects exactly this range.
 fn of_range(start: u32, len: u32, size: u32) -> Option<Refusal> {
     match guards::least_code(start, len, size) {
         Some(_) => None,
@@ -87,7 +85,7 @@ fn of_range(start: u32, len: u32, size: u32) -> Option<Refusal> {
     }
 }
 
-/// Returns error 9 or 10 if a session must return it. The caller must have excluded errors 1 to 8.
+/// Returns error 9 or 10 of a session without errors 1 to 8, if any.
 pub fn of_changes(case: &Case, wanted: &Wanted) -> Option<Refusal> {
     let chip = &case.chip;
     let guarded = wanted.first_guarded(chip);
@@ -104,15 +102,14 @@ pub fn of_changes(case: &Case, wanted: &Wanted) -> Option<Refusal> {
     }
 }
 
-/// The contents of a journal: the original chip, and the change of each of its sectors. The touched sectors were saved.
+/// The contents of a journal: the original chip, and its sectors, of which the touched ones were saved.
 #[derive(Clone, Copy)]
 pub struct Saved<'a> {
     pub chip: &'a Chip,
     pub sectors: &'a [Sector],
 }
 
-/// Returns the first of errors 1, 2, 16, 20, 17 and 9 that a restore must return, if any. `wanted` is the target of the
-/// restore.
+/// Returns the first of errors 1, 2, 16, 20, 17 and 9 of a restore with the target `wanted`, if any.
 pub fn of_restore(chip: &Chip, saved: Saved<'_>, wanted: &Wanted) -> Option<Refusal> {
     of_probe(&chip.config, None)
         .or(of_journal(&chip.config, saved))
@@ -130,9 +127,8 @@ pub fn of_journal(config: &Config, saved: Saved<'_>) -> Option<Refusal> {
     }
 }
 
-/// Returns error 20 if the journal is for another device. Otherwise returns error 17 if status bits that no restore
-/// changes differ from the journal's: the bits that flashnor never changes, or all non-volatile status bits if the chip
-/// has no block protection.
+/// Returns error 20 if the journal is for another device, or error 17 if status bits that no restore changes differ:
+/// those that flashnor never changes or, without block protection, all non-volatile ones.
 pub fn of_unit(chip: &Chip, saved: Saved<'_>) -> Option<Refusal> {
     if chip.config.unique != saved.chip.config.unique {
         return Some(Refusal::OtherUnit);

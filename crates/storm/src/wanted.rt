@@ -1,4 +1,4 @@
-//! The target of a session or restore, and the work to reach it, computed by simple rules from the chip's bytes.
+//! The target of a session or restore, and the work to reach it, computed by simple rules.
 
 use crate::cases::Case;
 use crate::chips::Chip;
@@ -24,7 +24,6 @@ pub struct Sector {
 #[derive(Drop)]
 pub struct Wanted {
     pub bytes: Vec<u8>,
-    /// The non-volatile status bits of the target.
     pub status: Status,
     pub sectors: Vec<Sector>,
 }
@@ -85,7 +84,7 @@ impl Wanted {
         u32::try_from(self.sectors.len()).unwrap_or(u32::MAX)
     }
 
-    /// True if each of the `count` sectors from `first` on is raised. Sectors past the end count as raised.
+    /// True if each of the `count` sectors from `first` on is raised, as sectors past the end are.
     pub fn raises_all(&self, first: u32, count: u32) -> bool {
         let from = self.sectors.get(first as usize..).unwrap_or(&[]);
         are_raised(from.get(..count as usize).unwrap_or(from))
@@ -103,8 +102,8 @@ impl Wanted {
         }
     }
 
-    // Returns the number of status writes. If a touched sector is protected, one clears the protection bits. If the
-    // protection bits then differ from the target's, one sets them at the end.
+    // One write clears the protection bits if a touched sector is protected, and one sets the target's if they differ
+    // then.
     fn status_writes(&self, chip: &Chip) -> u64 {
         let lifted = self.first_guarded(chip).is_some();
         let code = if lifted {
@@ -117,12 +116,10 @@ impl Wanted {
     }
 }
 
-// True if the request is a write or an erase.
 fn is_of_bytes(what: What) -> bool {
     what == What::Write || what == What::Erase
 }
 
-// Sets the included bytes to those of the image, or to FFh for an erase.
 fn take_included(case: &Case, bytes: &mut [u8]) {
     let whole = [Span {
         first: 0,
@@ -146,9 +143,7 @@ fn take_span(case: &Case, span: Span, bytes: &mut [u8]) {
     }
 }
 
-// Returns the target's non-volatile status bits. If the request asks for a protection range, they have the least
-// protection bits that protect exactly this range. If there are none, and for all other requests, they are the chip's
-// own.
+// A request for a range has the least protection bits that protect exactly this range, if there are any.
 fn wanted_status(case: &Case) -> Status {
     let status = guards::kept(case.chip.status);
     let What::WpRange { start, len } = case.request.what else {
@@ -191,8 +186,8 @@ fn rises(old: &[u8], new: &[u8]) -> bool {
     old.iter().zip(new).any(|(old, new)| *new & !*old != 0)
 }
 
-// Returns the number of pages of a sector that are programmed. A raised sector is erased first, so these are the pages
-// whose target isn't all FFh. In any other sector these are the pages that change.
+// In a raised sector, which is erased first, these are the pages whose target isn't all FFh, otherwise those that
+// change.
 fn pages_of(old: &[u8], new: &[u8], raised: bool) -> u32 {
     let mut pages = 0_u32;
     for (old, new) in old.chunks(256).zip(new.chunks(256)) {
@@ -206,12 +201,8 @@ fn pages_of(old: &[u8], new: &[u8], raised: bool) -> u32 {
     pages
 }
 
-// Returns the least number of erases for the raised sectors. If each sector of the chip is raised, this is one.
-// Otherwise it is the sum of these, where 64 KiB and 32 KiB count only if the chip has that erase type:
-//
-// - one for each aligned 64 KiB with only raised sectors
-// - one for each other aligned 32 KiB with only raised sectors
-// - one for each other raised sector
+// One erase if all sectors are raised. Otherwise one for each aligned 64 KiB with only raised sectors, for each other
+// such 32 KiB, and for each other raised sector, as far as the chip has the erase types.
 fn fewest_erases(sectors: &[Sector], chip: &Chip) -> u64 {
     if are_raised(sectors) {
         return 1;

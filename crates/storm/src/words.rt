@@ -12,9 +12,8 @@ pub struct Job {
 }
 
 impl Job {
-    /// Parses the arguments. `SEED COUNT` selects `COUNT` cases from case 0 on, and `SEED COUNT FIRST` from case
-    /// `FIRST` on. `SEED-LAST` in place of `SEED` selects these cases for each seed from `SEED` to `LAST`. Returns
-    /// `None` for other arguments.
+    /// Parses `SEED COUNT` (cases from 0 on) or `SEED COUNT FIRST`; `SEED-LAST` in place of `SEED` selects these cases
+    /// for several seeds. Returns `None` for other arguments.
     pub fn of(words: &[String]) -> Option<Job> {
         match words {
             [seeds, count] => Job::of_numbers(seeds.as_str(), count.as_str(), "0"),

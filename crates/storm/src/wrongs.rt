@@ -11,7 +11,7 @@ use nor_chip::SimBus;
 use nor_session::Refusal;
 use std::alloc::Global;
 
-/// Plants errors in targets, traces and models. Returns `Untold` if a comparison doesn't detect one of them.
+/// Plants errors in targets, traces and models. Returns `Untold` if one isn't detected.
 pub fn check(alloc: Global) -> Result<(), Fault> {
     check_places()?;
     check_session(alloc)?;
@@ -19,7 +19,6 @@ pub fn check(alloc: Global) -> Result<(), Fault> {
     check_refusal(alloc)
 }
 
-// Returns `Untold` unless `told`, the result of a comparison, is exactly the difference `what`.
 fn must_tell(told: Result<(), Fault>, what: &'static str) -> Result<(), Fault> {
     match told {
         Err(Fault::Differs(found)) if found == what => Ok(()),
@@ -27,7 +26,7 @@ fn must_tell(told: Result<(), Fault>, what: &'static str) -> Result<(), Fault> {
     }
 }
 
-// Checks that the comparison of traces reports the number of a line that is wrong, missing or additional.
+// The number of a line that is wrong, missing or additional must be reported.
 fn check_places() -> Result<(), Fault> {
     let rows = [
         ("05 > 00\n9f > fe1010\n", None),
@@ -49,8 +48,7 @@ fn check_places() -> Result<(), Fault> {
     Ok(())
 }
 
-// Checks that the comparisons for an accepted session detect a wrong byte of the target, a modifying command before the
-// seal, and an erase of too many sectors.
+// A wrong byte of the target, a modifying command before the seal, and an erase of too many sectors must be detected.
 fn check_session(alloc: Global) -> Result<(), Fault> {
     let case = Case::next(alloc, &mut Dice::new(1, 0))?;
     let ran = checks::run(alloc, &case, Stop::NEVER)?;
@@ -79,8 +77,6 @@ fn check_more(
     check_joined(alloc, case, wanted, (sent, "c7\n"), what)
 }
 
-// Checks that the comparison for an accepted session reports the difference `what` in the trace that consists of
-// `first` and `second`.
 fn check_joined(
     alloc: Global,
     case: &Case,
@@ -100,7 +96,7 @@ fn check_byte(case: &Case, wanted: &mut Wanted, lines: &str, ran: &Ran) -> Resul
     must_tell(told, "the bytes at the end")
 }
 
-// Checks that the comparison after a stop inside a page program detects a model that received one byte less.
+// A model that received one byte less must be detected.
 fn check_cut(alloc: Global) -> Result<(), Fault> {
     let case = Case::next(alloc, &mut Dice::new(1, 0))?;
     let wanted = Wanted::of_case(alloc, &case)?;
@@ -118,8 +114,8 @@ fn check_cut_in(alloc: Global, case: &Case, lines: &str) -> Result<(), Fault> {
     }
 }
 
-// Stops after five bytes of the program: the opcode, the address, and the first data byte, which differs from the
-// chip's byte. The model with the planted error receives only four bytes.
+// Five bytes are the opcode, the address, and the first data byte, which differs from the chip's. The wrong model gets
+// four.
 fn check_cut_after(alloc: Global, case: &Case, lines: &str, after: u64) -> Result<(), Fault> {
     let stop = Stop {
         cut: Some(5),
@@ -135,7 +131,6 @@ fn check_cut_after(alloc: Global, case: &Case, lines: &str, after: u64) -> Resul
     must_tell(told, "the bytes after a call")
 }
 
-// Compares the chip on the bus with the model after this stop.
 fn check_model(
     alloc: Global,
     case: &Case,
@@ -148,7 +143,7 @@ fn check_model(
     model.check(bus)
 }
 
-// Checks that the comparisons for a refused session detect an additional line and a modifying command.
+// An additional line and a modifying command must be detected.
 fn check_refusal(alloc: Global) -> Result<(), Fault> {
     let case = Case::next(alloc, &mut Dice::new(1, 18))?;
     let Some(refusal) = verdicts::of_opening(&case) else {
@@ -169,8 +164,6 @@ fn check_refused(alloc: Global, case: &Case, refusal: Refusal, lines: &str) -> R
     check_refused_joined(alloc, case, refusal, ("06\n", rest), what)
 }
 
-// Checks that the comparison for a refused session reports the difference `what` in the trace that consists of `first`
-// and `second`.
 fn check_refused_joined(
     alloc: Global,
     case: &Case,
