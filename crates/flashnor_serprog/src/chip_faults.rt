@@ -126,7 +126,7 @@ impl fmt::Display for JobFault<'_> {
         match self {
             JobFault::Fault(fault) => write!(f, "{fault}"),
             JobFault::Protected { status1 } => {
-                let advice = match status1 & 0x7C {
+                let advice = match *status1 & 0x7C {
                     0x40 => MAYBE_QUAD,
                     _ => PROTECTED,
                 };

@@ -30,7 +30,7 @@ impl Replies {
             }
             ([0x5A, ..], [erases, _, _, _, a, b, c, d, ..]) if reply.len() == TABLE_LEN => {
                 self.density = Some(u32::from_le_bytes([*a, *b, *c, *d]));
-                self.is_uneven = erases % 4 != 1;
+                self.is_uneven = *erases % 4 != 1;
             }
             _ => {}
         }
