@@ -59,7 +59,7 @@ fn message_of_unknown(alloc: Global, program: Program, text: &str) -> Result<Str
     Ok(message)
 }
 
-// What follows the argument doesn't contain it, so the argument ends before the last `AFTER_UNKNOWN`.
+// The text after the argument contains no `AFTER_UNKNOWN`, so the argument ends before the last one.
 fn unknown_in(text: &str) -> &str {
     let rest = text.strip_prefix(BEFORE_UNKNOWN).unwrap_or(text);
     match rest.rsplit_once(AFTER_UNKNOWN) {
