@@ -119,7 +119,7 @@ fn saved(alloc: Global, bytes: &[u8]) -> Result<MemVault, Fault> {
     Ok(vault)
 }
 
-// A session overwrites its image. Returns the number of transactions.
+// Writes a copy of the image, because a session overwrites its image. Returns the number of transactions.
 fn write(alloc: Global, bus: &mut SimBus, image: &[u8]) -> Result<u64, Fault> {
     let mut copy = image.to_vec(alloc)?;
     let mut vault = MemVault::new(alloc);

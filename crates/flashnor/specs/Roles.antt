@@ -97,7 +97,7 @@ IsStream nature job _ = ⊥
 abbrev pub changes_files : ChipJob → Bool
 changes_files job = writes_back job.task || (is_some job.programmer.trace || is_some (named_by job.task).output)
 
--- Holds for file fault 1 with the name of a standard stream, if the job may change or create a file.
+-- Holds for file fault 1 of a standard stream whose name can't be looked up, if the job may change or create a file.
 abbrev pub IsWithoutStream : Nature → ChipJob → Fault → Type 0
 IsWithoutStream nature job fault = (changes_files job ≡ true) × IsUnseenStream nature fault
 

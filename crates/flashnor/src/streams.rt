@@ -1,4 +1,4 @@
-//! Checks that the program prints to no file of a job, and otherwise chooses where the fault is printed.
+//! Checks that the program prints to no file of a job. If it does, chooses where the fault is printed.
 ghost use Rattle.std.specs.Prelude.{◌≡◌, IfErr, IfOk, IfSome};
 ghost use Rattle.flashnor.specs.Roles.{FailsFileRoles, IsPrintedName, changes_files};
 ghost use Rattle.flashnor.specs.Streams.{IsReportedTo};

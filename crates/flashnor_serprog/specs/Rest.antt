@@ -1,4 +1,5 @@
--- The sectors that a restore's journal doesn't save: what the chip replied to their reads before and after it.
+-- The unsaved sectors, those that a restore's journal doesn't save: what the chip replied to their reads before and
+-- after it.
 use Rattle.std.specs.Prelude.{◌≡◌, ◌<◌, ◌/◌, ◌*◌, ◌++◌, ℕ, Bool, true, false, List, Some, Result, Ok, Err, length}
 use Rattle.std.specs.Prelude.{slice_index}
 use Rattle.std.specs.List.{All}
@@ -39,21 +40,21 @@ pub record HasReadRest (journal : Journal) (bytes : List ℕ) (old new : BusStat
       → IsWholeSector (slice_index bytes) s (last_reply (names 0x03 (4096 * s)) later)
   pub unsaved : AreUnsaved journal bytes
 
--- Holds if the bus stopped while these sectors were read, and nothing was sent after that.
+-- Holds if the bus stopped while the unsaved sectors were read, and nothing was sent after that.
 pub record HasStoppedInRest (journal : Journal) (old new : BusState) : Type 0 where
   pub only_reads : OnlyReads (journal.size / 4096) old new
   pub stopped : HasStopped (journal.size / 4096) old new
 
 -- ---- the comparison after a restore
 
--- True if these sectors are compared after a restore with this outcome. They aren't after error 12 (the bus stopped) or
--- 13 (a busy chip ignores reads), nor after an error that left the chip as it was.
+-- True if the unsaved sectors are compared after a restore with this outcome. They aren't after error 12 (the bus
+-- stopped) or 13 (a busy chip ignores reads), nor after an error that left the chip as it was.
 abbrev pub is_followed : Result Answer Refusal → Bool
 is_followed (Ok answer) = true
 is_followed (Err (Mismatch address)) = true
 is_followed (Err refusal) = false
 
--- Holds if these sectors were read again, and were as before the restore (`rest`).
+-- Holds if the unsaved sectors were read again, and were as before the restore (`rest`).
 pub record HasKeptRest (journal : Journal) (rest : List ℕ) (old new : BusState) : Type 0 where
   pub again : List ℕ
   pub read : HasReadRest journal again old new
@@ -63,7 +64,7 @@ abbrev pub FollowsRestore : (followed : Bool) → Journal → (rest : List ℕ) 
 FollowsRestore true journal rest old new = HasKeptRest journal rest old new
 FollowsRestore false journal rest old new = new ≡ old
 
--- Holds if these sectors were read again, and the byte at `address` is the first that differs.
+-- Holds if the unsaved sectors were read again, and the byte at `address` is the first that differs.
 pub record HasLostRest (journal : Journal) (rest : List ℕ) (old new : BusState) (address : ℕ) : Type 0 where
   pub again : List ℕ
   pub read : HasReadRest journal again old new

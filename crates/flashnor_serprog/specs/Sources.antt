@@ -68,8 +68,8 @@ FailsCheck view (task.Change change) fault = IsThere view change.journal_use fau
 FailsCheck view (task.Restore journal) fault = IsInvalid view journal.now fault
 FailsCheck view _ fault = ⊥
 
--- Holds if `bytes` were read of the job's image or journal, with one byte more than it can have. A comparison may have
--- a journal in place of an image.
+-- Holds if `bytes` were read of the job's image or journal: at most one byte more than the largest chip or the longest
+-- journal has. A comparison may have a journal in place of an image.
 abbrev pub AreBytes : View → Task → List ℕ → Type 0
 AreBytes view (task.Verify file regions) bytes = IsRead view file.now 16793662 bytes
 AreBytes view (task.Change change) bytes = IsImage view change.wanted bytes

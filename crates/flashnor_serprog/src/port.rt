@@ -26,7 +26,8 @@ impl fmt::Display for PortFault {
     }
 }
 
-/// A port over the device of a programmer. Its contract only records what it is asked to send, and what it returns.
+/// A port over the device of a programmer. The contract assumes nothing about the device, and records what is sent and
+/// returned.
 #[derive(Drop)]
 pub struct DevicePort {
     file: File,

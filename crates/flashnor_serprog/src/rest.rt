@@ -66,9 +66,9 @@ fn saves(journal: &Journal<'_>, sector: u32) -> bool
     journal.find(sector).is_some()
 }
 
-/// Reads these sectors again into `again`, which must have one FFh for each byte of the chip, and compares them with
-/// `rest`, their bytes before the restore. Returns error 14 with the first address that differs, or error 12 if the bus
-/// stopped.
+/// Reads the sectors that the journal doesn't save into `again`, which must have one FFh for each byte of the chip, and
+/// compares them with `rest`, their bytes before the restore. Returns error 14 with the first address that differs, or
+/// error 12 if the bus stopped.
 pub fn compare_rest<B: Progress>(
     bus: &mut B,
     journal: &Journal<'_>,

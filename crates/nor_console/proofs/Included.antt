@@ -1,4 +1,4 @@
--- Lemmas about the fault if no addresses are included: the layout's text has a fault, or a name is unknown.
+-- Lemmas about the faults of including regions: the layout's text has a fault, or a name is unknown.
 use Rattle.std.proofs.Common.{◌≡◌, ◌∙◌, ℕ, ◌+◌, Bool, false, true, List, [], ◌∷◌, None, Option, Some, Result, Ok, Err, arith}
 use Rattle.std.proofs.Common.{find, not, option_map, refl, subst, sym, unwrap_or}
 use Rattle.std.proofs.lemmas.Bool.{false≢true}

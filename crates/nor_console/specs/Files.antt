@@ -1,5 +1,5 @@
--- The faults of files. If `Happens view` is part of a definition, these files may have the failure that causes the
--- fault. A file is known (`IsKnownFile`) if the files obey their contract and no vault or log in it is borrowed.
+-- The faults of files. A definition with `Happens view` also states that these files may have the failure that causes
+-- the fault. A file is known (`IsKnownFile`) if the files obey their contract and no vault or log in it is borrowed.
 use Rattle.std.specs.Prelude.{◌≡◌, ◌≢◌, ◌<◌, ◌+◌, ◌⊎◌, ℕ, List, None, length}
 use Rattle.nor_request.specs.declared.refusal.Refusal.TheVariants.{Memory}
 use Rattle.nor_args.specs.Text.{Text}
@@ -52,8 +52,8 @@ IsOpeningFault view name len (end.File file.Length of cause) =
     (of.now ≡ name) × ((bytes : List ℕ) × IsRead view name (len + 1) bytes × (length bytes ≢ len))
 IsOpeningFault view name len _ = ⊥
 
--- Holds if locking and reading a chip's file, which must have `len` bytes, may fail with this fault. File fault 1 needs
--- a file that is missing, although it existed when it was locked, or that isn't known (`IsKnownFile`).
+-- Holds if locking and reading a chip's file, which must have `len` bytes, may fail with this fault. File fault 1 is
+-- possible, too, if the file is missing, although it existed when it was locked, or isn't known (`IsKnownFile`).
 abbrev pub IsLockingFault : View → Text → ℕ → Fault → Type 0
 IsLockingFault view name len (end.File file.Read of cause) =
     (of.now ≡ name) × (ReadsFile name (len + 1) None view ⊎ Happens view (Unread name))

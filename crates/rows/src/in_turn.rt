@@ -9,7 +9,7 @@ use nor_session::{Refusal, session};
 use std::alloc::Global;
 use std::process::Abort;
 
-// Writes the image of `row` on the chip that the first session left. Returns also whether this session ended.
+// Runs the second session, which writes the image of `row`. Returns what it left, and whether it ended.
 fn write_again(rt: &impl Abort, alloc: Global, bus: SimBus, row: Row, allowed: u64) -> (Cut, bool) {
     let mut bus = bus;
     bus.allow(allowed);

@@ -13,7 +13,7 @@ struct Rewritten {
     row: Row,
     touched: u32,
     erases: u32,
-    // One for each page of these sectors that was not all FFh before the session.
+    // One for each page of the saved sectors that was not all FFh before the session.
     programs: u32,
     writes: u32,
     // Seven on a TINY64 and four on a W25Q64FV.

@@ -169,7 +169,7 @@ fn each_call_of_the_port_fails_in_a_restore(rt: HostRuntime) {
     }
 }
 
-// With exactly the calls of the session's transactions, the session ends.
+// If exactly the calls of the session's transactions succeed, the session ends.
 #[test]
 fn a_session_ends_with_its_last_call(rt: HostRuntime) {
     let alloc = rt.alloc();

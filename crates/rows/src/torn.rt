@@ -196,7 +196,8 @@ fn each_cut_of_a_restore(rt: HostRuntime) {
     }
 }
 
-// The stop of the session sends 4, 5 or 6 bytes: none, one or both data bytes. That of the restore is any in `SHORT`.
+// The stop of the session sends 4, 5 or 6 bytes of a page program, so none, one or both data bytes; that of the restore
+// sends any number in `SHORT`.
 const RESTORES_OF_TWO_PAGES: Stops = Stops {
     kept: 5_152,
     lost: 9_492,

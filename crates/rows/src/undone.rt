@@ -32,7 +32,7 @@ const SLOW_BIT: u64 = 26 + 2 * 9 + 2 * (18 + 17 + 3 * 16);
 // programmed, so the sector is erased: 12 transactions (13 runs).
 const TWO_PAGES: u64 = 23 + 3 * 9 + 6 * 13;
 
-// 8 stops precede the seal. At the next two the sector is as it was (9 runs). At each three stops after that the
+// 8 stops precede the seal. At the next two the sector is as it was (9 runs). At every three stops after that the
 // restore has to program 16 pages, 15, and so on down to one: 10 transactions, and three for each page.
 const MOST_OF_A_SECTOR: u64 = 8 + 2 * 9 + 3 * (16 * 11 + 3 * 16 * 17 / 2);
 

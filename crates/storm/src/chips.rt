@@ -52,8 +52,8 @@ impl Chip {
     }
 }
 
-/// Draws a chip of 64, 128 or 256 KiB without a row. A few have SFDP bytes that a probe rejects, or an ID without a
-/// chip.
+/// Draws a chip of 64, 128 or 256 KiB without a row. A few have SFDP bytes that a probe rejects, or an ID that means
+/// that there is no chip.
 pub fn small(alloc: Global, dice: &mut Dice) -> Result<Chip, Fault> {
     let told = Told {
         size: dice.pick(65_536, &[131_072, 262_144]),

@@ -12,8 +12,8 @@ enum Damage {
     Changed,
 }
 
-/// Truncates, lengthens or changes the journal. Checks that `Journal::read` rejects it, with `Short` or `Long` for the
-/// length.
+/// Truncates, lengthens or changes the journal. Checks that `Journal::read` rejects it: a truncated one with `Short`,
+/// and a longer one with `Long`.
 pub fn check(alloc: Global, dice: &mut Dice, journal: &[u8]) -> Result<(), Fault> {
     let mut bytes = journal.to_vec(alloc)?;
     let damage = make(dice, &mut bytes)?;
