@@ -38,19 +38,42 @@ is_unique_read out = begins_with 0x4B out
 abbrev pub is_missing : (reply : List ℕ) → Bool
 is_missing reply = length reply == 8 && (bytes_eq reply (replicate 8 255) || bytes_eq reply (replicate 8 0))
 
--- True if a transaction reads an SFDP table (5Ah with 36 reply bytes) whose bits 1 and 0 of double word 1 aren't 01b.
-abbrev pub is_uneven : (out reply : List ℕ) → Bool
-is_uneven out reply = begins_with 0x5A out && (length reply == 36 && not (slice_index reply 0 % 4 == 1))
+-- True if a transaction reads an SFDP table: 5Ah with 36 reply bytes.
+abbrev pub is_table_read : (out reply : List ℕ) → Bool
+is_table_read out reply = begins_with 0x5A out && length reply == 36
 
--- An SFDP table with 00h as the opcode of each of its four erase types, which are in double words 8 and 9.
-abbrev pub without_erases : (table : List ℕ) → List ℕ
-without_erases table = slice_set (slice_set (slice_set (slice_set table 29 0) 31 0) 33 0) 35 0
+-- True if bits 1 and 0 of double word 1 of an SFDP table aren't 01b.
+abbrev pub is_uneven : (table : List ℕ) → Bool
+is_uneven table = not (slice_index table 0 % 4 == 1)
+
+-- True if an opcode is one of three others.
+abbrev pub shares : (opcode one two three : ℕ) → Bool
+shares opcode one two three = opcode == one || opcode == two || opcode == three
+
+-- A table with the byte at `at` as 00h, if `is` is true.
+abbrev pub cleared : (is : Bool) → (at : ℕ) → (table : List ℕ) → List ℕ
+cleared is at table = if is then slice_set table at 0 else table
+
+-- An SFDP table whose erase types have these opcodes, with 00h as the opcode of each erase type that shares its opcode
+-- or, if `all` is true, of each of the four.
+abbrev pub without_shared : (all : Bool) → (one two three four : ℕ) → (table : List ℕ) → List ℕ
+without_shared all one two three four table =
+    cleared (all || shares four one two three) 35
+    (cleared (all || shares three one two four) 33
+    (cleared (all || shares two one three four) 31
+    (cleared (all || shares one two three four) 29 table)))
+
+-- What the bus returns if the chip returned this SFDP table. The opcodes of the erase types are in double words 8
+-- and 9.
+abbrev pub shown_table : (all : Bool) → (table : List ℕ) → List ℕ
+shown_table all table =
+    without_shared all (slice_index table 29) (slice_index table 31) (slice_index table 33) (slice_index table 35) table
 
 -- What the bus returns if the chip returned `reply`.
 abbrev pub shown_as : (missing : ℕ) → (refuses : Bool) → (out reply : List ℕ) → List ℕ
 shown_as missing refuses out reply =
     if is_unique_read out && is_missing reply then replicate (length reply) missing
-    else (if refuses && is_uneven out reply then without_erases reply else reply)
+    else (if is_table_read out reply then shown_table (refuses && is_uneven reply) reply else reply)
 
 -- Holds if the transaction was passed on unchanged, and `reply` is what `shown_as` makes of its reply.
 pub record ShowsReply (missing : ℕ) (refuses : Bool) (out reply : List ℕ) (old new : List Exchange) : Type 0 where

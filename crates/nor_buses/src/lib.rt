@@ -15,7 +15,7 @@
 //! - `ahead.rt`: a bus that reads ahead
 //! - `same_chip.rt`: a bus that reads the unique ID again before the first modifying command
 //! - `known_status2.rt`: a bus that reads status 2 only from a chip that is known to have this command
-//! - `other_makers.rt`: a bus that hides a unique ID that is none, and refuses chips without sectors of 4 KiB everywhere
+//! - `other_makers.rt`: a bus that hides a unique ID that is none, and erases whose size depends on the address
 //! - `kept_quad.rt`: a bus that hides QE, if it is bit 6 of status 1
 //! - `watched.rt`: a bus that notices that a chip which seems to be busy has lost its contact
 //! - `layers.rt`: all layers together, and that they are a well-behaved bus

@@ -1,10 +1,11 @@
-//! A bus that shows a chip without a unique ID, or without sectors of 4 KiB everywhere, as the engine expects it.
-ghost use Rattle.std.specs.Prelude.{◌≡◌, [], false, length, OnOk, OnErr};
+//! A bus that shows a chip without a unique ID, or with erases that depend on the address, as the engine expects it.
+ghost use Rattle.std.specs.Prelude.{◌≡◌, ◌<◌, [], true, false, length, OnOk, OnErr};
 ghost use Rattle.std.proofs.lemmas.Bool.{false≢true};
 ghost use Rattle.nor_model.specs.Bus.{Transfers};
 ghost use Rattle.nor_model.specs.History.{begins_with, stopped};
 ghost use Rattle.nor_buses.specs.OtherMakers.{made_by, missing_as, refuses_uneven, history_of, other_makers_state};
-ghost use Rattle.nor_buses.specs.OtherMakers.{is_missing, is_unique_read, is_uneven, shown_as, ShowsReply};
+ghost use Rattle.nor_buses.specs.OtherMakers.{cleared, is_missing, is_table_read, is_unique_read, is_uneven, shown_as};
+ghost use Rattle.nor_buses.specs.OtherMakers.{ShowsReply, shown_table, shares};
 
 use nor_model::{Bus, History, Stopped};
 
@@ -25,6 +26,8 @@ const TABLE: usize = 36;
 ///   everywhere, and 11b that it isn't (JESD216, double word 1). Then the four opcodes of the table's erase types are
 ///   returned as 00h, so that the table describes no erase of 4 KiB. Spansion S25FL128S, for example, has sectors of
 ///   4 KiB only at one end, ignores their erase elsewhere, and could be neither written nor restored.
+/// - If several erase types of the table have the same opcode, the size of the erase depends on the address: D8h of
+///   Microchip SST26VF064B erases 8, 32 or 64 KiB. Then these opcodes are returned as 00h, so that they aren't used.
 ///
 /// The history lists each transaction over this bus with its reply. In contracts, the chip is that of the bus inside.
 /// This bus is not well-behaved, because it returns other bytes than the chip.
@@ -103,12 +106,47 @@ fn show(missing: u8, refuses_uneven: bool, out: &[u8], reply: &mut [u8])
 {
     if is_unique_read(out) && is_missing(reply) {
         reply.fill(missing);
-    } else if refuses_uneven && is_uneven(out, reply) {
-        reply[29] = 0;
-        reply[31] = 0;
-        reply[33] = 0;
-        reply[35] = 0;
+    } else if is_table_read(out, reply) {
+        show_table(refuses_uneven && is_uneven(reply), reply);
     }
+}
+
+// Clears the opcodes of an SFDP table that several erase types have. If `all` is true, clears all four.
+fn show_table(all: bool, table: &mut [u8])
+    requires { length table.old ≡ 36 }
+    ensures { table.new ≡ shown_table all table.old }
+{
+    let (one, two, three, four) = (table[29], table[31], table[33], table[35]);
+    clear_if(all || shares(one, two, three, four), table, 29);
+    clear_if(all || shares(two, one, three, four), table, 31);
+    clear_if(all || shares(three, one, two, four), table, 33);
+    clear_if(all || shares(four, one, two, three), table, 35);
+}
+
+// Returns whether an opcode is one of three others.
+fn shares(opcode: u8, one: u8, two: u8, three: u8) -> bool
+    ensures { result ≡ shares opcode one two three }
+{
+    opcode == one || opcode == two || opcode == three
+}
+
+// Clears a byte if `is` is true.
+fn clear_if(is: bool, table: &mut [u8], at: usize)
+    requires { at < length table.old }
+    ensures cleared { table.new ≡ cleared is at table.old }
+    ensures len { length table.new ≡ length table.old }
+{
+    if is {
+        table[at] = 0;
+    }
+}
+
+// Returns whether a transaction reads an SFDP table.
+fn is_table_read(out: &[u8], reply: &[u8]) -> bool
+    ensures is { result ≡ is_table_read out.now reply.now }
+    ensures len { result ≡ true → length reply.now ≡ 36 }
+{
+    matches!(out, [READ_SFDP, ..]) && reply.len() == TABLE
 }
 
 // Returns whether a transaction begins with the opcode of a read of the unique ID.
@@ -130,10 +168,10 @@ fn is_missing(reply: &[u8]) -> bool
     unique == [0xFF; 8] || unique == [0; 8]
 }
 
-// Returns whether a transaction reads an SFDP table, and the table doesn't say that sectors of 4 KiB can be erased
-// everywhere.
-fn is_uneven(out: &[u8], reply: &[u8]) -> bool
-    ensures { result ≡ is_uneven out.now reply.now }
+// Returns whether an SFDP table doesn't say that sectors of 4 KiB can be erased everywhere.
+fn is_uneven(table: &[u8]) -> bool
+    requires { length table.now ≡ 36 }
+    ensures { result ≡ is_uneven table.now }
 {
-    matches!(out, [READ_SFDP, ..]) && reply.len() == TABLE && reply[0] % 4 != 1
+    table[0] % 4 != 1
 }
