@@ -59,7 +59,7 @@ def reads_before_and_after_a_header(start):
 
 
 def stays_in_qpi(start):
-    """35h enters QPI on the chips that say so. Only power-up leaves it, or FFh if the chip knows it and a line is high."""
+    """35h enters QPI on the chips that say so. Only power-up leaves it, or FFh where it is known and a line is high."""
     for name in "MX25L12835F", "IS25LP128", "MT25QL128":
         chip = erased(name)
         chip.transfer(b"\x35", 1)
