@@ -273,6 +273,20 @@ def refuses(start, it):
     is_refused(Play(start, it), REFUSED[it.name])
 
 
+def is_in_qpi(start, it):
+    """refused within seconds while it is in QPI mode, at either level of the floating line"""
+    for level in LEVELS:
+        play = Play(start, it)
+        play.chip.floating, play.chip.is_in_qpi = level, True
+        for words in (), CHANGES[0], BACKUP:
+            got = play.bench.run(*words)
+            check(f"the refusal of {words}", (got.err[:1], got.out, got.status), (["Error 1: no chip."], [], 1))
+            play.only_reads(words)
+            play.bench.check_absent("j")
+        check("in QPI", play.chip.is_in_qpi, True)
+        play.check_chip(play.old)
+
+
 def has_status(start, it):
     """written with other bits of status 1 set if these don't protect, and otherwise refused"""
     status, refused = STATUS[it.name]
@@ -299,6 +313,7 @@ def cases():
         if it.name not in REFUSED and not {0x35, 0x4B} <= set(it.opcodes):
             yield case_of(moves, it)
     yield from (case_of(has_own_locks, ALL[name]) for name in ("W25Q128JV", *LOCKED))
+    yield case_of(is_in_qpi, ALL["MX25L12835F"])
     yield from (case_of(protects, ALL[name]) for name in ROWS)
     yield from (case_of(has_status, ALL[name]) for name in STATUS)
 

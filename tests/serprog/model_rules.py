@@ -59,7 +59,7 @@ def reads_before_and_after_a_header(start):
 
 
 def stays_in_qpi(start):
-    """35h enters QPI on the chips that say so. Only power-up leaves it, or FFh on some chips, if the line floats high."""
+    """35h enters QPI on the chips that say so. Only power-up leaves it, or FFh where it is known and a line is high."""
     for name in "MX25L12835F", "IS25LP128", "MT25QL128":
         chip = erased(name)
         chip.transfer(b"\x35", 1)
@@ -132,7 +132,7 @@ def has_sfdp_of_the_standard(start):
     """The fields of the tables are where JESD216 has them."""
     words = [int.from_bytes(ALL["MX25L12873G"].sfdp[0x30 + 4 * at :][:4], "little") for at in range(16)]
     check("double words 1, 2, 8 and 9", (hex(words[0]), words[1], hex(words[7]), hex(words[8])),
-          ("0xfff120e5", (1 << 27) - 1, "0x520f200c", "0xd810"))
+          ("0xfff120e5", (1 << 27) - 1, "0x520f200c", "0xff00d810"))
     check("bits 22 to 20 of double word 15", words[14] >> 20 & 7, 0b010)
     check("bits 7 to 4 of double word 11", 1 << (words[10] >> 4 & 15), 256)
     found = ALL["S25FL128S"].sfdp

@@ -76,8 +76,8 @@ def word_1(modes):
 
 
 def erase_types(types):
-    """Returns double words 8 and 9: four erase types, where 0 is none."""
-    pairs = [exponent | opcode << 8 for exponent, opcode in types] + [0] * (4 - len(types))
+    """Returns double words 8 and 9: four erase types. One that the chip lacks has the length 0 and the opcode FFh."""
+    pairs = [exponent | opcode << 8 for exponent, opcode in types] + [0xFF00] * (4 - len(types))
     return pairs[0] | pairs[1] << 16, pairs[2] | pairs[3] << 16
 
 

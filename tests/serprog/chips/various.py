@@ -39,8 +39,8 @@ CHIPS = (
                 {**ALIKE, **STATUS_3, **sleeps(0x17), 0x31: ("write", (1,))},
                 ("Status Registers", "Command Listing", "SFDP"), unique=bytes(range(0xB1, 0xC1)), **ALIKE_CHIP),
     # Status: BUSY RES SEC WPLD WSP WSE WEL BUSY. 35h reads the configuration register. 4 KiB erases reach everything,
-    # but D8h erases 8, 32 or 64 KiB, by the address: its SFDP has three erase types of D8h, and a sector map. Each block
-    # is locked after power-up, until 98h; here the third register shows that. 38h enters QPI, and ABh is ignored.
+    # but D8h erases 8, 32 or 64 KiB, by the address: its SFDP has three erase types of D8h, and a sector map. Blocks
+    # are locked after power-up, until 98h; here the third register shows that. 38h enters QPI, and ABh is ignored.
     Description("SST26VF064B", "Microchip", bytes.fromhex("bf2643"), M8,
                 build(6, basic(M8, (K4, (13, 0xD8), (15, 0xD8), K64), Modes(True), minor=6, quad=QE_BY_01),
                       Table(SECTOR_MAP, (1, 0), 0x100, regions(0, SST_MAP, is_end=True))),
