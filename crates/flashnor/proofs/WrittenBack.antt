@@ -1,5 +1,5 @@
 -- The chip's two files after they were written, and the names of those that could not be written.
-use Rattle.std.proofs.Common.{◌≡◌, ℕ, Bool, List, Option, None, Some, IfSome, arith, true}
+use Rattle.std.proofs.Common.{◌≡◌, ◌∙◌, ℕ, Bool, List, Option, None, Some, IfSome, arith, refl, sym, true}
 use Rattle.std.specs.Borrow.{Bor}
 use Rattle.nor_model.specs.Chip.{Chip, status_of}
 use Rattle.nor_chip.specs.Start.{AreChipBytes}
@@ -9,7 +9,7 @@ use Rattle.nor_args.specs.Text.{Text}
 use Rattle.nor_args.specs.declared.programmer.Programmer.{Programmer}
 use Rattle.flashnor.specs.Chips.{AreWrittenBack}
 use Rattle.flashnor.specs.Holding.{AreAmid, AreReady, IsReadyIfNamed, LeavesAmid, MakesDurable}
-use Rattle.nor_console.specs.Stored.{AreTwo, Happens, IsNot, IsReportedOf}
+use Rattle.nor_console.specs.Stored.{ArePut, AreTwo, Happens, IsNot, IsReportedOf}
 
 abbrev OthersOf : Option (Bor Text) → (old new : FilesState) → Type 0
 OthersOf name old new = is_lawful old.view ≡ true → (any : Name) → IsNot old.view.nature name any → KeepsFile any old new
@@ -45,6 +45,32 @@ pub reported_before : (name failed : Option (Bor Text)) (old mid : View) → mid
     → IsReportedOf name failed old
 reported_before name failed old mid same is = grind arith
 
+-- ---- the last look at a file
+
+-- The clauses that `last_look` ensures: `failed` is the name of a file that could not be written, and `found` the name
+-- that the last look returns.
+abbrev Looks : (name failed found : Option (Bor Text)) → View → Type 0
+Looks name failed found view = record {
+  fails : IsReportedOf name failed view → IsReportedOf name found view;
+  written : found ≡ None → failed ≡ None;
+}
+
+put_looked : (name : Option (Bor Text)) (bytes : List ℕ) (failed found : Option (Bor Text)) (files : FilesState)
+    → Looks name failed found files.view → ArePut name bytes failed files → ArePut name bytes found files
+put_looked name bytes None None files looks put = put
+put_looked name bytes (Some failed) None files looks put = let never = looks.written refl in grind arith
+put_looked name bytes None (Some found) files looks put = looks.fails tt
+put_looked name bytes (Some failed) (Some found) files looks put = looks.fails put
+
+-- If a write of a file fails at `mid`, and the last look follows at `new`, the name that it returns is reported at
+-- `old`.
+pub reported_looked : (name failed found : Option (Bor Text)) (old mid new : View) → mid.nature ≡ old.nature
+    → new.nature ≡ old.nature → IfSome failed (λ is. (name ≡ Some is) × Happens mid (Unwritten is.now))
+    → Looks name failed found new → IsReportedOf name found old
+reported_looked name failed found old mid new same same2 is looks =
+    reported_before name found old new same2 (looks.fails
+    (reported_before name failed new mid (sym same2 ∙ same) (reported name failed mid is)))
+
 -- ---- both files of the chip
 
 module _ {programmer : Programmer} {image_there status_there : Bool} {had bits : List ℕ} {chip : Chip}
@@ -59,6 +85,16 @@ module _ {programmer : Programmer} {image_there status_there : Bool} {had bits :
     are = are;
     image_put = grind (arith, other_write_keeps, ready.image bytes are);
     status_put = grind (arith, other_write_keeps);
+  }
+
+  -- the same with the names that the last looks return
+  pub both_looked : {image' status' : Option (Bor Text)} → Looks programmer.image image image' c.view
+      → Looks programmer.status status status' c.view → AreWrittenBack programmer chip image' status' c
+  both_looked looks looks2 = record {
+    bytes = bytes;
+    are = are;
+    image_put = put_looked _ _ _ _ c looks both_put.image_put;
+    status_put = put_looked _ _ _ _ c looks2 both_put.status_put;
   }
 
   pub both_amid : AreAmid programmer image_there status_there had bits chip c

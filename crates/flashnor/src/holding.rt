@@ -195,10 +195,9 @@ pub fn write_back<'a, R: Store>(
 {
     let image = write_if_named(rt, programmer.image, image_there, bus.bytes());
     let status = write_if_named(rt, programmer.status, status_there, &bus.status());
-    (
-        last_look(rt, programmer.image, image),
-        last_look(rt, programmer.status, status),
-    )
+    let image = last_look(rt, programmer.image, image);
+    let status = last_look(rt, programmer.status, status);
+    (image, status)
 }
 
 // Looks once more at the file of this name, if one is given and it was written. `failed` is the name if it could not be
