@@ -91,7 +91,15 @@ same_nature keeps =
     }
 
 pub same_nature_then : {old mid new : BusState} → SameNature mid new → SameNature old mid → SameNature old new
-same_nature_then later earlier = grind (arith, later.config, earlier.config)
+same_nature_then later earlier =
+    record {
+      honest = later.honest ∙ earlier.honest;
+      steady = later.steady ∙ earlier.steady;
+      unlimited = later.unlimited ∙ earlier.unlimited;
+      longer = later.longer ∙ earlier.longer;
+      punctual = later.punctual ∙ earlier.punctual;
+      config = λ honest. later.config (earlier.honest ∙ honest) ∙ earlier.config honest;
+    }
 
 -- ---- one restore
 
