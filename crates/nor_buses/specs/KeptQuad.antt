@@ -1,6 +1,6 @@
 -- A bus that hides bit 6 of status 1 if it is QE, as contracts see it.
 use Rattle.std.specs.Prelude.{◌≡◌, ◌==◌, ◌&&◌, ◌||◌, ◌/◌, ◌%◌, ◌-◌, ℕ, Bool, true, false, List, [], ◌∷◌}
-use Rattle.std.specs.Prelude.{if◌then◌else◌}
+use Rattle.std.specs.Prelude.{if◌then◌else◌, slice_index, slice_set}
 use Rattle.nor_model.specs.Bus.{BusState, unknown_bus}
 use Rattle.nor_model.specs.Exchange.{Exchange}
 use Rattle.nor_model.specs.History.{begins_with, bytes_or_none, replied}
@@ -53,8 +53,8 @@ without_quad status = if status / 64 % 2 == 1 then status - 64 else status
 pub record OnlyReadsOn (old new : BusState) : Type 0 where
   pub sent : new.sent ≡ old.sent
 
--- Holds if the transaction was passed on, and `reply` is its reply, the status byte, with bit 6 clear.
+-- Holds if the transaction was passed on, and `reply` is its reply, with bit 6 of the first byte clear.
 pub record ShowsWithoutQuad (out reply : List ℕ) (old new : List Exchange) : Type 0 where
-  pub status : ℕ
-  pub history : new ≡ replied out (status ∷ []) ∷ old
-  pub shown : reply ≡ without_quad status ∷ []
+  pub raw : List ℕ
+  pub history : new ≡ replied out raw ∷ old
+  pub shown : reply ≡ slice_set raw 0 (without_quad (slice_index raw 0))

@@ -1,5 +1,5 @@
 //! A bus that hides bit 6 of status 1 if it is QE (quad enable), which protects nothing.
-ghost use Rattle.std.specs.Prelude.{◌≡◌, ◌∷◌, [], not, true, false, IfOk, OnOk, length};
+ghost use Rattle.std.specs.Prelude.{◌≡◌, ◌∷◌, [], not, true, false, IfOk, OnErr, OnOk, length, slice_index, slice_set};
 ghost use Rattle.std.proofs.lemmas.Bool.{false≢true};
 ghost use Rattle.nor_model.specs.Bus.{Transfers};
 ghost use Rattle.nor_model.specs.History.{begins_with};
@@ -136,18 +136,33 @@ impl<B: Bus> KeptQuad<B> {
         ensures refuses { has_quad self.old ≡ true → begins_with 0x01 out.now ≡ true
             → (kept_by self.new ≡ kept_by self.old) × OnOk result ⊥ }
         ensures shows { is_judged self.old ≡ true → has_quad self.old ≡ true → begins_with 0x05 out.now ≡ true
-            → length reply.old ≡ 1 → OnOk result (ShowsWithoutQuad out.now reply.new
+            → length reply.new ≡ 1 → OnOk result (ShowsWithoutQuad out.now reply.new
             (B.state (kept_by self.old)).history (B.state (kept_by self.new)).history) }
         ensures learns { has_quad self.old ≡ false → has_quad self.new ≡ true
             → names_bit6 (B.state (kept_by self.new)).history ≡ true }
     {
-        if self.has_quad && matches!(out, [WRITE_STATUS, ..]) {
+        if self.has_quad && is_status_write(out) {
             return Err(Stopped);
         }
         self.bus.transfer(out, reply)?;
-        if !matches!(out, [READ_STATUS1, ..]) || reply.len() != 1 {
-            return Ok(());
+        if is_poll(out, reply) {
+            self.hide(reply)?;
         }
+        Ok(())
+    }
+
+    // Clears bit 6 of a status byte if it is QE. If that isn't known yet, finds it out first.
+    fn hide(&mut self, reply: &mut [u8]) -> Result<(), Stopped>
+        requires { length reply.old ≡ 1 }
+        ensures history { history_of self.new ≡ history_of self.old }
+        ensures rows { rows_of self.new ≡ rows_of self.old }
+        ensures stays { is_judged self.old ≡ true → (self.new ≡ self.old) × OnErr result ⊥ }
+        ensures elsewhere { is_judged self.old ≡ true → has_quad self.old ≡ false → reply.new ≡ reply.old }
+        ensures hides { is_judged self.old ≡ true → has_quad self.old ≡ true
+            → reply.new ≡ slice_set reply.old 0 (without_quad (slice_index reply.old 0)) }
+        ensures learns { has_quad self.old ≡ false → has_quad self.new ≡ true
+            → names_bit6 (B.state (kept_by self.new)).history ≡ true }
+    {
         let status = reply[0];
         if !self.is_judged && shows_bit6(status) {
             self.judge()?;
@@ -179,7 +194,7 @@ impl<B: Bus> Bus for KeptQuad<B> {
         ensures refuses { has_quad self.old ≡ true → begins_with 0x01 out.now ≡ true
             → (kept_by self.new ≡ kept_by self.old) × OnOk result ⊥ }
         ensures shows { is_judged self.old ≡ true → has_quad self.old ≡ true → begins_with 0x05 out.now ≡ true
-            → length reply.old ≡ 1 → OnOk result (ShowsWithoutQuad out.now reply.new
+            → length reply.new ≡ 1 → OnOk result (ShowsWithoutQuad out.now reply.new
             (B.state (kept_by self.old)).history (B.state (kept_by self.new)).history) }
         ensures learns { has_quad self.old ≡ false → has_quad self.new ≡ true
             → names_bit6 (B.state (kept_by self.new)).history ≡ true }
@@ -199,6 +214,21 @@ impl<B: Bus> Bus for KeptQuad<B> {
     fn has_further_types(&self) -> bool {
         self.bus.has_further_types()
     }
+}
+
+// Returns whether a transaction begins with the opcode of a status write.
+fn is_status_write(out: &[u8]) -> bool
+    ensures { result ≡ begins_with 0x01 out.now }
+{
+    matches!(out, [WRITE_STATUS, ..])
+}
+
+// Returns whether a transaction is a poll with one reply byte.
+fn is_poll(out: &[u8], reply: &[u8]) -> bool
+    ensures poll { result ≡ true → (begins_with 0x05 out.now ≡ true) × (length reply.now ≡ 1) }
+    ensures other { result ≡ false → length reply.now ≡ 1 → begins_with 0x05 out.now ≡ false }
+{
+    matches!(out, [READ_STATUS1, ..]) && reply.len() == 1
 }
 
 // Returns whether status 1 shows an idle chip with bit 6 set.
