@@ -36,8 +36,8 @@ NAMES = {
         "`sent` doesn't change. Otherwise all of `out` is put in front of `sent`, even if the bus stopped.",
     "IsFresh": "`IsFresh vault`: the vault is unsealed, and has accepted no byte.",
     "Vault":
-        "`Vault`: the trait of a vault. `put` appends a piece to `bytes`. A failed call counts as a refusal. A "
-        "failed `put` appends the piece's first bytes: none, some or all.",
+        "`Vault`: the trait of a vault. `put` appends a piece to `bytes`. Each failed call counts as a refusal. A "
+        "`put` that fails appends only the first bytes of its piece: none, some or all.",
     "Kinds":
         "`Kinds`: `k32` says whether 52h erases 32 KiB, `k64` whether D8h erases 64 KiB.",
     "has_srp0": "`has_srp0 kept`: SRP0 is set.",
@@ -53,12 +53,12 @@ NAMES = {
     "IsChip": "`IsChip chip`: bytes are below 256, status bits fit their registers, and `busy` is below 65,536.",
     "Command": "`Command`: what a transaction asks for.",
     "command_of":
-        "`command_of config out replies`: the command for this opcode and these lengths, with the address modulo the "
-        "size (for an erase, the start of its block); `Ignored` if SPECIFICATION.md's table lacks the command, or the "
-        "chip the erase type.",
+        "`command_of config out replies`: the command for this opcode and these lengths. Its address is that sent, "
+        "modulo the size, or for an erase the start of the block. The command is `Ignored` if SPECIFICATION.md's table "
+        "lacks it, or if the chip lacks the erase type.",
     "last_for":
-        "`last_for at sent a`: the last byte of the data `sent` that goes to the address `a`, if any. Byte 0 goes to "
-        "`at`; the addresses wrap within the page.",
+        "`last_for at sent a`: the last byte of the data `sent` that goes to the address `a`, if any. The first byte "
+        "of the data goes to `at`; the addresses wrap within the page.",
     "BusyAfter":
         "`BusyAfter chip command busy`: after a status write, program or erase, `busy` is any number below 65,536. A "
         "poll lowers `busy` by 1, if `busy` isn't 0. Otherwise `busy` doesn't change.",
@@ -72,10 +72,11 @@ NAMES = {
         "`is_protected chip a`: the chip has block protection, and its protection bits protect the address `a`.",
     "is_block_protected":
         "`is_block_protected chip start len`: the first or the last of the `len` addresses from `start` on is "
-        "protected. That is so if any is, because protected addresses lie at one end of the chip.",
+        "protected. If any of these addresses is protected, the first or the last is, because the protected addresses "
+        "lie at one end of the chip.",
     "is_in_work":
-        "`is_in_work running a`: `a` is in the page or block of a program or erase. It is true for `Unknown`, and "
-        "false for a status write.",
+        "`is_in_work running a`: `a` is in the page or block of a program or erase. `is_in_work` is true for "
+        "`Unknown`, and false for a status write.",
     "KeptCut":
         "`KeptCut running old new`: `new` is `old` or, after a cut status write, the bits before this write. For "
         "`Unknown`, `new` may be anything.",
@@ -85,15 +86,15 @@ NAMES = {
         "`config` are as before.",
     "IsHonestFor":
         "`IsHonestFor out n bus`: the bus is well-behaved, and accepts a transaction of this length: `out` has at most "
-        "260 bytes and `n` is at most 4,096 + `bus.longer`, or the bus is `unlimited`. The code never sends more than "
-        "260 bytes or reads more than 4,096.",
+        "260 bytes and `n` is at most 4,096 + `bus.longer`, or the bus is `unlimited`. No transaction of the engine "
+        "sends more than 260 bytes or reads more than 4,096.",
     "IsGenuine":
-        "`IsGenuine config`: for an ID in the table (W25Q64FV, W25Q128FV, no further chip), size, erase types and "
-        "block protection are those of its row. Without a row, the chip has no block protection and, if its SFDP is "
-        "accepted, the size and erase types in the SFDP.",
+        "`IsGenuine config`: if the ID has a row (W25Q64FV or W25Q128FV), the size, erase types and block protection "
+        "are those of the row. If the ID has no row, the chip has no block protection and, if its SFDP is accepted, "
+        "the size and erase types in the SFDP.",
     "IsKnown":
-        "`IsKnown config`: the chip is genuine, its ID isn't FF FF FF or 00 00 00, and the table has the ID or the "
-        "chip's SFDP is accepted.",
+        "`IsKnown config`: the chip is genuine, its ID isn't FF FF FF or 00 00 00, and the table has a row for the ID "
+        "or the chip's SFDP is accepted.",
     "unique_of": "`unique_of config`: the chip's unique ID.",
     "SavedSector": "`SavedSector`: the `number` of a saved sector, and its `bytes`.",
     "IsContent":
@@ -124,25 +125,26 @@ NAMES = {
         "`IsLeastCode size start len code`: `code` is the least number below 64 whose protection bits are defined (not "
         "SEC with BP 110) and protect exactly the `len` addresses from `start` on.",
     "Report":
-        "`Report`: the chip found, and right counts (`reported`). A session with nothing to change sent no "
-        "modifying command (`unsent` of `IsDone`).",
+        "`Report`: the chip found, and the counts of the call, which are right (`reported`). A session with nothing to "
+        "change sent no modifying command (`unsent` of `IsDone`).",
     "Refusal": "`Refusal`: the errors of calls.",
     "refusal_number": "`refusal_number refusal`: the error's number.",
     "RefusalHolds":
-        "`RefusalHolds request image chip refusal`: the error is one of 1 to 10, and applies as SPECIFICATION.md says.",
+        "`RefusalHolds request image chip refusal`: the error is one of errors 1 to 10, and SPECIFICATION.md says that "
+        "it applies to the request and the chip.",
     "CountsRefusal": "`CountsRefusal old new`: the vault refused a call between these states.",
     "SessionAlways":
         "`SessionAlways ..`, among others: on every bus, an error from 1 to 11 leaves the vault unsealed (`answers`: "
-        "`unsealed`), and after success the vault is sealed and refused no call (`ends`). On a modelled bus the "
-        "request was then accepted, by `undo`.",
+        "`unsealed`), and after success the vault is sealed and refused no call (`ends`). By `undo`, the request of a "
+        "session that succeeds on a modelled bus was accepted.",
     "RanOut":
         "`RanOut needed old new`: on a punctual bus no transaction is left, and fewer than `needed` were left before.",
     "most_of":
         "`most_of s`: 65,542 + 3 * s + 65,538 * (17 * s + 2), a bound on the transactions of a call that may touch `s` "
         "sectors.",
     "RestoreModelled":
-        "`RestoreModelled ..`, among others: an error is the restore's verdict or, if the bus stopped (`RanOut`), 12 "
-        "(`errors`).",
+        "`RestoreModelled ..`, among others: an error of a restore is the restore's verdict or, if the bus stopped "
+        "(`RanOut`), error 12 (`errors`).",
 }
 
 # The appendices of STATEMENT-FULL.md: the title of each, what breaks if it is wrong, and the definitions and contracts
