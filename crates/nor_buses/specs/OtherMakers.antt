@@ -1,5 +1,5 @@
 -- A bus that changes two replies of other makers' chips, as contracts see it.
-use Rattle.std.specs.Prelude.{◌≡◌, ◌==◌, ◌&&◌, ◌||◌, ◌%◌, ℕ, Bool, List, [], ◌∷◌, length, not, replicate, slice_index}
+use Rattle.std.specs.Prelude.{◌≡◌, ◌==◌, ◌&&◌, ◌||◌, ◌%◌, ℕ, Bool, List, ◌∷◌, length, not, replicate, slice_index}
 use Rattle.std.specs.Prelude.{bytes_eq, slice_set, if◌then◌else◌}
 use Rattle.nor_model.specs.Bus.{BusState, unknown_bus}
 use Rattle.nor_model.specs.Exchange.{Exchange}
