@@ -3,7 +3,7 @@ ghost use Rattle.std.specs.Prelude.{◌≡◌, [], IfOk, option_map, string_byte
 ghost use Rattle.nor_buses.specs.Checked.{bus_of, history_of as checked_history};
 ghost use Rattle.nor_buses.specs.KeptQuad.{kept_by};
 ghost use Rattle.nor_buses.specs.KnownStatus2.{known_by};
-ghost use Rattle.nor_buses.specs.OtherMakers.{made_by};
+ghost use Rattle.nor_buses.specs.OtherMakers.{adapted_by};
 ghost use Rattle.nor_buses.specs.SameChip.{checked_by};
 ghost use Rattle.nor_buses.specs.Twice.{expected_of, history_of, twice_of};
 ghost use Rattle.flashnor_serprog.specs.Connected.{IsUnused, device_of, expected_by};

@@ -1,5 +1,5 @@
 -- A bus that changes two replies of other makers' chips, as contracts see it.
-use Rattle.std.specs.Prelude.{◌≡◌, ◌==◌, ◌&&◌, ◌||◌, ◌%◌, ℕ, Bool, List, [], ◌∷◌, length, not, replicate, slice_index}
+use Rattle.std.specs.Prelude.{◌≡◌, ◌==◌, ◌&&◌, ◌||◌, ◌%◌, ℕ, Bool, List, ◌∷◌, length, not, replicate, slice_index}
 use Rattle.std.specs.Prelude.{bytes_eq, slice_set, if◌then◌else◌}
 use Rattle.nor_model.specs.Bus.{BusState, unknown_bus}
 use Rattle.nor_model.specs.Exchange.{Exchange}
@@ -7,8 +7,8 @@ use Rattle.nor_model.specs.History.{begins_with, replied}
 use Rattle.nor_buses.specs.declared.other_makers.OtherMakers.{OtherMakers}
 
 -- The bus inside, which carries out the transactions of an `OtherMakers`.
-abbrev pub made_by : {B : Type 0} → OtherMakers B → B
-made_by other = other.bus
+abbrev pub adapted_by : {B : Type 0} → OtherMakers B → B
+adapted_by other = other.bus
 
 -- Each byte of a unique ID that the chip doesn't have.
 abbrev pub missing_as : {B : Type 0} → OtherMakers B → ℕ
@@ -26,8 +26,8 @@ history_of other = other.history.exchanges
 -- it returns other bytes than the chip.
 abbrev pub other_makers_state : {B : Type 0} → (inside : B → BusState) → OtherMakers B → BusState
 other_makers_state inside other = record (unknown_bus (history_of other)) {
-  chip = (inside (made_by other)).chip;
-  further = (inside (made_by other)).further;
+  chip = (inside (adapted_by other)).chip;
+  further = (inside (adapted_by other)).further;
 }
 
 -- True if a transaction begins with the opcode of a read of the unique ID.
@@ -70,13 +70,13 @@ shown_table all table =
     without_shared all (slice_index table 29) (slice_index table 31) (slice_index table 33) (slice_index table 35) table
 
 -- What the bus returns if the chip returned `reply`.
-abbrev pub shown_as : (missing : ℕ) → (refuses : Bool) → (out reply : List ℕ) → List ℕ
-shown_as missing refuses out reply =
+abbrev pub adapted_reply : (missing : ℕ) → (refuses : Bool) → (out reply : List ℕ) → List ℕ
+adapted_reply missing refuses out reply =
     if is_unique_read out && is_missing reply then replicate (length reply) missing
     else (if is_table_read out reply then shown_table (refuses && is_uneven reply) reply else reply)
 
--- Holds if the transaction was passed on unchanged, and `reply` is what `shown_as` makes of its reply.
+-- Holds if the transaction was passed on unchanged, and `reply` is what `adapted_reply` makes of its reply.
 pub record ShowsReply (missing : ℕ) (refuses : Bool) (out reply : List ℕ) (old new : List Exchange) : Type 0 where
   pub raw : List ℕ
   pub history : new ≡ replied out raw ∷ old
-  pub shown : reply ≡ shown_as missing refuses out raw
+  pub shown : reply ≡ adapted_reply missing refuses out raw

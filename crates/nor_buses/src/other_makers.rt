@@ -3,8 +3,8 @@ ghost use Rattle.std.specs.Prelude.{◌≡◌, ◌<◌, [], true, false, length,
 ghost use Rattle.std.proofs.lemmas.Bool.{false≢true};
 ghost use Rattle.nor_model.specs.Bus.{Transfers};
 ghost use Rattle.nor_model.specs.History.{begins_with, stopped};
-ghost use Rattle.nor_buses.specs.OtherMakers.{made_by, missing_as, refuses_uneven, history_of, other_makers_state};
-ghost use Rattle.nor_buses.specs.OtherMakers.{cleared, is_missing, is_table_read, is_unique_read, is_uneven, shown_as};
+ghost use Rattle.nor_buses.specs.OtherMakers.{adapted_by, missing_as, refuses_uneven, history_of, other_makers_state};
+ghost use Rattle.nor_buses.specs.OtherMakers.{cleared, is_missing, is_table_read, is_unique_read, is_uneven, adapted_reply};
 ghost use Rattle.nor_buses.specs.OtherMakers.{ShowsReply, shown_table, shares};
 
 use nor_model::{Bus, History, Stopped};
@@ -43,7 +43,7 @@ impl<B: Bus + Drop> OtherMakers<B> {
     /// Returns a bus over `bus`. `missing` is each byte of a unique ID that the chip doesn't have. `refuses_uneven`
     /// says whether a chip must erase sectors of 4 KiB everywhere.
     pub fn new(bus: B, missing: u8, refuses_uneven: bool) -> OtherMakers<B>
-        ensures bus { made_by result ≡ bus }
+        ensures bus { adapted_by result ≡ bus }
         ensures missing { missing_as result ≡ missing }
         ensures uneven { refuses_uneven result ≡ refuses_uneven }
         ensures history { history_of result ≡ [] }
@@ -58,7 +58,7 @@ impl<B: Bus + Drop> OtherMakers<B> {
 
     /// Returns the bus inside, which carries out the transactions of this bus.
     pub fn inner(&self) -> &B
-        ensures { result.now ≡ made_by self.now }
+        ensures { result.now ≡ adapted_by self.now }
     {
         &self.bus
     }
@@ -76,11 +76,11 @@ impl<B: Bus> Bus for OtherMakers<B> {
         ensures uneven { refuses_uneven self.new ≡ refuses_uneven self.old }
         ensures passes { begins_with 0x4B out.now ≡ false → begins_with 0x5A out.now ≡ false
             → Transfers out.now reply.old reply.new result
-            (B.state (made_by self.old)) (B.state (made_by self.new)) }
+            (B.state (adapted_by self.old)) (B.state (adapted_by self.new)) }
         ensures ok { OnOk result (ShowsReply (missing_as self.old) (refuses_uneven self.old) out.now reply.new
-            (B.state (made_by self.old)).history (B.state (made_by self.new)).history) }
-        ensures stops { OnErr result ((B.state (made_by self.new)).history
-            ≡ stopped out.now ∷ (B.state (made_by self.old)).history) }
+            (B.state (adapted_by self.old)).history (B.state (adapted_by self.new)).history) }
+        ensures stops { OnErr result ((B.state (adapted_by self.new)).history
+            ≡ stopped out.now ∷ (B.state (adapted_by self.old)).history) }
     {
         match self.bus.transfer(out, reply) {
             Ok(()) => {
@@ -102,7 +102,7 @@ impl<B: Bus> Bus for OtherMakers<B> {
 
 // Makes of the reply to a transaction what this bus returns.
 fn show(missing: u8, refuses_uneven: bool, out: &[u8], reply: &mut [u8])
-    ensures { reply.new ≡ shown_as missing refuses_uneven out.now reply.old }
+    ensures { reply.new ≡ adapted_reply missing refuses_uneven out.now reply.old }
 {
     if is_unique_read(out) && is_missing(reply) {
         reply.fill(missing);
