@@ -19,7 +19,7 @@ STOPS = (("kill", (1, 0)), ("power", (1, 1)), ("lose", (2, 0)), ("power", (3, 0)
          ("dip", (2, 0)), ("dip", (8, 0)))
 RESTORE_STOPS = (("power", (1, 0)), ("kill", (4, 0)))
 # A write of the regions that contain what changes, without the comparison of the whole chip.
-IN_REGIONS = "-w", "new", "-N", "-l", "layout", "-i", "low", "-i", "block", "-i", "high", "--journal"
+IN_REGIONS = "-w", "new", "-N", "-l", "layout", "-i", "low", "-i", "middle", "-i", "high", "--journal"
 # Each reply byte of a line that nobody drives.
 LEVELS = 0xFF, 0x00
 
@@ -59,11 +59,11 @@ STATUS = {
 
 
 def images(it):
-    """Returns the original and the target: they differ in a block, and in four sectors of which one needs no erase."""
+    """Returns the original, the target, and the sectors that differ: a block, and three more. One needs no erase."""
     chance = random.Random(it.name)
     old = bytearray(chance.randbytes(it.size))
     last = it.size // SECTOR - 1
-    changed = (0, *range(16, 32), 40, 41, last)
+    changed = (*range(16), 40, 41, last)
     for number in changed:
         fresh = bytearray(b"\xff" * SECTOR)
         fresh[250:262], fresh[2000:2003] = chance.randbytes(12), chance.randbytes(3)
@@ -93,7 +93,7 @@ class Play:
 
     def regions(self):
         """Returns the regions that contain each changed sector."""
-        return (("low", 0, SECTOR), ("block", BLOCK, 42 * SECTOR), ("high", self.it.size - SECTOR, self.it.size))
+        return (("low", 0, BLOCK), ("middle", 40 * SECTOR, 42 * SECTOR), ("high", self.it.size - SECTOR, self.it.size))
 
     def run(self, *words, **events):
         """Runs the program. Each transaction must be one that the chip knows, or a read that it ignores."""
@@ -152,17 +152,17 @@ def identifies(play):
     play.check_chip(play.old)
 
 
-def is_written(play):
+def is_written(play, journal="j"):
     """The whole chip: a backup, a write, the comparison, and a restore."""
     play.expect("--backup", "b", out=("Read ",))
     play.only_reads("--backup")
     play.check_journal("b", range(play.it.size // SECTOR))
-    play.expect("-w", "new", "--journal", "j", out=("Done: ",))
+    play.expect("-w", "new", "--journal", journal, out=("Done: ",))
     play.check_chip(play.new)
-    play.check_journal("j", play.changed)
+    play.check_journal(journal, play.changed)
     play.expect("-v", "new", out=("Verified.",))
     play.only_reads("-v")
-    play.expect("--restore", "j", out=("Done: ",))
+    play.expect("--restore", journal, out=("Done: ",))
     play.check_chip(play.old)
 
 
@@ -255,7 +255,7 @@ def protects(start, it):
 
 
 def has_own_locks(start, it):
-    """left as it was while each block is locked, and restored when another tool has unlocked them"""
+    """left as it was while its blocks are locked; once another tool has unlocked them, it is restored and written"""
     play = Play(start, it)
     play.chip.status[2] |= OWN_LOCKS
     got = play.bench.run("-w", "new", "--journal", "j")
@@ -266,6 +266,7 @@ def has_own_locks(start, it):
     play.check_chip(play.old)
     play.expect("--restore", "j", out=("Done: ",))
     play.check_chip(play.old)
+    is_written(play, "k")
 
 
 def refuses(start, it):
