@@ -98,7 +98,7 @@ NAMES = {
     "unique_of": "`unique_of config`: the chip's unique ID.",
     "SavedSector": "`SavedSector`: the `number` of a saved sector, and its `bytes`.",
     "IsContent":
-        "`IsContent c`: ID, unique ID and status have 3, 8 and 2 bytes; `is_chip_size` holds for the size. The "
+        "`IsContent c`: the ID has 3 bytes, the unique ID 8 and the status 2; `is_chip_size` holds for the size. The "
         "numbers of the saved sectors ascend and are below size / 4,096; each sector has 4,096 bytes.",
     "text":
         "`text c`: the bytes of the journal (flashnor-journal(5)).",
@@ -122,8 +122,8 @@ NAMES = {
     "target": "`target what image a`: the byte of the image at `a` for a write, FFh for an erase.",
     "code_of": "`code_of kept`: CMP (the highest bit), SEC, TB, BP2, BP1 and BP0 as a number.",
     "IsLeastCode":
-        "`IsLeastCode size start len code`: `code` is the least number below 64 whose protection bits are defined (not "
-        "SEC with BP 110) and protect exactly the `len` addresses from `start` on.",
+        "`IsLeastCode size start len code`: `code` is the least number below 64 whose protection bits are defined (SEC "
+        "is clear, or BP isn't 6) and protect exactly the `len` addresses from `start` on.",
     "Report":
         "`Report`: the chip found, and the counts of the call, which are right (`reported`). A session with nothing to "
         "change sent no modifying command (`unsent` of `IsDone`).",
