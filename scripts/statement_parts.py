@@ -53,9 +53,9 @@ NAMES = {
     "IsChip": "`IsChip chip`: bytes are below 256, status bits fit their registers, and `busy` is below 65,536.",
     "Command": "`Command`: what a transaction asks for.",
     "command_of":
-        "`command_of config out replies`: the command for this opcode and these lengths. Its address is that sent, "
-        "modulo the size, or for an erase the start of the block. The command is `Ignored` if SPECIFICATION.md's table "
-        "lacks it, or if the chip lacks the erase type.",
+        "`command_of config out replies`: the command for this opcode and these lengths. The command's address is "
+        "the address sent, modulo the size, or for an erase the start of the block. The command is `Ignored` if "
+        "SPECIFICATION.md's table lacks it, or if the chip lacks the erase type.",
     "last_for":
         "`last_for at sent a`: the last byte of the data `sent` that goes to the address `a`, if any. The first byte "
         "of the data goes to `at`; the addresses wrap within the page.",
@@ -93,12 +93,12 @@ NAMES = {
         "are those of the row. If the ID has no row, the chip has no block protection and, if its SFDP is accepted, "
         "the size and erase types in the SFDP.",
     "IsKnown":
-        "`IsKnown config`: the chip is genuine, its ID isn't FF FF FF or 00 00 00, and the table has a row for the ID "
+        "`IsKnown config`: the chip is genuine, and its ID isn't FF FF FF or 00 00 00. The table has a row for the ID, "
         "or the chip's SFDP is accepted.",
     "unique_of": "`unique_of config`: the chip's unique ID.",
     "SavedSector": "`SavedSector`: the `number` of a saved sector, and its `bytes`.",
     "IsContent":
-        "`IsContent c`: ID, unique ID and status have 3, 8 and 2 bytes; `is_chip_size` holds for the size. The "
+        "`IsContent c`: the ID has 3 bytes, the unique ID 8 and the status 2; `is_chip_size` holds for the size. The "
         "numbers of the saved sectors ascend and are below size / 4,096; each sector has 4,096 bytes.",
     "text":
         "`text c`: the bytes of the journal (flashnor-journal(5)).",
@@ -114,16 +114,16 @@ NAMES = {
         "`What`: `Write`, `Erase`, or `WpRange start len`, which protects exactly the `len` addresses from `start` on "
         "(none if `len` is 0).",
     "Request":
-        "`Request`: the change (`what`), the `included` spans (at most 64), the required name (`named`), and the flags "
-        "`verify` and `unlock`, which permits the part *unlock*.",
+        "`Request`: the change (`what`), the `included` spans (at most 64), the required name of the chip (`named`), "
+        "and the flags `verify` (requests *verify*) and `unlock` (permits *unlock*).",
     "is_requested":
         "`is_requested request size a`: the request is a write or an erase, and `a` is below `size` and in one of the "
         "included spans, if the request has any.",
     "target": "`target what image a`: the byte of the image at `a` for a write, FFh for an erase.",
     "code_of": "`code_of kept`: CMP (the highest bit), SEC, TB, BP2, BP1 and BP0 as a number.",
     "IsLeastCode":
-        "`IsLeastCode size start len code`: `code` is the least number below 64 whose protection bits are defined (not "
-        "SEC with BP 110) and protect exactly the `len` addresses from `start` on.",
+        "`IsLeastCode size start len code`: `code` is the least number below 64 whose protection bits are defined (SEC "
+        "is clear, or BP isn't 6) and protect exactly the `len` addresses from `start` on.",
     "Report":
         "`Report`: the chip found, and the counts of the call, which are right (`reported`). A session with nothing to "
         "change sent no modifying command (`unsent` of `IsDone`).",
