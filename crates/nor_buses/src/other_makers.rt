@@ -1,5 +1,5 @@
 //! A bus that shows a chip without a unique ID, or with erases that depend on the address, as the engine expects it.
-ghost use Rattle.std.specs.Prelude.{◌≡◌, ◌<◌, [], true, false, length, OnOk, OnErr};
+ghost use Rattle.std.specs.Prelude.{◌≡◌, ◌<◌, ◌∷◌, [], true, false, length, OnOk, OnErr};
 ghost use Rattle.std.proofs.lemmas.Bool.{false≢true};
 ghost use Rattle.nor_model.specs.Bus.{Transfers};
 ghost use Rattle.nor_model.specs.History.{begins_with, stopped};
@@ -40,18 +40,18 @@ pub struct OtherMakers<B> {
 }
 
 impl<B: Bus + Drop> OtherMakers<B> {
-    /// Returns a bus over `bus`. `missing` is each byte of a unique ID that the chip doesn't have. `refuses_uneven`
+    /// Returns a bus over `bus`. `missing` is each byte of a unique ID that the chip doesn't have. `refuses`
     /// says whether a chip must erase sectors of 4 KiB everywhere.
-    pub fn new(bus: B, missing: u8, refuses_uneven: bool) -> OtherMakers<B>
+    pub fn new(bus: B, missing: u8, refuses: bool) -> OtherMakers<B>
         ensures bus { adapted_by result ≡ bus }
         ensures missing { missing_as result ≡ missing }
-        ensures uneven { refuses_uneven result ≡ refuses_uneven }
+        ensures uneven { refuses_uneven result ≡ refuses }
         ensures history { history_of result ≡ [] }
     {
         OtherMakers {
             bus,
             missing,
-            refuses_uneven,
+            refuses_uneven: refuses,
             history: History::new(),
         }
     }
