@@ -137,7 +137,7 @@ def lose(start, work):
     # With a STRIDE of 9 the numbers 6, 15 and so on detect all mistakes of self.py.
     for at in (it for it in range(2, len(log) + 1) if it % STRIDE == 6 % STRIDE):
         is_first = at <= IDENTIFICATION
-        # A poll that receives FFh shows BUSY: a run waits 400 s for a chip that is lost there, and ends with error 13.
+        # A poll that receives FFh shows BUSY. contacts.py has these losses, each of which takes 1.5 s of pauses.
         is_poll = next(out for out, reply in log[at - 1 :] if reply) == b"\x05"
         for byte in (0xFF, 0x00) if is_first else ((0xFF, 0x00)[at % 2],):
             for length in LENGTHS if is_first else (LENGTHS[at // 2 % len(LENGTHS)],):
