@@ -1,4 +1,4 @@
-//! How a chip is named in a line: by its name and its ID.
+//! How a chip is named in a printed line: by its name and its ID.
 
 use nor_probe::{ChipName, part_for};
 use std::fmt;

@@ -24,8 +24,8 @@ use std::alloc::Global;
 ///
 /// Without `-N`, the other sectors are read before the restore, and after it if it succeeded or returned error 14. They
 /// must be the same. An error of the restore itself is in the `Outcome`. Other faults are error 15 if the bytes are no
-/// journal, the errors of the identification and, without `-N`, errors 16 (a chip of another type), 18 (out of memory),
-/// 12 (the bus stopped) and 14.
+/// journal and, without `-N`, those of the identification, 16 (a chip of another type), 18 (out of memory), 12 (the bus
+/// stopped) and 14.
 pub fn restore_chip<'a, B: Progress>(
     bus: &mut B,
     terminal: Terminal<'_>,

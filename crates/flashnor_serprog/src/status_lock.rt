@@ -20,7 +20,7 @@ pub struct LockChange {
     pub found: Found,
     /// Status 1 and status 2 before the change.
     pub before: [u8; 2],
-    /// Status 1 and status 2 after the change, or `None` if SRP0 had the value already, and nothing was sent.
+    /// Status 1 and status 2 after the status write, or `None` if none was sent: SRP0 had the value already.
     pub after: Option<[u8; 2]>,
 }
 

@@ -69,7 +69,7 @@ struct Left {
     ended: bool,
 }
 
-// Asserts that a session that doesn't end returns error 12 (stopped).
+// Runs a session, and asserts that its error, if any, is 12 (stopped).
 fn stop_session(
     rt: &impl Abort,
     alloc: Global,
@@ -90,7 +90,7 @@ fn stop_session(
     }
 }
 
-// Asserts that a restore that doesn't end returns error 12 (stopped).
+// Runs a restore, and asserts that its error, if any, is 12 (stopped).
 fn stop_restore(
     rt: &impl Abort,
     alloc: Global,

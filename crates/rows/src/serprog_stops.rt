@@ -64,8 +64,8 @@ fn handshake(rt: &impl Abort, alloc: Global) -> u64 {
     AMPLE.saturating_sub(bus.port().left())
 }
 
-// The number of bytes that the corresponding stop of the simulated bus sends: `cut` in a frame, or all for a lost
-// reply.
+// The number of bytes that a simulated bus (`SimBus`) sends at its stop to match this port: `cut` if the frame fails,
+// all if the reply is lost.
 fn torn(calls: u64, cut: u32) -> u32 {
     if calls % CALLS == 0 { cut } else { u32::MAX }
 }

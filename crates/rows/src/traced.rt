@@ -1,4 +1,4 @@
-//! When `TraceBus` reports a line of its trace as lost, because the log refuses writes or flushes. The transaction
+//! If the log refuses a write or a flush, `TraceBus` reports the line of its trace as lost, but the transaction
 //! succeeds.
 use crate::held::{assert_held, assert_that};
 use crate::row::{Start, erased};
