@@ -1,4 +1,4 @@
-"""Cases of the chips of ten makers, which chips/ describes: each is written and restored exactly, or refused.
+"""Cases of the chips of twelve makers, which chips/ describes: each is written and restored exactly, or refused.
 
 A chip that is written must have each byte of the target, and then of the original, and all its status bits, also after
 kills and losses of power. A chip that is refused receives only reads, and no journal is created. The lines to the
