@@ -134,7 +134,7 @@ NAMES = {
         "it applies to the request and the chip.",
     "CountsRefusal": "`CountsRefusal old new`: the vault refused a call between these states.",
     "SessionAlways":
-        "`SessionAlways ..`, among others: on every bus, an error from 1 to 11 leaves the vault unsealed (`answers`: "
+        "`SessionAlways ..` includes: on every bus, an error from 1 to 11 leaves the vault unsealed (`answers`: "
         "`unsealed`), and after success the vault is sealed and refused no call (`ends`). By `undo`, the request of a "
         "session that succeeds on a modelled bus was accepted.",
     "RanOut":
