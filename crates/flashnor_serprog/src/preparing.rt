@@ -147,10 +147,10 @@ fn id_before(journal: &Journal<'_>) -> Option<[u8; 3]> {
 
 // Returns each byte of the unique ID of a chip that has none, as a journal with this unique ID shows it.
 fn missing_in(unique: Option<[u8; 8]>) -> u8 {
-    match unique {
-        Some([0xFF, 0xFF, 0xFF, 0xFF, 0xFF, 0xFF, 0xFF, 0xFF]) => 0xFF,
-        _ => 0,
-    }
+    let Some(bytes) = unique else {
+        return 0;
+    };
+    if bytes == [0xFF; 8] { 0xFF } else { 0 }
 }
 
 // Bit 6 of status 1, which is QE on some chips.
