@@ -69,7 +69,7 @@ pub reported_looked : (name failed found : Option (Bor Text)) (old mid new : Vie
     → Looks name failed found new → IsReportedOf name found old
 reported_looked name failed found old mid new same same2 is looks =
     reported_before name found old new same2 (looks.fails
-    (reported_before name failed new mid (sym same2 ∙ same) (reported name failed mid is)))
+    (reported_before name failed new mid (same ∙ sym same2) (reported name failed mid is)))
 
 -- ---- both files of the chip
 
@@ -90,6 +90,7 @@ module _ {programmer : Programmer} {image_there status_there : Bool} {had bits :
   -- the same with the names that the last looks return
   pub both_looked : {image' status' : Option (Bor Text)} → Looks programmer.image image image' c.view
       → Looks programmer.status status status' c.view → AreWrittenBack programmer chip image' status' c
+  unfolding both_put
   both_looked looks looks2 = record {
     bytes = bytes;
     are = are;
