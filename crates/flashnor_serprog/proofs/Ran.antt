@@ -1,15 +1,17 @@
 -- Lemmas on the run of the operation that the arguments ask for.
-use Rattle.std.proofs.Common.{◌≡◌, ℕ, IfSome, List, None, Option, Some, is_some, true}
+use Rattle.std.proofs.Common.{◌≡◌, ◌≤◌, ℕ, Bool, IfSome, List, None, Option, Some, is_some, true}
 use Rattle.std.specs.Prelude.{IsSomeAnd}
 use Rattle.std.proofs.lemmas.Bool.{false≢true}
 use Rattle.std.specs.Borrow.{Bor}
 use Rattle.nor_model.specs.Bus.{BusState}
-use Rattle.nor_files.specs.Files.{FilesState}
+use Rattle.nor_files.specs.Files.{FilesState, View}
+use Rattle.nor_layout.specs.declared.ranges.Span.{Span}
 use Rattle.nor_args.specs.Text.{Text}
 use Rattle.nor_args.specs.declared.job.Operation.{Operation}
 use Rattle.flashnor_serprog.specs.Connected.{device_of}
-use Rattle.flashnor_serprog.specs.Run.{HasRunJob, HasRunOperation, IsAskedFor}
+use Rattle.flashnor_serprog.specs.Run.{HasRunBy, HasRunJob, HasRunOperation, IsAskedFor}
 use Rattle.flashnor_serprog.specs.declared.connect.Connected.{Connected}
+use Rattle.flashnor_serprog.specs.declared.region_files.RegionFile.{RegionFile}
 
 module _ (state : Connected → BusState) (files after : FilesState) (words : List Text) (name : Bor Text)
     (operation : Operation) (asked : IsAskedFor words name operation) (out out' : Option (List ℕ)) (status : ℕ) where
@@ -25,3 +27,13 @@ pub is_used : (P : Connected → Type 0) (used : Option Connected) → is_some u
     → IsSomeAnd used P
 is_used P None none holds = absurd (false≢true none)
 is_used P (Some connected) some holds = holds
+
+pub unused : (P : Connected → Type 0) (used : Option Connected) → used ≡ None → IfSome used P
+unused P used none = rw none tt
+
+pub few_after : {operation : Operation} {files : List RegionFile} {ranges : Option (List Span)} {bytes : List ℕ}
+    {before : View} {after : FilesState} {old new : BusState} {out out' : Option (List ℕ)} {status : ℕ}
+    (srp0 : Option Bool) → HasRunBy srp0 operation files ranges bytes before after old new out out' status
+    → status ≤ 1
+few_after None run = run.few
+few_after (Some srp0) run = run.0.few

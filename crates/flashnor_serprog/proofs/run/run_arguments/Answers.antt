@@ -1,5 +1,5 @@
 use Rattle.std.proofs.Common.{inr}
-use Rattle.flashnor_serprog.proofs.Ran.{is_used, job_ran}
+use Rattle.flashnor_serprog.proofs.Ran.{is_used, job_ran, unused}
 use Rattle.flashnor_serprog.proofs.run.run_arguments.Goals as goal
 
 pub returns-in-Ok-clause-ran : goal.returns-in-Ok-clause-ran
@@ -8,3 +8,18 @@ returns-in-Ok-clause-ran g c = job_ran _ _ _ _ _ _ (rw c.in-Ok-Chip.field-0-is a
 pub returns-in-Ok-clause-done : goal.returns-in-Ok-clause-done
 returns-in-Ok-clause-done g c = λ zero. inr (inr (is_used _ _ (c.run_on_chip.ensures.used zero)
     (rw zero at (returns-in-Ok-clause-ran g c))))
+
+pub returns-in-Ok-List-clause-ran : goal.returns-in-Ok-List-clause-ran
+returns-in-Ok-List-clause-ran g c = unused _ c.args.used.now c.requires
+
+pub returns-in-Ok-Description-default-None-clause-ran : goal.returns-in-Ok-Description-default-None-clause-ran
+returns-in-Ok-Description-default-None-clause-ran g c = unused _ c.args.used.now c.requires
+
+pub returns-in-Ok-Description-default-Some-clause-ran : goal.returns-in-Ok-Description-default-Some-clause-ran
+returns-in-Ok-Description-default-Some-clause-ran g c = unused _ c.args.used.now c.requires
+
+pub returns-in-Ok-Chip-clause-ran : goal.returns-in-Ok-Chip-clause-ran
+returns-in-Ok-Chip-clause-ran g c = unused _ c.args.used.now c.requires
+
+pub returns-clause-ran : goal.returns-clause-ran
+returns-clause-ran g c = unused _ c.args.used.now c.requires

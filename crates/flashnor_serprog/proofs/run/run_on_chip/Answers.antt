@@ -1,5 +1,6 @@
 use Rattle.std.proofs.Common.{refl}
 use Rattle.flashnor_serprog.proofs.LogMade.{log_seen}
+use Rattle.flashnor_serprog.proofs.Ran.{few_after, unused}
 use Rattle.flashnor_serprog.proofs.run.run_on_chip.Goals as goal
 
 pub returns-in-Ok-clause-ran : goal.returns-in-Ok-clause-ran
@@ -18,3 +19,12 @@ returns-in-Ok-clause-ran g c = record {
       (g.R.Store.state c.prepare.new.files) c.prepare.ensures.logged;
   ran = rw c.deref.ensures.value at c.run_prepared-status.ensures;
 }
+
+pub returns-then-not-is_new-clause-ran : goal.returns-then-not-is_new-clause-ran
+returns-then-not-is_new-clause-ran g c = unused _ c.args.used.now c.requires.used
+
+pub returns-in-Err-clause-ran : goal.returns-in-Err-clause-ran
+returns-in-Err-clause-ran g c = unused _ c.args.used.now c.requires.used
+
+pub returns-in-Ok-clause-few : goal.returns-in-Ok-clause-few
+returns-in-Ok-clause-few g c = few_after c.args.operation.now.srp0 c.run_prepared-status.ensures

@@ -1,3 +1,4 @@
+use Rattle.flashnor_serprog.proofs.Ran.{unused}
 use Rattle.flashnor_serprog.proofs.run.run_words.Goals as goal
 
 pub returns-in-Ok-arguments_after_name-clause-done : goal.returns-in-Ok-arguments_after_name-clause-done
@@ -7,3 +8,9 @@ returns-in-Ok-arguments_after_name-clause-done g c = rw c.in-Ok.is
 pub returns-in-Ok-arguments_after_name-clause-ran : goal.returns-in-Ok-arguments_after_name-clause-ran
 returns-in-Ok-arguments_after_name-clause-ran g c = rw c.in-Ok.is
     (rw (c.as_slice.ensures.value, c.in-Ok-arguments_after_name.ensures) at c.run_arguments.ensures.ran)
+
+pub returns-in-Err-arguments_after_name-clause-ran : goal.returns-in-Err-arguments_after_name-clause-ran
+returns-in-Err-arguments_after_name-clause-ran g c = rw c.in-Ok.is (unused _ c.args.used.now c.requires)
+
+pub returns-in-Err-clause-ran : goal.returns-in-Err-clause-ran
+returns-in-Err-clause-ran g c = rw c.in-Err.is tt
