@@ -18,5 +18,5 @@ returns-clause-fails g c =
     let same = second.nature ∙ first.nature in (
       reported_looked _ _ _ _ (g.R.Store.state c.args.rt.now).view _ refl same first.fails c.last_look-image.ensures,
       reported_looked _ _ _ _ (g.R.Store.state c.write_if_named-image.new.rt).view _ first.nature same second.fails
-      c.last_look-status.ensures,
+          c.last_look-status.ensures,
     )
