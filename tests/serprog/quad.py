@@ -83,19 +83,6 @@ def needs_even_sectors(start):
         bench.check_chip(old)
 
 
-def uses_no_shared_erase(start):
-    """Erases whose size depends on the address, since several types share their opcode (SST26VF064B), aren't used."""
-    bench, old, _ = connect(start, None)
-    changed = bytearray(table(bench.chip.size, None))
-    changed[44:52] = bytes.fromhex("0c20 0dd8 0fd8 10d8")
-    bench.chip.table = bytes(changed)
-    for words in (("-E", "--journal", "j"), ("--restore", "j")):
-        check(f"exit status of {words}", bench.run(*words).status, 0)
-        erases = {out[0] for out, _ in bench.server.log if out[0] in (0x20, 0x52, 0xD8)}
-        check(f"the erases of {words}", erases, {0x20})
-    bench.check_chip(old)
-
-
 def takes_no_floating_id(start):
     """A unique ID of FFh or 00h in all bytes is none: the journal has zeros, and restores with either level."""
     old, new = chip_images(FEW)
@@ -122,5 +109,4 @@ def restores_a_floating_id(start):
     check("the part", PARTS["TINY64"].has_row, False)
 
 
-CASES = [keeps_quad, restores_saved_quad, refuses_other_bits, needs_even_sectors, uses_no_shared_erase,
-         takes_no_floating_id, restores_a_floating_id]
+CASES = [keeps_quad, restores_saved_quad, refuses_other_bits, needs_even_sectors, takes_no_floating_id, restores_a_floating_id]
