@@ -109,4 +109,5 @@ def restores_a_floating_id(start):
     check("the part", PARTS["TINY64"].has_row, False)
 
 
-CASES = [keeps_quad, restores_saved_quad, refuses_other_bits, needs_even_sectors, takes_no_floating_id, restores_a_floating_id]
+CASES = [keeps_quad, restores_saved_quad, refuses_other_bits, needs_even_sectors, takes_no_floating_id,
+         restores_a_floating_id]
