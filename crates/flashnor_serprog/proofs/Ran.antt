@@ -31,9 +31,9 @@ is_used P (Some connected) some holds = holds
 pub unused : (P : Connected → Type 0) (used : Option Connected) → used ≡ None → IfSome used P
 unused P used none = rw none tt
 
-pub few_after : {operation : Operation} {files : List RegionFile} {ranges : Option (List Span)} {bytes : List ℕ}
-    {before : View} {after : FilesState} {old new : BusState} {out out' : Option (List ℕ)} {status : ℕ}
+pub few_after : (operation : Operation) (files : List RegionFile) (ranges : Option (List Span)) (bytes : List ℕ)
+    (before : View) (after : FilesState) (old new : BusState) (out out' : Option (List ℕ)) (status : ℕ)
     (srp0 : Option Bool) → HasRunBy srp0 operation files ranges bytes before after old new out out' status
     → status ≤ 1
-few_after None run = run.few
-few_after (Some srp0) run = run.0.few
+few_after operation files ranges bytes before after old new out out' status None run = run.few
+few_after operation files ranges bytes before after old new out out' status (Some srp0) run = run.0.few

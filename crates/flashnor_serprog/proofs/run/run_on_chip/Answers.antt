@@ -27,4 +27,4 @@ pub returns-in-Err-clause-ran : goal.returns-in-Err-clause-ran
 returns-in-Err-clause-ran g c = unused _ c.args.used.now c.requires.used
 
 pub returns-in-Ok-clause-few : goal.returns-in-Ok-clause-few
-returns-in-Ok-clause-few g c = few_after c.args.operation.now.srp0 c.run_prepared-status.ensures
+returns-in-Ok-clause-few g c = few_after _ _ _ _ _ _ _ _ _ _ _ c.args.operation.now.srp0 c.run_prepared-status.ensures
