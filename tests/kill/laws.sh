@@ -26,6 +26,13 @@ is_ahead() {
     return 1
 }
 
+# Succeeds if this is the last look at one of the chip's files, after both were written: it doesn't follow a sync.
+is_last_look() {
+    local name=${made[$1 - 1]#* }
+    is_late "$1" && is_chips "$name" && [[ ${made[$1 - 2]:-} != fsync* ]] \
+        && [[ "${made[$1 - 1]},${made[$1]:-}" == "statx $name,fstat $name" ]]
+}
+
 # Prints the ways in which the call of this number is interrupted.
 # A call that reads leaves nothing, so it only fails or reads less; for a chip of 8 MiB only reads of the layout do.
 # Calls that look at a file are interrupted only in some runs, which are `deep`. A file that has grown since it was read
@@ -110,11 +117,11 @@ lines_of() {
     [[ $3 != short ]] || lines_without_room "$1"
 }
 
-# Prints the line for a look at this name that failed. After a sync, the name must still refer to the file; that of the
-# journal must do so when the chip is written, too. A file that is to be written must be regular, or neither be there nor
-# be a link. Other names are compared before the run works.
+# Prints the line for a look at this name that failed. After a sync, and after both files of the chip were written, the
+# name must still refer to the file; that of the journal must do so when the chip is written, too. A file that is to be
+# written must be regular, or neither be there nor be a link. Other names are compared before the run works.
 line_of_look() {
-    if is_late "$1" && [[ $2 == journal ]]; then
+    if is_late "$1" && [[ $2 == journal ]] || is_last_look "$1"; then
         echo "File fault 2: $2."
         return
     fi
@@ -133,7 +140,7 @@ line_of_look() {
 # - The journal's permissions are compared with those of two files.
 is_hint() {
     [[ $2 != *' /proc/self/fd/'[12] ]] || return 0
-    ! { is_late "$1" && [[ $2 == *' journal' ]] || is_ahead "$1"; } || return 1
+    ! { is_late "$1" && [[ $2 == *' journal' ]] || is_last_look "$1" || is_ahead "$1"; } || return 1
     case ${made[$1 - 2]:-},$2,${made[$1]:-} in
         open*,fstat*,* | lseek*,fstat*,* | flock*,statx*,* | *,statx*,'make '* | *,statx*,'open '[!.]*) ;;
         'statx journal','statx journal',*) ;;
