@@ -23,8 +23,8 @@ pub fn end_badly<E: Write>(errors: &mut E, fault: &Fault<'_>) -> u8
     1
 }
 
-/// Returns exit status 0 if printing to standard output succeeded. Otherwise prints file fault 2, and the system's reason
-/// if it has one of its own, and returns 1.
+/// Returns exit status 0 if printing to standard output succeeded. Otherwise prints file fault 2, with the system's
+/// reason if there is one of its own, and returns 1.
 pub fn status_of<E: Write>(printed: io::Result<()>, errors: &mut E) -> u8
     ensures few { result ≤ 1 }
     ensures printed { result ≡ 0 → IsOk printed }

@@ -27,7 +27,7 @@ abbrev pub takes_whole : (sends receives : ℕ) → Bool
 takes_whole sends receives = nat_le 260 sends && nat_le 4096 receives
 
 -- How many bytes more than 4,096 a read may have that isn't split. `receives` is the greatest number of bytes that a
--- transaction over the bus inside reads. If that bus is not `unlimited`, it takes reads of 4,096 bytes and `longer` more.
+-- transaction over the bus inside reads. If that bus isn't `unlimited`, it takes reads of up to 4,096 + `longer` bytes.
 abbrev pub reads_longer : (receives : ℕ) → (unlimited : Bool) → (longer : ℕ) → ℕ
 reads_longer receives unlimited longer = if unlimited then receives - 4096 else min longer (receives - 4096)
 

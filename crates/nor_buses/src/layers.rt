@@ -11,12 +11,13 @@ use crate::{CheckedStatus, Paced, ReadAhead, ReadTwice, SameChip, SplittingBus};
 use nor_model::Bus;
 use std::time::Clock;
 
-/// The layers of this crate around a bus to a programmer, in the order in which `flashnor-serprog` uses them.
+/// Six layers of this crate around a bus to a programmer, in the order of `flashnor-serprog`. The program has four more
+/// layers between them (`OtherMakers`, `KeptQuad`, `KnownStatus2`, `Watched`), of which this law says nothing.
 pub type Layered<B, C> = ReadAhead<SameChip<ReadTwice<CheckedStatus<SplittingBus<Paced<B, C>>>>>>;
 
 /// States that the layers are together a well-behaved bus if the bus to the programmer is, whatever the layers were
-/// told (`guarding`, `locking`, `expecting`). The programmer must take a page program, the read of a sector and the read
-/// of the longest block. The chip is that of the bus to the programmer.
+/// told (`guarding`, `locking`, `expecting`). The programmer must take a page program, the read of a sector and that of
+/// the longest block. The chip is that of the bus to the programmer.
 pub fn layers_are_well_behaved<B: Bus + Drop, C: Clock + Drop>(bus: &Layered<B, C>)
     ensures honest { (B.state (paced_of (split_of (bus_of (twice_of (checked_by (ahead_of bus.now))))))).honest ≡ true
         → takes_whole (sends_most (bus_of (twice_of (checked_by (ahead_of bus.now)))))

@@ -162,10 +162,9 @@ pub trait Store: AllocGlobal {
         ensures unseen { IfErr result (λ unseen. (unseen.now ≡ name.now)
             × ((state self.now).view.nature.fails (Unread name.now) ≡ true)) };
 
-    /// Returns the system's error of looking up this name, or of looking up its directory if the file is missing. Looks
-    /// both up again, to say why `is_one_file`, `is_stream` or `unseen_stream` failed. Returns `None` if the file is found
-    /// by now, or if only the file or its directory is missing. Contracts claim nothing about it. A store without files
-    /// of the system returns `None`.
+    /// Returns why `is_one_file`, `is_stream` or `unseen_stream` failed: the system's error when this name is looked up
+    /// again or, if the file is missing, when its directory is. Returns `None` if the file is found by now, if only the
+    /// file or its directory is missing, or if the store has no files of the system. Contracts claim nothing about it.
     fn look_up_error(&self, name: &str) -> Option<io::Error>;
 
     /// Returns a name of standard output or standard error, if this stream can't be looked up. No file can then be
