@@ -148,8 +148,8 @@ dist: $(BUILT) $(BUILT_HARDWARE) ## packs an archive with both programs, their p
 	  gzip -n > $(DIST).tar.gz
 	@echo $(DIST).tar.gz
 
-runs: $(BUILT) ## runs the program on each case of tests/cases and on the examples of the pages
-	@tests/run.py '$(PROGRAM)'
+runs: $(BUILT) ## runs the program on each case of tests/flashnor/cases and on the examples of the pages
+	@tests/flashnor/run.py '$(PROGRAM)'
 
 serprog: $(BUILT_HARDWARE) ## runs flashnor-serprog on the cases of tests/serprog
 	@tests/serprog/run.py '$(HARDWARE)'

@@ -4,7 +4,7 @@
 #
 # Each part prints what it compared, and a line `DIFFERS: ..` for each difference; then the status is 1. A text that is
 # found nowhere is a difference too. The help and the list of chips are taken from the program. Without a program they
-# are taken from tests/cases, which `make runs` compares with the program.
+# are taken from tests/flashnor/cases, which `make runs` compares with the program.
 set -uo pipefail
 export LC_ALL=C PYTHONUTF8=1 PYTHONPATH=scripts PYTHONDONTWRITEBYTECODE=1
 program=${1:+$(realpath "$1")}

@@ -186,7 +186,7 @@ step "the pages agree" bash scripts/agree.sh
 echo "1 passed, 0 failed" > "$work/one_passed"
 printf '%s\n' "${tried[@]}" | xargs -P "${RT_JOBS:-$(nproc)}" -I{} bash -c "try_crate {} '$work' || true"
 while IFS= read -r crate; do count_try "$crate"; done < <(printf '%s\n' "${tried[@]}" | sort)
-on_built "the built program" "$program" tests/run.py "$program"
+on_built "the built program" "$program" tests/flashnor/run.py "$program"
 on_built "the built transcripts" crates/transcripts/out/transcripts play_transcripts
 echo "quick: $passed passed, $failed failed"
 [[ $failed == 0 ]]

@@ -118,7 +118,7 @@ def running(parts):
 
 def printed():
     """Returns the cases with their printed lines, which `make runs` compares with the program."""
-    cases = "".join(path.read_text(encoding="utf-8") for path in sorted((TOP / "tests/cases").glob("*.case")))
+    cases = "".join(path.read_text(encoding="utf-8") for path in sorted((TOP / "tests/flashnor/cases").glob("*.case")))
     return re.sub(r"(?m)^! ", "", cases)
 
 

@@ -22,13 +22,14 @@ class Gate(unittest.TestCase):
             (top / ".ci").mkdir()
             shutil.copy(TOP / ".ci/run", top / ".ci/run")
             for name in ("scripts/lint.sh", "scripts/agree.sh", "scripts/proved.sh", "tests/agree/run.py",
-                         "tests/examples.py", "tests/make.py", "tests/clone.sh", "tests/run.py", "tests/sweep/run.sh",
-                         "tests/kill/run.sh", "tests/serprog/self.py", "tests/serprog/run.py", "tests/wire/self.py",
+                         "tests/build/examples.py", "tests/build/make.py", "tests/build/clone.sh",
+                         "tests/flashnor/run.py", "tests/sweep/run.sh", "tests/kill/run.sh",
+                         "tests/serprog/self.py", "tests/serprog/run.py", "tests/wire/self.py",
                          "tests/wire/run.py"):
                 self.put(top / name, "#!/bin/sh\n" + parts.get(name, PASSED))
             # (the gate removes storm's program, and this part builds it)
             self.put(top / "scripts/proved.sh", "#!/bin/sh\nmkdir -p crates/storm/out && "
-                                                f"cp tests/make.py crates/storm/out/storm\n{PASSED}")
+                                                f"cp tests/build/make.py crates/storm/out/storm\n{PASSED}")
             values = {name: value for name, value in os.environ.items() if name != "CI"}
             said = subprocess.run(["bash", top / ".ci/run"], env=values | environment, stdout=subprocess.PIPE,
                                   stderr=subprocess.STDOUT, check=False)
@@ -45,7 +46,7 @@ class Gate(unittest.TestCase):
             self.assertEqual((status, lines[-2:]), (0, ["280001 passed, 0 failed, 0 skipped", "280001 passed, 0 failed"]))
 
     def test_skipped_is_counted_and_fails_with_ci(self):
-        parts = {"tests/kill/run.sh": SKIPPED, "tests/run.py": LEFT_OUT}
+        parts = {"tests/kill/run.sh": SKIPPED, "tests/flashnor/run.py": LEFT_OUT}
         for environment, failed in ({}, 0), ({"CI": "true"}, 2):
             status, lines = self.run_gate(parts, **environment)
             counts = f"260001 passed, {failed} failed"

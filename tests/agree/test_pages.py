@@ -1,20 +1,20 @@
-"""Checks that each change of a page that tests/self.py tests on the built program does change its page. This needs no
-program."""
+"""Checks that each change of a page that tests/flashnor/self.py tests on the built program does change its page. This
+needs no program."""
 import importlib
 import pathlib
 import re
 import sys
 import unittest
 
-TESTS = pathlib.Path(__file__).resolve().parents[1]
-sys.path.insert(0, str(TESTS))
+TOP = pathlib.Path(__file__).resolve().parents[2]
+sys.path.insert(0, str(TOP / "tests/flashnor"))
 trials = importlib.import_module("self")
 
 
 class Pages(unittest.TestCase):
     def test_each_change_changes_its_page(self):
         for what, page, old, new, _ in trials.PAGES:
-            text = (TESTS.parent / page).read_text(encoding="utf-8")
+            text = (TOP / page).read_text(encoding="utf-8")
             with self.subTest(what):
                 self.assertTrue(re.sub(old, new, text, flags=re.M) != text, f"{page} has nothing like {old}")
 

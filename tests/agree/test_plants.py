@@ -81,7 +81,7 @@ PLANTS = {
     "a page's definitions in another crate": (
         PATHS, "docs/ARCHITECTURE.md", r"`specs/Within` says", "`specs/Guard` says", "there is no specs/Guard"),
     "an option that the help hasn't": (
-        AGREE, "tests/cases/help.case", r"(?m)^\|       --unlock .*\n", "",
+        AGREE, "tests/flashnor/cases/help.case", r"(?m)^\|       --unlock .*\n", "",
         "options: manual has '--unlock', help hasn't"),
     "an option that the completion offers": (
         WORDS, "completion/flashnor.bash", r"--journal --rehearse -h", "--journal --rehearse --force -h",

@@ -15,8 +15,8 @@ from losses import sealed_after, session_wire
 from options import ALL, images
 from refusals import LARGE
 
-TESTS = Path(__file__).resolve().parents[1]
-sys.path.append(str(TESTS))
+TOP = Path(__file__).resolve().parents[2]
+sys.path.append(str(TOP / "tests/flashnor"))
 import pages  # noqa: E402
 
 PORT = "/dev/ttyACM0"
@@ -25,7 +25,7 @@ SETTING = f"serprog:dev={PORT},spispeed=1000000"
 
 def blocks():
     """Returns the blocks of the manual page, without its formatting."""
-    text = (TESTS.parent / "man/flashnor-serprog.8").read_text(encoding="utf-8")
+    text = (TOP / "man/flashnor-serprog.8").read_text(encoding="utf-8")
     return pages.examples_of(text)
 
 
@@ -80,7 +80,7 @@ def plays_the_examples(start):
     """Each command of the examples prints what the page shows, on the chip and the image that the page describes."""
     old = b"\0" + b"\xff" * (LARGE - 1)
     examples = [line for block in blocks() if block.startswith("$ ") for line in block.splitlines()]
-    session = pages.of_markdown((TESTS.parent / "docs/HARDWARE.md").read_text(encoding="utf-8"))
+    session = pages.of_markdown((TOP / "docs/HARDWARE.md").read_text(encoding="utf-8"))
     first = next(at for at, line in enumerate(session) if line.startswith("$ "))
     for lines, least in (examples, 5), (session[first:], 9):
         bench = start("W25Q64FV", data=old)

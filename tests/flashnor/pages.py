@@ -5,8 +5,8 @@ it. The lines after a step are what both streams print. chip.bin and new.bin are
 A file that a page shows by `cat` has the content that the page shows. A step after which the page shows a line that
 begins with `error: ` is run at a terminal, since only a terminal gets such lines.
 
-tests/pages.py TEXT: prints the snippet of flashnor(8), an example without `$`, that contains this text. It fails if
-another snippet contains it too.
+tests/flashnor/pages.py TEXT: prints the snippet of flashnor(8), an example without `$`, that contains this
+text. It fails if another snippet contains it too.
 """
 import re
 import sys
@@ -40,7 +40,7 @@ def of_manual(text):
 
 def snippet_with(part):
     """Returns the snippet of flashnor(8) that contains this text."""
-    page = Path(__file__).resolve().parent.parent / "man/flashnor.8"
+    page = Path(__file__).resolve().parents[2] / "man/flashnor.8"
     snippets = [it for it in examples_of(page.read_text(encoding="utf-8")) if not it.startswith("$ ")]
     found = {it for it in snippets if part in it}
     if len(found) != 1:

@@ -1,5 +1,5 @@
 #!/usr/bin/env python3
-"""tests/streams.py PROGRAM: runs the program from a parent process that does what no shell does for a case.
+"""tests/flashnor/streams.py PROGRAM: runs the program from a parent process that does what no shell does for a case.
 
 The parent closes standard input, output and error in each combination before it starts the program, once with the
 numbers above them free and once with these in use; it limits how many files the program may open; it gives the program

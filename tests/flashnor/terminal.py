@@ -1,6 +1,6 @@
 #!/usr/bin/env python3
-"""tests/terminal.py COMMAND..: runs a command with its standard error at a terminal, and prints to standard error what
-the terminal was sent. The status is that of the command."""
+"""tests/flashnor/terminal.py COMMAND..: runs a command with its standard error at a terminal, and prints to standard
+error what the terminal was sent. The status is that of the command."""
 import os
 import pty
 import subprocess

@@ -104,7 +104,7 @@ class Trial:
         self.case = case
         self.folder = folder
         self.begin = " ".join(f"{name}={shlex.quote(str(it))}" for name, it in words.items())
-        self.begin += "; . \"$top/tests/steps.sh\"\n"
+        self.begin += "; . \"$top/tests/flashnor/steps.sh\"\n"
         self.command = ""
 
     def content(self, file):

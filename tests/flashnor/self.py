@@ -1,5 +1,5 @@
 #!/usr/bin/env python3
-"""tests/self.py PROGRAM: checks that run.py fails when it must, and prints the reason.
+"""tests/flashnor/self.py PROGRAM: checks that run.py fails when it must, and prints the reason.
 
 It must fail for programs that do something else, for wrong or empty cases, for a directory without cases, and for pages
 on which a number was changed. It must also fail for PROGRAM with one thing made wrong in it (wrong.c), on the cases
@@ -16,7 +16,7 @@ from pathlib import Path
 import pages
 from run import SECOND_DISK, Machine
 
-TOP = Path(__file__).resolve().parent.parent
+TOP = Path(__file__).resolve().parents[2]
 FAULT = "echo 'Usage fault 2.' >&2; "
 RIGHT = FAULT + "exit 1"
 LOST = "{ echo 'File fault 2: standard output.' >&2; exit 1; }"
@@ -153,7 +153,7 @@ class Tally:
     def run(self, what, wanted, told, *words):
         """Runs run.py with the arguments `words`. Its status and last line must be `wanted`, and its output must
         contain each text of `told`."""
-        ran = subprocess.run([sys.executable, TOP / "tests/run.py", *words], stdout=subprocess.PIPE,
+        ran = subprocess.run([sys.executable, TOP / "tests/flashnor/run.py", *words], stdout=subprocess.PIPE,
                              stderr=subprocess.STDOUT, check=False)
         said = os.fsdecode(ran.stdout)
         status, last = wanted
@@ -193,7 +193,7 @@ def try_wrong(work, tally, program):
     if not shutil.which("cc"):
         print("left out: programs in which one thing is made wrong (there is no C compiler (cc))")
         return
-    words = ["cc", "-std=c11", "-O1", "-shared", "-fPIC", "-o", library, TOP / "tests/wrong.c", "-ldl"]
+    words = ["cc", "-std=c11", "-O1", "-shared", "-fPIC", "-o", library, TOP / "tests/flashnor/wrong.c", "-ldl"]
     subprocess.run(words, check=True)
     trials = dict.fromkeys((wrong, file) for wrong, file, _ in WRONG)
     if Machine(work, program).no_second_disk():
@@ -202,7 +202,7 @@ def try_wrong(work, tally, program):
     for wrong, file in trials:
         folder = work / f"{wrong}.{file}"
         folder.mkdir()
-        shutil.copy(TOP / "tests/cases" / file, folder)
+        shutil.copy(TOP / "tests/flashnor/cases" / file, folder)
         stub = work / f"program.{wrong}"
         stub.write_text(f"#!/usr/bin/env bash\nexport WRONG={wrong} LD_PRELOAD=\"{library}:$LD_PRELOAD\"\n"
                         f"exec '{program}' \"$@\"\n", encoding="utf-8")

@@ -6,7 +6,7 @@ import shutil
 import subprocess
 from pathlib import Path
 
-TOP = Path(__file__).resolve().parent.parent
+TOP = Path(__file__).resolve().parents[2]
 PROGRAM = Path("crates/flashnor/out/flashnor")
 SOURCE = Path("crates/nor_chip/src/lib.rt")
 HARDWARE = Path("crates/flashnor_serprog/out/flashnor_serprog")

@@ -1,5 +1,5 @@
 #!/usr/bin/env python3
-"""tests/examples.py: compiles and runs the example on each library's first page.
+"""tests/build/examples.py: compiles and runs the example on each library's first page.
 
 The first page of a library is the comment at the head of its src/lib.rt. Each example there becomes a test of one
 scratch crate, which `rt try --test` runs: the example must compile as it is, and its assertions must hold. It is not
@@ -14,7 +14,7 @@ import sys
 import tempfile
 from pathlib import Path
 
-TOP = Path(__file__).resolve().parent.parent
+TOP = Path(__file__).resolve().parents[2]
 NAME = "first_pages"
 # Each example returns its first error, of any type.
 TEST = """#![tactic(auto)]

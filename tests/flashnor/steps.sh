@@ -19,7 +19,7 @@ nobody() {
 terminal() {
     export top program library
     # shellcheck disable=SC2016  # the inner shell expands them
-    python3 "$top/tests/terminal.py" bash -c '. "$top/tests/steps.sh"; "$@"' bash "$@"
+    python3 "$top/tests/flashnor/terminal.py" bash -c '. "$top/tests/flashnor/steps.sh"; "$@"' bash "$@"
 }
 
 # `closed flashnor ..`: runs the program here, with its three standard streams open. Then it runs the program with each
@@ -118,7 +118,7 @@ count_writes() {
 }
 
 # `starts`: makes an image and a journal for each of its patterns of bytes, and prints the patterns (starts.py).
-starts() { python3 "$top/tests/starts.py"; }
+starts() { python3 "$top/tests/flashnor/starts.py"; }
 
 # `make ..`: runs a target of the repository's Makefile with the program that is tested, even if the sources are newer.
 # flashnor-serprog may not be built: its stand-in in tests/serprog takes its place.

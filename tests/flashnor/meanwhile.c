@@ -1,4 +1,4 @@
-/* Acts at one call that a program makes on a file. It is loaded before the program (LD_PRELOAD) by tests/steps.sh.
+/* Acts at one call that a program makes on a file. steps.sh loads it before the program (LD_PRELOAD).
 
    MOMENT names the call: its kind, the file's name as the program writes it, and a number N for the Nth such call
    instead of the first: `write chip.bin`, `fsync j 2`. The kinds are:

@@ -1,5 +1,6 @@
 #!/usr/bin/env python3
-"""tests/starts.py: makes an image of 64 KiB and a journal of a TINY64 for each pattern that their bytes may begin with.
+"""tests/flashnor/starts.py: makes an image of 64 KiB and a journal of a TINY64 for each pattern that their bytes may
+begin with.
 
 A pattern is a string of hexadecimal digits: each byte value eight times, and signatures of files, of parts of firmware,
 of chips and of commands. PATTERN.img begins with these bytes; the rest of its first sector is 00 and the rest of the

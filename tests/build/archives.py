@@ -1,4 +1,4 @@
-"""The tests of `make install` and `make dist`, which tests/make.py runs."""
+"""The tests of `make install` and `make dist`, which tests/build/make.py runs."""
 import os
 import re
 import shutil

@@ -1,5 +1,5 @@
-/* Makes a mutant of a right program. tests/self.py loads this library before the program (LD_PRELOAD), and checks that
-   the cases detect the mutant. WRONG names it:
+/* Makes a mutant of a right program. self.py loads this library before the program (LD_PRELOAD), and checks that the
+   cases detect the mutant. WRONG names it:
      first    all locks are released before the next lock is taken
      write    all locks are released before an image is written: only such a write has 60,000 bytes or more
      seal     all locks are released when a journal is synced

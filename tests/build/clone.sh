@@ -1,11 +1,11 @@
 #!/usr/bin/env bash
-# tests/clone.sh COMMAND..: runs a command in a new directory that has what a clone of this repository would have: the
-# tracked files as they are here, and nothing that was built.
+# tests/build/clone.sh COMMAND..: runs a command in a new directory that has what a clone of this repository would
+# have: the tracked files as they are here, and nothing that was built.
 #
 # The name of the directory has a space. The exit status is that of the command.
 set -euo pipefail
 
-cd "$(dirname "$0")/.."
+cd "$(dirname "$0")/../.."
 if ! git ls-files --error-unmatch crates.txt > /dev/null 2>&1; then
     echo "skipped: $* in a clone, since this is no git repository, which tells the files"
     exit 0

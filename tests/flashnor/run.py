@@ -1,9 +1,9 @@
 #!/usr/bin/env python3
-"""tests/run.py [PROGRAM [FOLDER]] or tests/run.py PROGRAM README MANUAL..: runs the built program on each case of a
-directory, each case in a directory of its own, or on the examples of these pages.
+"""tests/flashnor/run.py [PROGRAM [FOLDER]] or tests/flashnor/run.py PROGRAM README MANUAL..: runs the built program on
+each case of a directory, each case in a directory of its own, or on the examples of these pages.
 
-Without FOLDER it runs the cases of tests/cases, and the examples of README.md and the manual pages (pages.py). Then it
-also checks that wrong programs, wrong cases and an empty directory don't pass (self.py), that the pages show the
+Without FOLDER it runs the cases of cases/, and the examples of README.md and the manual pages (pages.py). Then it also
+checks that wrong programs, wrong cases and an empty directory don't pass (self.py), that the pages show the
 program's help and list of chips (scripts/agree.sh), and that the program works for a parent process that closes
 streams, sets limits and has terminals, as no shell does (streams.py). cases/README.md describes the form of a case.
 
@@ -24,7 +24,7 @@ import grammar
 import pages
 from trial import Differs, Trial, shown
 
-TOP = Path(__file__).resolve().parent.parent
+TOP = Path(__file__).resolve().parents[2]
 # The file system on which a case gets a directory other than its own.
 SECOND_DISK = "/dev/shm"
 
@@ -101,11 +101,11 @@ class Machine:
         built."""
         if not shutil.which("cc"):
             return "there is no C compiler (cc)"
-        words = ["cc", "-std=c11", "-O1", "-shared", "-fPIC", "-o", self.library, TOP / "tests/meanwhile.c"]
+        words = ["cc", "-std=c11", "-O1", "-shared", "-fPIC", "-o", self.library, TOP / "tests/flashnor/meanwhile.c"]
         built = subprocess.run(words, capture_output=True, check=False)
         if built.returncode == 0:
             return None
-        return "tests/meanwhile.c doesn't compile: " + os.fsdecode(built.stderr).partition("\n")[0]
+        return "tests/flashnor/meanwhile.c doesn't compile: " + os.fsdecode(built.stderr).partition("\n")[0]
 
     def no_second_disk(self):
         """Returns the reason why a case can't have files on two file systems, or None."""
@@ -182,10 +182,10 @@ def main(words):
         elif len(words) == 2:
             machine.do_all(cases_of(words[1]), tally)
         else:
-            cases = cases_of(TOP / "tests/cases")
+            cases = cases_of(TOP / "tests/flashnor/cases")
             machine.do_all(cases + pages.cases(*(TOP / it for it in pages.PAGES)), tally)
-            tally.add("streams.py", [sys.executable, TOP / "tests/streams.py", machine.program])
-            tally.add("self.py", [sys.executable, TOP / "tests/self.py", machine.program])
+            tally.add("streams.py", [sys.executable, TOP / "tests/flashnor/streams.py", machine.program])
+            tally.add("self.py", [sys.executable, TOP / "tests/flashnor/self.py", machine.program])
             agree(machine.program, tally)
     print(f"{tally.passed} passed, {tally.failed} failed")
     return int(tally.failed > 0 or tally.passed == 0)

@@ -1,5 +1,5 @@
 #!/usr/bin/env python3
-"""tests/make.py: checks the Makefile.
+"""tests/build/make.py: checks the Makefile.
 
 It must use no program that is older than its sources. An archive must have all pages to which its pages link, and name
 the toolchain and commit of each program; the same files must give the same archive. `make quick` must run each program
@@ -172,12 +172,12 @@ def proved(tree, expect):
 
 
 def cloned(tree, expect):
-    """tests/clone.sh runs a command where only tracked files are, as they are here."""
+    """tests/build/clone.sh runs a command where only tracked files are, as they are here."""
     tree.make("build")
     tree.put("a tree/untracked", "")
     tree.edit(text="// edited\n")
     (tree.top / "README.md").unlink()
-    status, said = tree.run("tests/clone.sh", "sh", "-c", f"ls; cat {SOURCE}; ls {PROGRAM}; git ls-files; exit 3")
+    status, said = tree.run("tests/build/clone.sh", "sh", "-c", f"ls; cat {SOURCE}; ls {PROGRAM}; git ls-files; exit 3")
     expect("the status in a clone", status, 3)
     found = [it in said.splitlines() for it in ("untracked", "README.md", "Makefile", "// edited")]
     expect("the files of a clone", found, [False, False, True, True])
