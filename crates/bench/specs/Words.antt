@@ -14,7 +14,7 @@ request_named word =
     else if bytes_eq word (codes "answers") then Answers
     else Unknown
 
--- the job that the arguments select: without one the usage, and several are an error
+-- the job that the arguments select: the usage without an argument, and `Unknown` for several arguments
 abbrev pub request_of : List (List ℕ) → Request
 request_of [] = Usage
 request_of (word ∷ []) = request_named word

@@ -42,7 +42,7 @@ pub fn answer<R: Print + AllocGlobal>(rt: &R) -> Result<(), Fault> {
     Ok(())
 }
 
-// Each has an allocation of its own, as in a real program.
+// Three sectors, each in an allocation of its own, as in a real program.
 #[derive(Drop)]
 struct Sectors {
     old: Box<[u8; SECTOR_LEN as usize]>,
@@ -58,7 +58,7 @@ impl Sectors {
         Ok(Sectors { old, target, copy })
     }
 
-    // The new last byte differs from that of the pass before.
+    // Changes the last byte to another value than in the pass before.
     fn touch(&mut self, pass: u32) {
         self.target[4095] = self.old[4095] ^ ((pass % 255) as u8 + 1);
     }

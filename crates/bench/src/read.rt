@@ -69,7 +69,7 @@ fn bytes(alloc: Global) -> Result<Vec<u8>, AllocError> {
     vec![in alloc; 0x5A; CHIP]
 }
 
-// More transactions are left on the bus than are needed.
+// Returns a bus with more transactions left than are needed.
 fn open_bus(alloc: Global) -> Result<SimBus, Fault> {
     let delays = Delays { now: 0, each: 0 };
     let mut bus = SimBus::new(Config::w25q128fv(), bytes(alloc)?, [0, 0], delays)?;

@@ -27,8 +27,6 @@ use Rattle.nor_console.specs.declared.answers.Answer.{Answer}
 use Rattle.flashnor.proofs.Stays.{StayApart, not_that}
 use Rattle.flashnor.proofs.Traced.{reads_before}
 
--- ---- the chip and the journal after the call
-
 pub kept_after : {file : Text} {vault : VaultState} {s2 s3 : FilesState} → KeepsFile file s2 s3 → IsKeptFile file vault s2
     → IsKeptFile file vault s3
 kept_after stays kept = grind arith
@@ -67,8 +65,6 @@ module _ (programmer : Programmer) (s2 s3 : FilesState) (nature : s3.view.nature
       change_after change amid named old new outcome one other does
   does_after (task.Restore journal) amid named old new outcome puts one other does = does
   does_after _ amid named old new outcome puts one other does = absurd cc
-
--- ---- the layout and the image, before the trace was created
 
 layout_before : (trace : Option (Bor Text)) (old amid : View) (file : Option (Bor Text)) (text : List ℕ)
     → AreTwo old.nature trace file → IsViewBut trace old amid → IsLayoutText amid None file text

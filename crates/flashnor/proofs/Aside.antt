@@ -14,8 +14,6 @@ use Rattle.nor_console.specs.Stored.{IsFileFound}
 use Rattle.flashnor.specs.Undone.{NameOne}
 use Rattle.flashnor.proofs.Stays.{known_at_rest}
 
--- ---- a run reads contents that a host crash may leave
-
 whole_seen : (len : ℕ) (seen found : Found) → found ≡ option_map (take (len + 1)) seen
     → IfSome found (λ all. length all ≡ len) → found ≡ seen
 whole_seen len seen found is whole = grind (arith, take_all, length-take)
@@ -26,8 +24,6 @@ pub left_seen : (files : FilesState) → AreAtRest files → ((name : Name) → 
 left_seen files rest may_stay None len found is whole was = is
 left_seen files rest may_stay (Some name) len found is whole was =
     inl (rw (whole_seen len (files.view.seen name.now) found (is (known_at_rest rest name.now)) whole) (may_stay name.now))
-
--- ---- a file that is moved aside
 
 aside_of : (other : Bor Text) (was found left : Found) (len : ℕ) (mid new : FilesState) → AreAtRest mid
     → ((name : Name) → new.may_leave name (new.view.seen name)) → IsFileFound mid.view (Some other) len found

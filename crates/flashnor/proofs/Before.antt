@@ -15,8 +15,6 @@ use Rattle.nor_console.specs.Stored.{AreTwo, IsNot, LeavesNoMoreOf, MakesNothing
 use Rattle.flashnor.specs.Tasks.{journal_by, writes_back}
 use Rattle.flashnor.proofs.Stays.{StayApart}
 
--- ---- the file that a task creates is no file of the chip
-
 pub two_kept : (nature : Nature) (done : Task) (one : Option (Bor Text)) → AreTwo nature one (named_by done).journal
     → AreTwo nature one (journal_by done)
 two_kept nature done one two = grind arith
@@ -34,8 +32,6 @@ module _ (nature : Nature) (job : ChipJob) (roles : FilesHaveOneRole nature job)
 pub stays_but : (job : ChipJob) (old new : FilesState) → FilesHaveOneRole old.view.nature job
     → StayApart job.programmer.trace (made_by job.task) old new → StayBut job.programmer (made_by job.task) old new
 stays_but job old new roles stay = grind arith
-
--- ---- runs after which a host crash can leave nothing new, except an empty file for a journal
 
 module _ (programmer : Programmer) (old new : FilesState) (image : LeavesNoMoreOf programmer.image old new)
     (status : LeavesNoMoreOf programmer.status old new) where

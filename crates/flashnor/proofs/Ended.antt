@@ -31,8 +31,6 @@ use Rattle.flashnor.proofs.NoUsage.{no_usage}
 use Rattle.flashnor.specs.declared.streams.Reports.{Reports}
 use Rattle.flashnor.specs.declared.streams.Reports.TheVariants as at
 
--- ---- how a job ends
-
 starts_memory : (puts : Bool) (view : View) (programmer : Programmer) (fault : Fault) → fault ≡ end.Refused Memory
     → FailsToStart puts view programmer fault
 starts_memory true view programmer fault is = inl is
@@ -98,8 +96,6 @@ module _ (files after : FilesState) (on_chip : ChipJob) (unwritten : Unwritten) 
   answer_failed words fault asks keeps fails =
       answer_ended words (Err fault) asks keeps (λ rest. tt) (fails_ends fault fails)
 
--- ---- where a fault is printed
-
 pub printed_at : (nature : Nature) (returned : Result Answer Fault) → IsPrintedAt nature returned at.Errors
 printed_at nature (Ok found) = refl
 printed_at nature (Err fault) = tt
@@ -107,8 +103,6 @@ printed_at nature (Err fault) = tt
 pub printed_there : (nature : Nature) (fault : Fault) (to : Reports) (returned : Result Answer Fault)
     → returned ≡ Err fault → IsReportedTo nature fault to → IsPrintedAt nature returned to
 printed_there nature fault to returned is reported = rw is reported
-
--- ---- what the files hold
 
 pub holds_reported : (on_chip : ChipJob) (unwritten : Unwritten) (outcome : Result Answer Refusal)
     (returned : Result Answer Fault) (old new : FilesState) → IsReportedAs outcome returned
@@ -121,8 +115,6 @@ pub holds_readonly : (on_chip : ChipJob) (result : Result Work Fault) (old new :
     → writes_back on_chip.task ≡ false
     → IfOk result (λ work. HoldsResult on_chip work.unwritten work.answer old new)
 holds_readonly on_chip result old new not_written_back = grind arith
-
--- ---- how a run ends
 
 module _ (files after : FilesState) (words : List Text) (wording : Wording) (detail : Detail) where
   module _ (outcome : Result Answer Fault) (unwritten : Unwritten) (to : Reports) (out out' err err' : Option (List ℕ))

@@ -8,14 +8,10 @@ use Rattle.nor_console.specs.Files.{IsLockingFault}
 use Rattle.nor_console.specs.Stored.{IsFileFound}
 use Rattle.nor_console.specs.declared.messages.Fault.{Fault}
 
--- ---- a file that is missing
-
 pub missing_durable : {E : Type 0} {name : Name} {there : Bool} {old held new : FilesState} → there ≡ false
     → IsKnownFile name old.view → Holds {E = E} name (Ok there) old held → IsPlaced name held new
     → IsDurable name None new
 missing_durable = grind arith
-
--- ---- the files that are read, and the faults, in terms of the files at the start
 
 pub found_before : (name : Option (Bor Text)) (len : ℕ) (found : Found) (a b : FilesState)
     → b.view.nature ≡ a.view.nature → KnownStay a b → IsFileFound b.view name len found

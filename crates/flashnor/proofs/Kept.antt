@@ -44,8 +44,6 @@ use Rattle.flashnor.proofs.Traced.{missing_before, reads_before}
 use Rattle.flashnor.proofs.AfterCall.{buffer_before, kept_after, ranges_before}
 use Rattle.flashnor.proofs.Reopened.{as_long, found_either, opened_many, opened_size}
 
--- ---- the chip's files before they are written
-
 module _ (job : ChipJob) (held : Held) (s0 s1 s2 : FilesState) (bus bus' : BusState)
     (roles : FilesHaveOneRole s0.view.nature job) (read : IsContentOf s0.view job.programmer held.content)
     (opens : OpensChip job.programmer held.content bus)

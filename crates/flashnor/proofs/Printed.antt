@@ -55,8 +55,6 @@ pub printed_nowhere : (wording : Wording) (detail : Detail) (fault : Fault) (unw
     → HasPrinted wording detail (Err fault) unwritten at.Nowhere out out err err ending
 printed_nowhere wording detail fault unwritten out err ending never ends = grind arith
 
--- ---- the message that standard output could not be written
-
 pub output_line : (fault : Fault) → IsLostOutput fault → line_of worded.Numbered fault ≡ Some line_of_output
 output_line (end.File file.Write of cause) is = grind arith
 output_line _ is = absurd is

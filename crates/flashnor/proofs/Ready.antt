@@ -18,8 +18,6 @@ use Rattle.flashnor.specs.Found.{IsEmulatedFound, emulated_part}
 use Rattle.flashnor.specs.Readings.{FindRefuses}
 use Rattle.flashnor.proofs.Shown.{known_with, shown_with}
 
--- ---- a ready bus
-
 pub modelled_ready : (programmer : Programmer) (bus : BusState) → IsReady programmer bus → IsModelled bus
 modelled_ready programmer bus ready = grind (arith, known_with)
 
@@ -48,8 +46,6 @@ pub opens_held : (programmer : Programmer) (content : Content) (allowed : ℕ) (
     → HoldsFiles programmer content first → allowed ≡ allowance_of programmer
     → Allows allowed (record first { steady = is_none programmer.power }) last → OpensChip programmer content last
 opens_held programmer content allowed first last held allowance allows = grind arith
-
--- ---- the identification that checks the name before a restore
 
 pub same_after_reads : (most : ℕ) (old new : BusState) → OnlyReads most old new → old.honest ≡ true → IsSteadyOrIdle old
     → IsSame old.chip new.chip

@@ -11,16 +11,12 @@ use Rattle.flashnor.specs.Holding.{LeavesAmid, MakesDurable, was}
 use Rattle.flashnor.specs.Left.{LeavesAsLong, MayFind, Opened}
 use Rattle.nor_console.specs.Stored.{AreOfFile}
 
--- ---- files of the right length
-
 module _ {programmer : Programmer} {files : FilesState} (first : Opened programmer files) where
   pub opened_size : first.bus.chip.config.size ≡ (emulated_part programmer.chip).size
   opened_size = grind arith
 
   pub opened_many : length first.content.bytes.items ≡ first.bus.chip.config.size
   opened_many = grind (arith, opened_size, length-replicate)
-
--- ---- what a later run opens
 
 abbrev pub IsEither : (had bytes has : List ℕ) → Type 0
 IsEither had bytes has = (i : ℕ) → (slice_index has i ≡ slice_index had i) ⊎ (slice_index has i ≡ slice_index bytes i)

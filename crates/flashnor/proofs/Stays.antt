@@ -6,8 +6,6 @@ use Rattle.nor_files.specs.Files.{Nature, KeepsFile}
 use Rattle.nor_console.specs.Stored.{AreTwo, IsNot}
 use Rattle.nor_args.specs.Text.{Text}
 
--- ---- names that are apart
-
 pub not_that : (nature : Nature) (one : Option (Bor Text)) (file : Bor Text) → AreTwo nature one (Some file)
     → IsNot nature one file.now
 not_that nature one file two = grind arith
@@ -16,8 +14,6 @@ not_that nature one file two = grind arith
 abbrev pub StayApart : (one other : Option (Bor Text)) → (old new : FilesState) → Type 0
 StayApart one other old new = (any : Name) → IsNot old.view.nature one any → IsNot old.view.nature other any
     → KeepsFile any old new
-
--- ---- a known file (`IsKnownFile`) stays known
 
 pub known_at_rest : {files : FilesState} → AreAtRest files → (name : Name) → IsKnownFile name files.view
 known_at_rest rest name = grind arith

@@ -75,8 +75,6 @@ module _ (trace : Option (Bor Text)) (old traced read : FilesState) (nature : tr
         stays_on (keeps_read is name traced)
         (later (lawful_after nature_read is) name (subst (λ (n : Nature). IsNot n made name) (sym nature_read) other))
 
--- ---- faults, in terms of the files at the start
-
 trace_before : (trace : Option (Bor Text)) (fault : Fault) (old mid : View) → mid.nature ≡ old.nature
     → IsSomeAnd trace (λ name. IsMaking mid name.now fault) → IsSomeAnd trace (λ name. IsMaking old name.now fault)
 trace_before trace fault old mid same fails = grind arith

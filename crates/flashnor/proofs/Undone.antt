@@ -40,8 +40,6 @@ use Rattle.nor_console.proofs.Lent.{lawful_after}
 use Rattle.flashnor.proofs.Traced.{reads_before}
 use Rattle.flashnor.proofs.Aside.{left_seen, mixed_can_restore, pick}
 
--- ---- an emulated chip with a given unique ID has one configuration
-
 same_parts : {i : List ℕ} {n : ℕ} {k : Kinds} {s : Bool} {f : List ℕ} {one other : Config} → HasParts i n k s f one
     → HasParts i n k s f other → one ≡ other
 same_parts {one = one} {other = other} a b =
@@ -65,8 +63,6 @@ same_with chip (Some number) one other a b =
     let bare = same_parts {one = record one { unique = zeros }} {other = record other { unique = zeros }} a.0 b.0 in
     λ i. record (bare i) { unique = (a.1 ∙ sym b.1) i }
 
--- ---- programmers that name the same files
-
 found_one : (one other : Option (Bor Text)) (was left : Found) (files : FilesState) → NameOne one other
     → MayFind other was left files → MayFind one was left files
 found_one one other was left files same can = grind arith
@@ -75,21 +71,15 @@ less_of : (one other : Option (Bor Text)) (was left : Found) (old new : FilesSta
     → LeavesNoMoreOf other old new → MayFind one was left new → MayFind one was left old
 less_of one other was left old new same less can = grind arith
 
--- ---- the task of a run that restores
-
 restores : (file : Text) (done : Task) → Restores file done
     → (journal : Bor Text) × (done ≡ task.Restore journal) × (journal.now ≡ file)
 restores file done is = grind arith
-
--- ---- the journal that is read is the one in the file
 
 same_journal : (journal other : Journal) (n : ℕ) → IsContent journal → IsContent other
     → Some (text other) ≡ option_map (take n) (Some (text journal)) → other ≡ journal
 same_journal journal other n sound is reads =
     (one_text other journal (drop n (text journal)) [] is sound
     (cc (take-append-drop n (text journal), append-nil (text journal)))).0
-
--- ---- one run that restores from the journal
 
 module _ (programmer : Programmer) (file : Text) (start : FilesState) (first : Opened programmer start)
     (other : Programmer) (same : HaveOneChip programmer other) where
@@ -239,8 +229,6 @@ module _ (programmer : Programmer) (file : Text) (start : FilesState) (first : O
           bytes = λ a. from'.bytes a ∙ byte_of image a i;
           kept = grind (arith, s, first_kept, kept_in-status_of chip small, is.kept, from'.kept);
         }
-
--- ---- the theorem about runs that follow one another
 
 module _ (programmer : Programmer) (file : Text) (start : FilesState) (first : Opened programmer start) (on_chip : ChipJob)
     (old mid new : FilesState) (may_stay : (name : Name) → mid.may_leave name (mid.view.seen name))

@@ -25,16 +25,12 @@ PutsBack name there bytes failed old new = record {
   amid : (had : List ℕ) → IsReadyIfNamed name there had bytes old → LeavesAmid name there had bytes new;
 }
 
--- ---- a write to one file of the chip leaves the other
-
 other_write_keeps : (there : Bool) (had bytes : List ℕ) (a b c : FilesState) (one other : Option (Bor Text))
     → AreTwo a.view.nature one other → b.view.nature ≡ a.view.nature → OthersOf other b c
     → IsReadyIfNamed one there had bytes a
     → (MakesDurable one (Some bytes) b → MakesDurable one (Some bytes) c)
     × (LeavesAmid one there had bytes b → LeavesAmid one there had bytes c)
 other_write_keeps there had bytes a b c one other two same others ready = grind arith
-
--- ---- the names of files that could not be written
 
 pub reported : (name failed : Option (Bor Text)) (view : View)
     → IfSome failed (λ is. (name ≡ Some is) × Happens view (Unwritten is.now)) → IsReportedOf name failed view
@@ -44,8 +40,6 @@ pub reported_before : (name failed : Option (Bor Text)) (old mid : View) → mid
     → IsReportedOf name failed mid
     → IsReportedOf name failed old
 reported_before name failed old mid same is = grind arith
-
--- ---- the last look at a file
 
 -- The clauses that `last_look` ensures: `failed` is the name of a file that could not be written, and `found` the name
 -- that the last look returns.
@@ -71,8 +65,6 @@ reported_looked name failed found old mid new same same2 is looks =
     reported_before name found old new same2 (looks.fails
     (reported_before name failed new mid (same ∙ sym same2) (reported name failed mid is)))
 
--- ---- both files of the chip
-
 module _ {programmer : Programmer} {image_there status_there : Bool} {had bits : List ℕ} {chip : Chip}
     {bytes flags : List ℕ} {image status : Option (Bor Text)} {a b c : FilesState} (are : AreChipBytes chip bytes)
     (is : flags ≡ status_of chip) (two : AreTwo a.view.nature programmer.image programmer.status)
@@ -87,7 +79,7 @@ module _ {programmer : Programmer} {image_there status_there : Bool} {had bits :
     status_put = grind (arith, other_write_keeps);
   }
 
-  -- the same with the names that the last looks return
+  -- the lemma `both_put` for the names that the last looks return
   pub both_looked : {image' status' : Option (Bor Text)} → Looks programmer.image image image' c.view
       → Looks programmer.status status status' c.view → AreWrittenBack programmer chip image' status' c
   unfolding both_put

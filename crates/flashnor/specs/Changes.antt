@@ -55,8 +55,8 @@ pub record IsSafe (old opened : BusState) (vault : VaultState) : Type 0 where
   pub back : vault.sealed ≡ true → vault.telling ≡ true
       → (journal : Journal) → IsContent journal → vault.bytes ≡ text journal → CanRestore journal old.chip opened
 
--- Holds for a session at every exit: without a seal the chip is as before, and with one a faithful vault can undo the
--- session. `over`: this is so even if overwriting the chip's files is interrupted (`IsSafe`).
+-- Holds for a session at every exit: if the vault isn't sealed, the chip is as before; a sealed faithful vault can undo
+-- the session. `over`: this also holds if overwriting the chip's files is interrupted (`IsSafe`).
 pub record HasKeptChange (request : Request) (image : List ℕ) (old new : BusState) (vault vault' : VaultState)
     (outcome : Result Answer Refusal) : Type 0 where
   pub returned : MatchResult outcome (ReportsChange request image old new)

@@ -65,8 +65,8 @@ pub record IsNoFileOf (nature : Nature) (programmer : Programmer) (name : Text) 
   pub status : IsNot nature programmer.status name
   pub trace : IsNot nature programmer.trace name
 
--- Holds if no file is named, or if a host crash can leave the named file only with as many bytes as it had, if it
--- existed.
+-- Holds if no file is named, if the named file was missing, or if a host crash can leave it only with the length that
+-- it had.
 abbrev pub LeavesAsLong : Option (Bor Text) → (old new : FilesState) → Type 0
 LeavesAsLong None old new = ⊤
 LeavesAsLong (Some name) old new = (had : List ℕ) → old.view.seen name.now ≡ Some had → (left : Found)

@@ -112,7 +112,7 @@ DoesJob view after programmer named (task.Change change) old new outcome =
 DoesJob view after programmer named (task.Restore journal) old new outcome =
     DoesRestore view named journal.now old new outcome
 
--- Holds if `unwritten` names only files of the chip that may fail to be written, and none without a write back.
+-- Holds if `unwritten` names only files of the chip that may fail to be written, and none if nothing is written back.
 abbrev pub AreReported : Bool → Programmer → Unwritten → View → Type 0
 AreReported true programmer unwritten view =
     IsReportedOf programmer.image unwritten.image view × IsReportedOf programmer.status unwritten.status view

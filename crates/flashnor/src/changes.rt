@@ -79,7 +79,7 @@ fn change_with<'a, R: Store, B: Meter>(
     }
 }
 
-// The first of `stops` is the number of transactions for the session, and each further one that of a restore.
+// Rehearses a change. The first of `stops` is the allowance of the session, and each further one that of a restore.
 fn rehearse_change<B: Meter>(
     bus: &mut B,
     vault: &mut MemVault,

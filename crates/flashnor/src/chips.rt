@@ -101,9 +101,9 @@ fn cause_of_length(wanted: u32, found: usize) -> Cause {
     }
 }
 
-/// Returns a bus to the idle emulated chip with these contents, as many bytes as the chip has. `stop=` is its number of
-/// transactions (or `u64::MAX`), `busy=` the polls that show BUSY (or none), and with `power=` a stop cuts the chip's
-/// power.
+/// Returns a bus to the idle emulated chip with these contents, whose length must be the chip's size. The bus stops
+/// after the number of transactions in `stop=` (default: `u64::MAX`). After each operation, `busy=` polls show BUSY
+/// (default: none). With `power=`, a stop cuts the chip's power.
 pub fn start(programmer: &Programmer<'_>, content: Content) -> SimBus
     requires { vec_len content.bytes ≡ (emulated_part programmer.now.chip).size }
     ensures { StartsBus programmer.now content result }
@@ -114,7 +114,7 @@ pub fn start(programmer: &Programmer<'_>, content: Content) -> SimBus
     bus
 }
 
-// The bus carries out no transaction yet, and a stop doesn't cut the chip's power.
+// Returns a bus that carries out no transaction yet, and that keeps the chip's power at a stop.
 fn hold(programmer: &Programmer<'_>, content: Content) -> SimBus
     requires { vec_len content.bytes ≡ (emulated_part programmer.now.chip).size }
     ensures held { HoldsFiles programmer.now content (⟦<SimBus as Bus>⟧.state result) }

@@ -86,7 +86,7 @@ fn name_detail(job: &ChipJob<'_>) -> Detail {
     }
 }
 
-// The journal is read again, since the call has used up its bytes. If that fails, there is nothing to say.
+// Reads the journal again, since the call has used up its bytes. If that fails, the detail is `Unsaid`.
 fn journal_detail<R: Store>(
     rt: &R,
     name: &str,

@@ -1,4 +1,4 @@
-//! Ends a session whose journal already exists with a fault, before any call to the engine.
+//! Ends a session with a fault if its journal already exists, before any call to the engine.
 ghost use Rattle.std.specs.Prelude.{◌≡◌, IfErr, IfSome, IsSome, IsSomeAnd, Some, true};
 ghost use Rattle.nor_files.specs.Files.{AreAtRest, Name, KeepsFile, is_lawful};
 ghost use Rattle.nor_files.specs.Files.Failure.{There};

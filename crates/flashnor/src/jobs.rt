@@ -77,7 +77,7 @@ pub fn call_on<'a, R: Store>(
     call(rt, bus, log, job, sources)
 }
 
-// The roles are checked again, because another name may be a link to the trace, which had no target before.
+// The roles are checked again, because another name may be a link to the trace's file, which didn't exist before.
 fn open_trace<'a, R: Store>(
     rt: &mut R,
     job: &ChipJob<'a>,

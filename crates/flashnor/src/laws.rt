@@ -12,12 +12,12 @@ ghost use Rattle.nor_console.specs.declared.messages.Fault.{Fault};
 
 use nor_files::Store;
 
-/// Proves that the original chip of a change can be restored, however often a restore is interrupted by a kill or a
+/// States that the original chip of a change can be restored, however often a restore is interrupted by a kill or a
 /// host crash.
 ///
-/// `restorable`: if the journal can restore the original chip from all that a host crash may leave of the chip's files
-/// (`IsRestorableFrom`), this is still so after each run that restores from it, wherever that run was interrupted.
-/// `ends`: a run that restores, returns an answer and writes all files leaves the original chip.
+/// `restorable`: suppose that the journal can restore the original chip from everything that a host crash may leave of
+/// the chip's files (`IsRestorableFrom`). Then it still can after each run that restores from it, wherever that run was
+/// interrupted. `ends`: a run that restores, returns an answer and writes all files leaves the original chip.
 ///
 /// Each run must have the same chip and files (`HaveOneChip`) and find them at rest (`AreAtRest`). Between two runs
 /// nothing else may change them (`Follows`), but you may move aside a file of the chip that was missing at first.

@@ -52,7 +52,7 @@ fn main(rt: HostRuntime) -> ExitCode {
     ExitCode::from(status)
 }
 
-// A script that reads standard error expects only the lines with the faults' numbers.
+// Returns `Numbered` for a script, which expects only the lines with the faults' numbers, and else `Explained`.
 fn wording_for(rt: &HostRuntime) -> Wording {
     if rt.stderr().is_terminal() {
         Wording::Explained

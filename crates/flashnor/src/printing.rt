@@ -32,8 +32,8 @@ pub struct Ending {
     pub reported: bool,
 }
 
-/// Prints an answer or the help to `output`, and a message for each file that could not be written to `errors`. A
-/// fault, and then such messages, are printed where `to` says. `detail` is what an error compared.
+/// Prints an answer or the help to `output`, and a message for each file that could not be written to `errors`. Prints
+/// a fault, and then these messages, to the stream that `to` names. `detail` is what an error compared.
 ///
 /// If the answer or the help can't be printed, file fault 2 is printed to `errors`, and the status is 1.
 #[tactic(auto, using(crate::proofs::Printed::printed_well, crate::proofs::Printed::printed_badly))]

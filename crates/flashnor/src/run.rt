@@ -34,9 +34,9 @@ use std::rt::Files;
 /// Performs the job given by the arguments (the first is the program's name), or prints the help. Returns the exit
 /// status: 0, or 1 after a fault or if not all results could be printed.
 ///
-/// Results are printed to `output`, and faults to `errors`. If standard error prints to a file of the job, this fault
-/// is printed to `output`, unless standard output does, too. If `given` is an error of the system, it is printed as a
-/// fault.
+/// Results are printed to `output`, and faults to `errors`. If standard error prints to a file of the job, the fault
+/// that reports this is printed to `output`, unless standard output prints to such a file, too. If `given` is an error
+/// of the system, it is printed as a fault.
 pub fn run_words<R: Files + AllocGlobal, O: Write, E: Write>(
     rt: &R,
     given: io::Result<Args>,
@@ -60,7 +60,7 @@ where
 }
 
 /// Ends a run that could not open a directory in place of closed standard streams (`keep_streams`), because the next
-/// opened file could get such a descriptor. Prints file fault 1, and returns the exit status 1.
+/// file that is opened could get the descriptor of such a stream. Prints file fault 1, and returns exit status 1.
 pub fn end_without_streams<O: Write, E: Write>(output: &mut O, errors: &mut ErrorStream<E>) -> u8
     ensures { EndsWith (IsWithoutStreams errors.old.wording (O.contents output.old) (O.contents output.new)
         (E.contents errors.old.writer) (E.contents errors.new.writer)) result }

@@ -39,7 +39,7 @@ const ROLES: [Role; 7] = [
 
 /// Checks that the program prints to no regular file that the job names, even if the job only reads that file.
 ///
-/// Returns file fault 5 with the first such file (by `Role`) of standard output, or else of standard error. Returns
+/// Returns file fault 5 with the first file (by `Role`) to which standard output or else standard error prints. Returns
 /// file fault 1 with a name that can't be looked up; if the job may change files, a standard stream's name counts, too.
 pub fn are_unprinted<'a, R: Store>(rt: &R, job: &ChipJob<'a>) -> Result<(), StreamFault<'a>>
     ensures fails { IfErr result (λ refused. FailsFileRoles (R.state rt.now).view.nature job.now refused.fault) }

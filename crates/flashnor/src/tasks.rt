@@ -5,7 +5,7 @@ ghost use Rattle.flashnor.specs.Tasks.{journal_by, writes_back};
 use nor_args::{Change, JournalUse, Task};
 use nor_console::journal_of;
 
-/// True if the chip is written back after the call: for a restore, or a change that isn't a rehearsal.
+/// Returns whether the chip is written back after the call: for a restore, or a change that isn't a rehearsal.
 pub fn writes_back(task: &Task<'_>) -> bool
     ensures { result ≡ writes_back task.now }
 {

@@ -32,8 +32,6 @@ use Rattle.nor_apply.proofs.Changing.{change_as, same_change}
 use Rattle.nor_apply.proofs.ApplyingSteps.{code_read, code_once, code_spared, intermediate_first, intermediate_changed, can_erase_all, can_program_all, applied}
 use Rattle.nor_apply.proofs.ApplyingInTurn.{raised_few, Numbers, SoFar, EndsInError, ends_in_error, goes_on, code_then, code_written}
 
--- ---- the first three parts
-
 abbrev pub lifting : (unlock : Bool) → (erases programs : ℕ) → Numbers
 lifting unlock erases programs =
     record { erases = erases; programs = programs; status_writes = if unlock then 1 else 0 }
@@ -146,8 +144,6 @@ module _ {changes : Changes} {wanted : ℕ → ℕ} {erases : ℕ} {old mid new 
       let is = so.intermediate honest can in
       intermediate_changed is (does.done (honest_now so.ran honest) (can_program_all can is)))
 
--- ---- lists of modifying commands
-
 times_sent-append : (is : List ℕ → Bool) (later earlier : Sent)
     → times_sent is (later ++ earlier) ≡ times_sent is later + times_sent is earlier
 times_sent-append is [] earlier = sym (zero-add (times_sent is earlier))
@@ -168,8 +164,6 @@ has_sent-left is (out ∷ later) earlier has = elim (or_cases _ _ has) [
   | inl before ↦ rw (has_sent-left is later earlier before) refl
   | inr now ↦ rw now (or-true _)
 ]
-
--- ---- the last status write
 
 pub last_names : (changes : Changes) → writes_code changes ≡ true → (error : OperationError) → NamesTimeout 0 error
     → NamesChange changes error

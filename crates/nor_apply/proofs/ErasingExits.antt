@@ -38,8 +38,6 @@ record IsOfPlan (kinds : Kinds) (total : ℕ) (set : ℕ → Bool) (unit : Erase
   pub some : 1 ≤ sectors_in total unit.unit
   pub inside : (s : ℕ) → erases_sector total s unit ≡ true → set s ≡ true
 
--- ---- the premises of an erase
-
 some_sectors : (total : ℕ) (unit : EraseBlock) → 1 ≤ total → 1 ≤ sectors_in total unit
 some_sectors total unit some = grind arith
 
@@ -84,8 +82,6 @@ module _ {kinds : Kinds} {size : ℕ} {set done : ℕ → Bool} {unit : Erase} {
       let is = plan.is in
       grind arith
 
-  -- ---- the effect of one erase, at every exit and after success
-
   erases_of_plan : (s : ℕ) → is_sector_in_block unit mid.chip s ≡ true → set s ≡ true
   erases_of_plan s erased = plan.inside s (rw sectors_same at erased)
 
@@ -97,8 +93,6 @@ module _ {kinds : Kinds} {size : ℕ} {set done : ℕ → Bool} {unit : Erase} {
       → HasMade (λ a. erases_sector (size / 4096) (a / 4096) unit) blank
       (λ s. erases_sector (size / 4096) s unit) mid new
   erased_unit erased idle = rw (← sectors_same) (grind (arith, erased.bytes, erased.worn))
-
--- ---- one erase after another
 
 -- Holds after the erases `units` of the plan for a set succeeded. The erases in `left` are not sent yet.
 pub record ErasesSoFar (kinds : Kinds) (size : ℕ) (set : ℕ → Bool) (units left : List Erase) (old new : BusState)

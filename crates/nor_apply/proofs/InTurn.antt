@@ -16,8 +16,6 @@ use Rattle.nor_driver.proofs.Limits.{IsPartOf, AreParts, IsSum, sum_parts, sends
 use Rattle.nor_apply.specs.declared.tally.Tally.{Tally}
 use Rattle.nor_apply.specs.Spending.{Tallies}
 
--- ---- parts that succeeded
-
 -- Holds after a part of a change succeeded. It sent exactly the numbers of operations in `limits`.
 pub record Ran (limits : Limits) (readings : ℕ) (old new : BusState) (tally : Tally) : Type 0 where
   pub nature : KeepsNature old new
@@ -64,8 +62,6 @@ ran_one leaves exactly ends = ran_part leaves exactly record {
   sent = ends.count;
 }
 
--- ---- two successive parts that succeeded
-
 module _ {first : Limits} {r : ℕ} {old mid new : BusState} {done : Tally} (ran : Ran first r old mid done) where
   tallies_after : {k readings : ℕ} {more all : Tally} → Tallies k mid new more → r + k ≤ readings
       → all.count ≡ done.count + more.count → all.transactions ≡ done.transactions + more.transactions
@@ -104,8 +100,6 @@ module _ {first : Limits} {r : ℕ} {old mid new : BusState} {done : Tally} (ran
         tallies = tallies_after after.tallies fits count transactions;
       }
 
--- ---- each exit of the next part
-
 module _ {limits : Limits} {r : ℕ} {old mid : BusState} {done : Tally} (ran : Ran limits r old mid done) where
   pub honest_now : old.honest ≡ true → mid.honest ≡ true
   honest_now honest = ran.nature.honest ∙ honest
@@ -138,8 +132,6 @@ module _ {limits : Limits} {r : ℕ} {old mid : BusState} {done : Tally} (ran : 
           reached = λ honest can.
               let next = follows honest can in next.1 (leaves.reached (honest_now honest) next.0);
         }
-
--- ---- one operation for each element of a list
 
 -- Holds after the operations for the elements `done` of the list `all` succeeded. The operations for the elements
 -- `left` are not sent yet.

@@ -40,16 +40,12 @@ in_spans sector spans a = spanned_by spans (a - 4096 * sector) && only sector (a
 abbrev pub HasFilled : ℕ → List ℕ → List PageSpan → (old new : BusState) → Type 0
 HasFilled sector wanted spans old new = HasMade (in_spans sector spans) (byte_of sector wanted) none old new
 
--- ---- the effect of a program on a byte
-
 abbrev part : List ℕ → PageSpan → List ℕ
 part wanted span = take (span.last + 1 - span.first) (drop span.first wanted)
 
 fallen : {now old wanted : ℕ} → (now ≡ old) ⊎ (now ≡ wanted) → bit_and wanted old ≡ wanted → bit_and now wanted ≡ wanted
 fallen {old} {wanted} (inl same) falls = rw (same, and_comm old wanted) falls
 fallen {wanted} (inr made) falls = rw made (and_self wanted)
-
--- ---- the next span
 
 page_inside : (sector first a : ℕ) → first < 4096 → is_in_page (4096 * sector + first) a ≡ true
     → only sector (a / 4096) ≡ true
@@ -158,8 +154,6 @@ filled_all {sector} {old} {wanted} {spans} {first} {new} whole are can filled =
     ] in
     assumption
 
--- ---- the number of spans
-
 any_of_range : (test : ℕ → Bool) (from m n at : ℕ) → at ≡ from + m
     → list_any test (range_with_len at n) ≡ list_any (λ i. test (from + i)) (range_with_len m n)
 any_of_range test from m zero at place = refl
@@ -201,8 +195,6 @@ pages_other content sector old wanted whole shown =
     ∙ count_below-same 16 (page_differs old wanted)
     (λ page. is_page_other content (byte_of sector wanted) (16 * sector + page))
     (page_same content sector old wanted whole shown)
-
--- ---- one span after another
 
 -- Holds after the spans `spans` of a sector were programmed, and no other operation was sent. The spans in `left` are
 -- not programmed yet.

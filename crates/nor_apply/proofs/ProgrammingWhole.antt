@@ -26,8 +26,6 @@ use Rattle.nor_apply.proofs.InTurn.{Ran, ran_part, ran_after, ran_none, ran_leav
 use Rattle.nor_apply.proofs.Alone.{only-here, count_below-next, only-is, shown_byte}
 use Rattle.nor_apply.proofs.Changing.{can_after, change_then, change_as, made_may, changed_may, made_none, made_same, made_then}
 
--- ---- one sector, which is read or known to be FFh, and then programmed
-
 module _ {sector : ℕ} {erased : Bool} {bytes bytes' : List ℕ} {reads : ℕ} {first mid : BusState}
     (loads : LoadsOk sector erased bytes bytes' first mid reads) where
   loads_ran : Ran (programming (only sector) 0) 1 first mid (record { count = 0; transactions = reads })
@@ -105,8 +103,6 @@ module _ {sector : ℕ} {erased : Bool} {bytes bytes' : List ℕ} {reads : ℕ} 
               count ∙ does.counted (honest_now loads_ran honest) (can_spans blank honest can)
               ∙ ap (λ (x : ℕ → ℕ). count_below 16 (pages x)) bytes;
         }
-
--- ---- one sector after another
 
 abbrev pub before : (ℕ → Bool) → ℕ → ℕ → Bool
 before touched n s = touched s && nat_lt s n
@@ -255,8 +251,6 @@ module _ {touched raised : ℕ → Bool} {wanted : ℕ → ℕ} {n : ℕ} {first
                   does.counted (honest_now so.ran honest) (can_sector honest can),
                 );
           }
-
--- ---- after the last sector
 
 module _ {touched raised : ℕ → Bool} {wanted : ℕ → ℕ} {n : ℕ} {first now : BusState} {tally : Tally} (end : n ≡ 4096)
     (so_far : SectorsSoFar touched raised wanted n first now tally) where

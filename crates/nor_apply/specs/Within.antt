@@ -11,10 +11,10 @@ use Rattle.nor_driver.specs.StatusWrites.{fixed_of}
 abbrev pub is_writable : Chip → Bool
 is_writable chip = chip.config.scheme && not (is_locked chip.kept)
 
--- Holds if the operation `running` may be in progress on a chip that is to be restored. Its command is known, and the
--- operation changes no bytes except at these addresses. If it is a status write, the status of the original chip,
--- `first`, can be written. A status write in progress contains the status bits from before it; among these, the bits
--- that are never changed have the values of `first`.
+-- Holds if the operation `running` may be in progress on a chip that is to be restored to the original chip, `first`.
+-- Its command is known, and it changes no bytes except at these addresses. A status write is allowed only if the status
+-- of `first` can be written; the status bits from before this write agree with `first` in the bits that flashnor never
+-- changes.
 pub record WorksIn (addresses : ℕ → Bool) (first : Chip) (running : Running) : Type 0 where
   pub known : is_known_running running ≡ true
   pub inside : (a : ℕ) → is_in_work running a ≡ true → addresses a ≡ true

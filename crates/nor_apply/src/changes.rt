@@ -49,9 +49,9 @@ pub struct Work {
     pub transactions: u64,
 }
 
-/// Changes the touched sectors to the bytes of `source`, and the protection bits to `changes.code`: clears the
-/// protection bits if `changes.unlock` is set, erases the raised sectors with the fewest erases, programs the pages
-/// that still differ from `source`, and writes the protection bits if they differ from the target bits.
+/// Changes the touched sectors to the bytes of `source`, and the protection bits to `changes.code`. First clears all
+/// protection bits, if `changes.unlock` is set. Then erases the raised sectors with the fewest erases, programs the
+/// pages that still differ from `source`, and writes the protection bits if they differ from the target bits.
 ///
 /// The changes must be consistent (`AreConsistent`), and `source` must have every touched sector. On any bus, erases
 /// and programs target only touched sectors and, if these are the whole chip, addresses past its end. On a well-behaved

@@ -35,7 +35,7 @@ pub record CutsOff (fill : ℕ) (old new : Chip) : Type 0 where
       → new.bytes a ≡ (if is_known_running old.running && is_in_work old.running a then fill else old.bytes a)
   pub kept : new.kept ≡ (if fill % 2 == 0 then kept_before old else old.kept)
 
--- Holds if the command, if it is an operation, takes the number of polls that show BUSY after each operation (`each`).
+-- Holds if `each` is as before and, after an operation, `each` polls will show BUSY.
 pub record Paces (command : Command) (old new : Flash) : Type 0 where
   pub each : new.each ≡ old.each
   pub busy : is_operation command ≡ true → new.busy ≡ old.each

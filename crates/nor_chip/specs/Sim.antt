@@ -72,9 +72,9 @@ pub record TearsOff (torn fill : Option ℕ) (out : List ℕ) (old new : Chip) :
   pub torn_off : TornTo torn out old reached
   pub lost : LostTo fill reached new
 
--- The effect of a transaction over a simulated bus, in addition to the contract of a bus. An operation that began will
--- show BUSY in `pace_of` polls. Sectors that the first bytes of a stopped transaction erased are recorded, even if the
--- chip then lost its power.
+-- The effect of a transaction over a simulated bus, in addition to the contract of a bus. After an operation began,
+-- `pace_of` polls will show BUSY. Sectors that the first bytes of a stopped transaction erased are recorded, even if
+-- the chip then lost its power.
 pub record Simulates (out answer : List ℕ) (outcome : Result Unit Stopped) (old new : SimBus) : Type 0 where
   pub fill : fill_of new ≡ fill_of old
   pub torn : torn_of new ≡ torn_of old

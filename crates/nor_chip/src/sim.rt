@@ -114,9 +114,9 @@ impl SimBus {
         self.fill = fill;
     }
 
-    /// Sets how many bytes of a transaction are sent before the bus stops at it: with `Some(count)` at most `count`,
-    /// which the chip treats as a whole transaction without a reply, and with `None`, as after `new`, no byte. After
-    /// them the chip may lose its power (`lose`).
+    /// Sets how many bytes of a transaction are still sent if the bus stops at it. With `Some(count)`, at most `count`
+    /// are sent, and the chip treats them as a whole transaction without a reply. With `None`, as after `new`, no byte
+    /// is sent. Afterwards the chip may lose its power (`lose`).
     pub fn tear(&mut self, count: Option<u32>)
         ensures state { ⟦<SimBus as Bus>⟧.state self.new
             ≡ record (⟦<SimBus as Bus>⟧.state self.old) { steady = is_none (fill_of self.old) && is_none count } }

@@ -31,7 +31,7 @@ pub struct SpoiltBus<B> {
 }
 
 impl<B: Bus> SpoiltBus<B> {
-    /// Returns a bus that passes transactions on to `inner` and fails as `spoil` says. It isn't well-behaved.
+    /// Returns a faulty bus, which passes transactions on to `inner` and fails as `spoil` says.
     pub fn new(inner: B, spoil: Spoil) -> SpoiltBus<B>
         ensures inner { bus_in result ≡ inner }
         ensures spoil { spoil_of result ≡ spoil }

@@ -10,8 +10,8 @@ use std::io::{self, Write};
 
 const PIECE: usize = 64;
 
-/// A bus that passes transactions on to an inner bus, and writes one line to a log for each transaction that succeeds:
-/// the bytes sent, in hexadecimal, then ` > ` and up to three bytes received, or the number of bytes if more.
+/// A bus that passes transactions on to an inner bus, and writes a line to a log for each transaction that succeeds:
+/// the bytes sent, in hexadecimal, and if bytes were received, ` > ` and these (if more than three, their number).
 ///
 /// If a line can't be written completely, the transaction still succeeds, but the line counts as lost (`lost`). The bus
 /// buffers nothing. If each write to the log costs a system call, use a log with a buffer, such as `BufWriter`.

@@ -21,8 +21,6 @@ use Rattle.nor_console.specs.Requests.{IsLayoutText, IsUnparsed, LacksLayout, fi
 use Rattle.nor_console.specs.declared.messages.Fault.{Fault}
 use Rattle.nor_console.specs.declared.messages.Fault.TheVariants as end
 
--- ---- parsing a layout never returns `NoRegion`
-
 line_named : (regions : List Region) (n : ℕ) (line : List ℕ) → with_line regions n line ≡ Err layout.NoRegion → ⊥
 unfolding with_line
 line_named regions n line e = grind arith
@@ -42,8 +40,6 @@ lines_named (line ∷ lines) regions n e =
 text_named : (text : List ℕ) → layout_says text ≡ Err layout.NoRegion → ⊥
 unfolding layout_says
 text_named text e = lines_named (lines_of text) [] 1 e
-
--- ---- faults of the text, and unknown names
 
 module _ (text : List ℕ) where
   pub is_unparsed : (fault : LayoutFault) → ReadsLayout (Err fault) (layout_says text)

@@ -12,8 +12,6 @@ pub appends_then : (a b c : Option (List ℕ)) (first second : List ℕ) → App
     → Appends a c (first ++ second)
 appends_then = Appends-trans
 
--- ---- the table of chips
-
 pub chips_then : (a b c : Option (List ℕ)) (items : List Part) (i : ℕ) (none : Part) → i < length items
     → Appends a b (flat_map chip_line (take i items)) → Appends b c (chip_line (get_or items i none))
     → Appends a c (flat_map chip_line (take (i + 1) items))

@@ -53,7 +53,7 @@ IsOpeningFault view name len (end.File file.Length of cause) =
 IsOpeningFault view name len _ = ⊥
 
 -- Holds if locking and reading a chip's file, which must have `len` bytes, may fail with this fault. File fault 1 is
--- possible, too, if the file is missing, although it existed when it was locked, or isn't known (`IsKnownFile`).
+-- also possible if the file is missing now (it existed when it was locked), or isn't known (`IsKnownFile`).
 abbrev pub IsLockingFault : View → Text → ℕ → Fault → Type 0
 IsLockingFault view name len (end.File file.Read of cause) =
     (of.now ≡ name) × (ReadsFile name (len + 1) None view ⊎ Happens view (Unread name))

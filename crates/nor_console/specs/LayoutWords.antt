@@ -14,7 +14,7 @@ place_after place.Start byte =
     if nat_eq byte 10 then place.Start else if is_separator byte then place.Start else place.Word
 place_after _ byte = if nat_eq byte 10 then place.Start else if is_separator byte then place.Blank else place.Word
 
--- A blank is dropped, and a word that follows another one in its line begins with a space.
+-- what a byte becomes: nothing if it is a blank; a space and itself if it begins a later word of its line; else itself
 abbrev pub kept_in_words : (before : Place) → (byte : ℕ) → List ℕ
 kept_in_words place.Blank byte =
     if nat_eq byte 10 then byte ∷ [] else if is_separator byte then [] else 32 ∷ byte ∷ []

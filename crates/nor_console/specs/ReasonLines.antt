@@ -23,7 +23,7 @@ flaw_text flaw.Key = codes "unknown key"
 flaw_text flaw.Value = codes "invalid value"
 flaw_text flaw.Twice = codes "repeated key"
 
--- what may take the place of a setting of `-p` with this flaw, or no bytes
+-- the end of the reason: what to give instead of a setting of `-p` with this flaw, or no bytes
 abbrev pub choices_for : (setting : Text) → Flaw → List ℕ
 choices_for setting flaw.Key =
     codes "; the keys are emulate, image, status, stop, trace, unique, busy and power"

@@ -28,7 +28,7 @@ pub fn report_protection<B: Bus>(bus: &mut B, named: Option<ChipName>) -> Outcom
     Ok(Answer::Protection(protection))
 }
 
-/// Returns the ranges that can be protected, or an error of `wp_status`. A chip must have the name `named`, if given.
+/// Returns the ranges that can be protected, or an error of `wp_status`. The chip must have the name `named`, if given.
 pub fn list_ranges<B: Bus>(bus: &mut B, named: Option<ChipName>) -> Outcome
     ensures { HasReported ListsRanges named (B.state bus.old) (B.state bus.new) result }
 {

@@ -100,7 +100,7 @@ pub enum Cause {
     LongLayout,
     /// The file has another number of bytes than the number that is needed.
     Length { wanted: u32, found: usize },
-    /// The file has more bytes than this number, which is needed.
+    /// The file has more bytes than the given number, which is the length that it must have.
     TooLong(u32),
     /// The file of a new journal exists already.
     Exists,

@@ -56,7 +56,7 @@ pub fn reading(error: io::Error, name: &str) -> Fault<'_>
     }
 }
 
-/// Returns file fault 1 with this name, of which the cause isn't known. `FileFault::Read` lists the reasons.
+/// Returns file fault 1 with this name and no known cause. `FileFault::Read` lists the reasons.
 pub fn unread(name: &str) -> Fault<'_>
     ensures { result ≡ Faults.File FileFaults.Read name.entry Causes.Unknown }
 {
@@ -160,7 +160,7 @@ pub fn taken_by(name: &str, cause: Cause) -> Fault<'_>
     Fault::File { fault, name, cause }
 }
 
-/// Returns file fault 2 with this name, of which the cause isn't known. `FileFault::Write` lists the reasons.
+/// Returns file fault 2 with this name and no known cause. `FileFault::Write` lists the reasons.
 pub fn unmade(name: &str) -> Fault<'_>
     ensures { result ≡ Faults.File FileFaults.Write name.entry Causes.Unknown }
 {

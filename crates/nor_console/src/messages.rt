@@ -16,8 +16,8 @@ use std::{fmt, io};
 /// A failure of a file. Its number is part of the message.
 #[derive(Clone, Copy)]
 pub enum FileFault {
-    /// The file is missing, can't be looked up or read, is a layout of more than 16 MiB, or is a chip's file and may
-    /// block.
+    /// The file is missing, can't be looked up or read, or is a layout of more than 16 MiB. Also: a read of a chip's
+    /// file might never end.
     Read = 1,
     /// The file can't be created, read before it is truncated, truncated, locked, written or synced, or its directory
     /// can't be synced. A sealed journal was removed or replaced, or its length changed. Standard output can't be
@@ -27,7 +27,7 @@ pub enum FileFault {
     Length,
     /// The file of a new journal already exists, or a file that would be truncated is a journal.
     Exists,
-    /// The file has another role in the run, another run has locked it, or the program prints to it.
+    /// The run uses the file for another purpose, another process has locked it, or the program prints to it.
     Taken,
 }
 
@@ -42,8 +42,8 @@ impl FileFault {
     }
 }
 
-/// The fault that ends a run with exit status 1; its text is printed to standard error. A request for help or the
-/// version is printed to standard output instead, with exit status 0 if that succeeds.
+/// The fault that ends a run with exit status 1. A request for help or the version is a fault here, too, but is printed
+/// to standard output, with exit status 0 if that succeeds.
 #[derive(Drop)]
 pub enum Fault<'a> {
     /// A usage fault and its reason, or a request for the help or the version.
@@ -67,7 +67,7 @@ pub enum Fault<'a> {
         name: &'a str,
         cause: Cause,
     },
-    /// Error 15 for a file that is shorter than a journal and doesn't begin as one; it is journal fault 1.
+    /// The file is shorter than a journal and doesn't begin as one. It is reported as error 15, journal fault 1.
     NoJournal,
     /// An error of the engine, returned by a call or detected by the program itself.
     Refused(Refusal),
@@ -126,7 +126,7 @@ impl From<AllocError> for Fault<'_> {
 pub enum Wording {
     /// The line with the fault's number. Scripts rely on it, so nothing else is printed.
     Numbered,
-    /// First the lines for the user that say what is wrong or why, if there are any.
+    /// The lines for the user that say what is wrong and why, if there are any, and then the numbered line.
     Explained,
 }
 

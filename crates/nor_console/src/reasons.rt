@@ -101,7 +101,7 @@ pub fn text_of_flaw(flaw: Flaw) -> &'static str
     }
 }
 
-// Returns what may take the place of a setting of `-p` with this flaw, or no text.
+// Returns the end of the reason: what to give instead of a setting of `-p` with this flaw, or no text.
 fn choices_for(setting: &str, flaw: Flaw) -> &'static str
     ensures { result.now ≡ choices_for setting.now flaw }
 {

@@ -30,7 +30,6 @@ pub enum Role {
     Wanted,
     /// The file into which the chip is read.
     Output,
-    /// The journal.
     Journal,
 }
 

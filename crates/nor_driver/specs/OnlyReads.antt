@@ -18,7 +18,7 @@ pub record Unchanged (old new : BusState) : Type 0 where
   pub worn : (s : ℕ) → new.worn s ≡ old.worn s
 
 -- The effect, on a well-behaved bus and at every exit, of a call that began no operation. Unless `IsSteadyOrIdle` held
--- before it, a stop may have interrupted the operation in progress: the bytes on which that operation works may then
+-- before it, a stop may have interrupted the operation in progress. The bytes on which that operation works may then
 -- have any value, and the non-volatile bits are as a power failure may leave them (`KeptCut`).
 pub record KeepsChip (old new : BusState) : Type 0 where
   pub config : new.chip.config ≡ old.chip.config
@@ -48,8 +48,8 @@ pub record HasFallen (most : ℕ) (old new : BusState) : Type 0 where
 abbrev pub Falls : (most : ℕ) → (old new : BusState) → Type 0
 Falls most old new = old.punctual ≡ true → HasFallen most old new
 
--- The effect, on a well-behaved bus and at every exit, of a call that only reads, with at most `most` transactions. The
--- write enable latch stays as it was if the chip was idle and the bus is steady.
+-- The effect, on a well-behaved bus and at every exit, of a call that only reads, with at most `most` transactions on a
+-- punctual bus. The write enable latch stays as it was if the chip was idle and the bus is steady.
 pub record OnlyReadsHonest (most : ℕ) (old new : BusState) : Type 0 where
   pub stays : KeepsChip old new
   pub latch : new.chip.latch ≡ true → old.chip.latch ≡ true
@@ -57,7 +57,7 @@ pub record OnlyReadsHonest (most : ℕ) (old new : BusState) : Type 0 where
   pub falls : Falls most old new
 
 -- Holds at every exit of a call that only reads: the bus was asked to send nothing that may modify a chip, and a
--- well-behaved bus carried out at most `most` transactions.
+-- punctual bus carried out at most `most` transactions.
 pub record OnlyReads (most : ℕ) (old new : BusState) : Type 0 where
   pub nature : KeepsNature old new
   pub sent : new.sent ≡ old.sent

@@ -19,11 +19,11 @@ use Rattle.nor_driver.specs.Limits.{Limits, limits_of, SendsExactly, Leaves}
 abbrev pub most_operation : ℕ
 most_operation = 65538
 
--- the first three bytes of `bytes` are the address `at`, high byte first
+-- holds if the first three bytes of `bytes` are the address `at`, high byte first
 abbrev pub BytesNameAddress : ℕ → List ℕ → Type 0
 BytesNameAddress at bytes = 65536 * slice_index bytes 0 + 256 * slice_index bytes 1 + slice_index bytes 2 ≡ at
 
--- the bytes `command` are `opcode`, the three bytes of the address `at` (high byte first), and the data `sent`
+-- holds if `command` is `opcode`, the three bytes of the address `at` (high byte first), and the data `sent`
 abbrev pub IsCommandAt : (opcode at : ℕ) → (sent command : List ℕ) → Type 0
 IsCommandAt opcode at sent command =
     (x : ℕ) × (y : ℕ) × (z : ℕ) × (65536 * x + 256 * y + z ≡ at) × (command ≡ opcode ∷ x ∷ y ∷ z ∷ sent)

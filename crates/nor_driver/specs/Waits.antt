@@ -38,8 +38,8 @@ pub record HasWaited (old new : BusState) (waited : Waited) : Type 0 where
   pub polls : waited.polls ≡ old.chip.busy + 1
   pub count : Spent waited.polls old new
 
--- Holds if a wait succeeded, with 1 to 65,536 polls. `keeps_other_replies`: for each test that is false for every poll,
--- the last reply to a transaction that passes the test is as before.
+-- Holds if a wait succeeded, with 1 to 65,536 polls. The last replies to all other transactions are as before
+-- (`keeps_other_replies`).
 pub record Waits (old new : BusState) (waited : Waited) : Type 0 where
   pub history : PollsUntilReady old.history new.history waited
   pub keeps_other_replies : KeepsReplies is_poll old.history new.history
@@ -50,7 +50,7 @@ pub record Waits (old new : BusState) (waited : Waited) : Type 0 where
   pub polled_ready : new.polled_ready ≡ true
   pub done : old.honest ≡ true → HasWaited old new waited
 
--- if the error is a timeout, it contains the address `at`
+-- holds if the error is `Stopped`, or a timeout that contains the address `at`
 abbrev pub NamesTimeout : ℕ → OperationError → Type 0
 NamesTimeout at Stopped = ⊤
 NamesTimeout at (Timeout address) = address ≡ at

@@ -29,7 +29,6 @@ pub fn poll<B: Bus>(bus: &mut B) -> Result<u8, Stopped>
 /// The reason why a wait, or an operation with its wait, did not complete.
 #[derive(Clone, Copy, Debug, PartialEq, Eq, Error)]
 pub enum OperationError {
-    /// The bus stopped.
     #[error("the bus stopped")]
     Stopped,
     /// Status 1 showed BUSY in 65,536 polls in a row. `address` is the address of the operation's command, or 0 for a
@@ -51,7 +50,6 @@ impl From<Stopped> for OperationError {
 pub struct Waited {
     /// Status 1, as the last poll received it.
     pub status1: u8,
-    /// The number of polls.
     pub polls: u32,
 }
 

@@ -21,9 +21,9 @@ pub data Failure : Type 0 where
   Unmade : Name → Failure
   -- a file or link of this name exists, or the file is a journal, which isn't truncated
   There : Name → Failure
-  -- the file can't be created, written or synced, its length can't be set, or its directory can't be synced; also: the
-  -- name no longer refers to the file that was written, or the file has another length (`still_has`), or the file no
-  -- longer has the vault that was sealed in it (`is_kept`)
+  -- The file can't be created, written or synced, its length can't be set, or its directory can't be synced. Or a later
+  -- run would not find what was written: the name refers to another file, or the file has another length (`still_has`)
+  -- or lost the vault that was sealed in it (`is_kept`).
   Unwritten : Name → Failure
   -- both names refer to one file
   Shared : Name → Name → Failure

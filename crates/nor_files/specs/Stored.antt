@@ -65,8 +65,8 @@ MayBe [] seen left = left ≡ seen
 MayBe (step ∷ earlier) seen left = (left ≡ seen) ⊎ (MayBe earlier (content_found step.before) left
     ⊎ Becomes step.change (MayBe earlier (content_found step.before)) left)
 
--- Holds if a host crash may leave `left`, which `May` says. If the first argument is true, the crash may also remove
--- the file. Otherwise `left` is a file if and only if a read finds one now.
+-- Holds if a host crash may leave `left`. A file that the crash may remove (`true`) is then missing, or `May` holds.
+-- Any other file satisfies `May`, and `left` is a file if and only if a read finds one now.
 abbrev pub OrMissing : Bool → Type 0 → (seen left : Found) → Type 0
 OrMissing true May seen left = (left ≡ None) ⊎ May
 OrMissing false May seen left = (is_some left ≡ is_some seen) × May

@@ -259,8 +259,8 @@ where
         sealed
     }
 
-    // Checks the name that `vault_in_new` was given, because this is the name of the vault that was taken back. Only
-    // the contract uses the argument, for the file of the failure, and it doesn't require that both names are equal.
+    // Ignores `_name`, since the file of the vault knows the name that was given to `vault_in_new`. Only the contract
+    // uses `_name`: it says which file may have been removed, replaced or changed.
     fn is_kept(&self, _name: &str) -> bool {
         match &self.vaulted {
             Some(file) if self.sealed => file.check().is_ok(),

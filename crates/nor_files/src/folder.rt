@@ -34,7 +34,7 @@ pub fn last_of(name: &str) -> Option<&str> {
     Path::new(name).file_name()
 }
 
-// True if the error means that a directory is missing, or may not be opened.
+// Returns whether the error means that a directory is missing, or may not be opened.
 fn cannot_open(kind: ErrorKind) -> bool {
     matches!(
         kind,
@@ -42,7 +42,7 @@ fn cannot_open(kind: ErrorKind) -> bool {
     )
 }
 
-// True if the error means that directories can't be synced on this file system.
+// Returns whether the error means that directories can't be synced on this file system.
 fn cannot_sync(kind: ErrorKind) -> bool {
     kind == ErrorKind::InvalidInput || kind == ErrorKind::Unsupported
 }

@@ -83,7 +83,7 @@ fn look_at<R: Files>(files: &R, stream: Stream) -> Option<Metadata> {
     }
 }
 
-/// True if both files have the same device and inode.
+/// Returns whether both files have the same device and inode.
 pub fn is_same(one: &Metadata, other: &Metadata) -> bool {
     one.dev() == other.dev() && one.ino() == other.ino()
 }

@@ -108,7 +108,7 @@ where
     }
 }
 
-// True if the name refers to something other than a regular file.
+// Returns whether the name refers to something other than a regular file.
 fn is_special<R: Files>(files: &R, name: &str) -> bool {
     match fs::metadata(files, name) {
         Ok(metadata) => !metadata.is_file(),
@@ -156,7 +156,7 @@ impl<F: OpenFile> LogFile<F> {
 
 impl<F: OpenFile + Read + Seek> LogFile<F> {
     /// Returns whether the file is empty, or begins with these bytes. A FIFO, a device or a terminal isn't read, and
-    /// the result is true. The file is read through the descriptor that is written later, so no other file is judged.
+    /// the result is true. The file is read through the descriptor that is written later, so both are the same file.
     pub fn is_empty_or_begins(&mut self, start: &[u8]) -> io::Result<bool> {
         if !self.is_old {
             return Ok(true);
@@ -175,7 +175,7 @@ impl<F: OpenFile + Read + Seek> LogFile<F> {
         Ok(true)
     }
 
-    /// Keeps the bytes of the file: it isn't truncated, and what is written follows them. Returns whether it has any.
+    /// Keeps the bytes of the file: writes append to it instead of truncating it. Returns whether the file has bytes.
     pub fn append(&mut self) -> io::Result<bool> {
         if !self.is_old {
             return Ok(false);
@@ -228,7 +228,6 @@ impl<'a, R: Files> VaultedFile<'a, R> {
         self.failed.get()
     }
 
-    // Syncs the file, and checks it.
     fn sync_and_check(&self) -> io::Result<()> {
         self.file.sync_all()?;
         self.check()

@@ -256,8 +256,8 @@ pub trait Store: AllocGlobal {
         ensures fails { OnErr result ((state self.old).view.nature.fails (Unwritten name.now) ≡ true) };
 
     /// Sets the length of the named file to `len` bytes. If the file grows, the added bytes are 0. For lawful files
-    /// without a borrowed vault or log, a host crash before the next sync may leave what it could leave before, or such
-    /// a content with its length changed to `len`.
+    /// without a borrowed vault or log, a host crash before the next sync may leave what it could leave before, with
+    /// its own length or with the length `len`.
     fn set_len(&mut self, name: &str, len: u64) -> io::Result<()>
         ensures nature { (state self.new).view.nature ≡ (state self.old).view.nature }
         ensures alone { is_lawful (state self.old).view ≡ true
@@ -289,8 +289,8 @@ pub trait Store: AllocGlobal {
     /// If the file exists, `Disk` returns `There`, unless the program is out of memory. Lawful files always return
     /// `There` if the file exists and no vault or log in it is borrowed.
     ///
-    /// Let a call fail on lawful files, and let no vault or log in the file be borrowed before. Then a host crash can
-    /// leave only what it could leave of the file before, or an empty file if the file was missing.
+    /// If this call fails on lawful files, and no vault or log in the file was borrowed before, a host crash can leave
+    /// of the file only what it could leave before, or an empty file if the file was missing.
     fn vault_in_new(&mut self, name: &str) -> Result<Self::Filed, CreateFault>
         ensures nature { (state self.new).view.nature ≡ (state self.old).view.nature }
         ensures fresh { IfOk result (λ vault. IsFresh (Self.Filed.state vault)) }

@@ -43,9 +43,9 @@ pub struct Step {
 pub enum Loss {
     /// Nothing: only the process was killed.
     Nothing,
-    /// The host crashed. The changes since the last sync are lost. A file that was created is lost, too, if its
-    /// directory wasn't synced since. But a file that was created for a vault or log since the last sync of the file
-    /// keeps its present bytes, if a host crash can't remove it.
+    /// The host crashed. The changes since the last sync are lost, and so is a file that was created if its directory
+    /// wasn't synced since. Exception: a file that was created for a vault or log since its last sync keeps its present
+    /// bytes, if a host crash can't remove it.
     Unsynced,
 }
 
@@ -95,7 +95,7 @@ impl Stored {
         self.name.as_slice() == name
     }
 
-    /// True if the file exists and neither a vault nor a log in it is borrowed.
+    /// Returns whether the file exists and neither a vault nor a log in it is borrowed.
     pub fn is_at_hand(&self) -> bool
         ensures { result ≡ (is_some self.now.content && not self.now.out) }
     {

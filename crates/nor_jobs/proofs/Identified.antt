@@ -48,8 +48,6 @@ module _ (named : Option ChipName) (old new : BusState) where
         honest = rw failed.1 at is.honest;
       }
 
-  -- ---- an error of the identification is the fault of the run
-
   pub found_first : (outcome : Result Found Refusal) (result : Result Found Fault) → HasIdentified named old new outcome
       → IsReportedAs outcome result → IfOk result (λ found. HasIdentified named old new (Ok found))
   found_first (Ok found) result is returned = rw returned is

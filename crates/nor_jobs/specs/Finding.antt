@@ -40,7 +40,7 @@ pub record HasLookedUp (reports : Found → Answer → Type 0) (named : Option C
   pub identified : HasIdentified named old new result
   pub returned : AnswersCall reports result outcome
 
--- Holds if the identification returned an error, after which nothing was sent, and which is the fault of the run.
+-- Holds if the identification (from `old` to `new`) returned an error, and this error is the fault of the run.
 abbrev pub FailsToFind : Option ChipName → (old new : BusState) → Fault → Type 0
 FailsToFind named old new fault =
     (refusal : Refusal) × HasIdentified named old new (Err refusal) × (fault ≡ end.Refused refusal)

@@ -23,7 +23,7 @@ pub fn journal_in<'a, 'b>(bytes: &'b [u8]) -> Result<Journal<'b>, Fault<'a>>
     }
 }
 
-// True for a prefix of the first eight bytes, too.
+// Returns whether `bytes` begin with the first eight bytes of a journal, or are a prefix of these.
 fn begins_as_journal(bytes: &[u8]) -> bool {
     let start = match bytes.get(..MAGIC.len()) {
         Some(start) => start,

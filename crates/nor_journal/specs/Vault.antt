@@ -7,8 +7,8 @@ use Rattle.nor_journal.specs.declared.vault.VaultFault.{VaultFault}
 pub record VaultState : Type 0 where
   -- true for a faithful vault, which holds exactly the bytes it accepted
   pub telling : Bool
-  -- The accepted bytes, in order. Of a vault that isn't faithful, contracts know only that they aren't empty if it
-  -- accepted a byte and isn't sealed.
+  -- The accepted bytes, in order. If the vault isn't faithful, contracts know only that they aren't empty after a byte
+  -- was accepted and before the seal.
   pub bytes : List ℕ
   -- true if the vault was sealed
   pub sealed : Bool

@@ -164,7 +164,7 @@ pub fn one_fault()
     ensures { (bytes : List ℕ) (f g : JournalFault) → HasFault bytes f → HasFault bytes g → f ≡ g }
 {}
 
-/// A law: a valid content saves `bytes` for a sector if and only if one of its records has its number and these bytes.
+/// A law: `saved_in` finds `bytes` for a sector of a valid content if and only if a record has its number and `bytes`.
 pub fn one_record()
     ensures { (c : Content) (sector : ℕ) (bytes : List ℕ) → IsContent c
         → saved_in c.saved sector ≡ Some bytes ↔ HasRecord c sector bytes }

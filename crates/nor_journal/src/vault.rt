@@ -37,8 +37,8 @@ pub trait Vault {
         requires { (state self.old).sealed ≡ false }
         ensures { Puts (state self.old) piece.now result (state self.new) };
 
-    /// Seals the vault, so that its bytes are complete. The vault must be unsealed, and stays so if the call fails. If
-    /// it stores journals permanently, it must make the bytes durable first, although no clause requires that.
+    /// Seals the vault, so that its bytes are complete. The vault must be unsealed, and stays so if the call fails. A
+    /// vault that stores journals permanently must first make its bytes durable, although no clause requires that.
     fn seal(&mut self) -> Result<(), VaultFault>
         requires { (state self.old).sealed ≡ false }
         ensures { Seals (state self.old) result (state self.new) };

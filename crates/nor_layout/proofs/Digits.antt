@@ -9,7 +9,7 @@ use Rattle.nor_layout.specs.Address.{is_hex_digit, hex_value, digits_number}
 pub digit_is : (byte : ℕ) → digit_value byte < 16 → (is_hex_digit byte ≡ true) × (digit_value byte ≡ hex_value byte)
 digit_is byte below = grind (arith, nat_tests)
 
--- Reading one more digit keeps the number that `value`, followed by the remaining digits, encodes.
+-- After one more digit was read, `value` followed by the remaining digits encodes the same number as before.
 pub number_of-more : (digits : List ℕ) (i value : ℕ) → i < length digits
     → value * 16 ^ (length digits - i) + digits_number (drop i digits) ≡ (value * 16 + hex_value (get_or digits i 0)) * 16 ^ (length digits - (i + 1)) + digits_number (drop (i + 1) digits)
 number_of-more digits i value lt =

@@ -64,8 +64,6 @@ without_spaces-taken [] [] blank all = refl
 without_spaces-taken [] (b ∷ name) blank all = grind (arith, nat_tests)
 without_spaces-taken (b ∷ spaces) name blank all = grind (arith, nat_tests, without_spaces-taken spaces name)
 
--- ---- lines
-
 digits_lack : (byte : ℕ) → is_hex_digit byte ≡ false → (digits : List ℕ) → list_all is_hex_digit digits ≡ true
     → lacks byte digits ≡ true
 digits_lack byte other [] all = refl

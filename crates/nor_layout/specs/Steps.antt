@@ -45,7 +45,7 @@ pub record IsNext (done : ℕ) (spans : List Span) (next : Span) : Type 0 where
 abbrev pub IsNextOrNone : (done : ℕ) → List Span → Option Span → Type 0
 IsNextOrNone done spans next = MatchOption next (EndBelow done spans) (IsNext done spans)
 
--- the one of `next` and `span` that begins first, or `next` if both begin at the same address
+-- `span` if it begins before `next`, or if `next` is `None`; otherwise `next`
 abbrev pub first_of : Option Span → Span → Option Span
 first_of None span = Some span
 first_of (Some next) span = if nat_le next.first span.first then Some next else Some span

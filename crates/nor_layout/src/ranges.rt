@@ -65,7 +65,7 @@ fn has_backwards(spans: &[Span]) -> bool
     spans.iter().any(|span| span.last < span.first)
 }
 
-// Returns the one of `next` and `span` that begins first. A `span` that ends below the address `done` is ignored.
+// Returns `span` if it begins before `next`, otherwise `next`. Ignores a `span` that ends below the address `done`.
 fn sooner(next: Option<Span>, span: &Span, done: u64) -> Option<Span>
     ensures { result ≡ sooner next span.now done }
 {

@@ -85,8 +85,8 @@ abbrev pub descriptor_says : (size : ℕ) → (image : List ℕ) → Result (Lis
 descriptor_says size image =
     if nat_lt (length image) 4096 then Err Short else entries_say size image (signature_at image)
 
--- Holds for the faults that a descriptor may have: its at most 16 names are valid and differ, so a layout can have
--- them.
+-- Holds for the faults that a descriptor may have. None of these is about a name or the number of regions, because the
+-- names (at most 16) are valid and differ.
 abbrev pub IsDescriptorFault : MapFault → Type 0
 IsDescriptorFault (InRecord index Name) = ⊥
 IsDescriptorFault (InRecord index Twice) = ⊥

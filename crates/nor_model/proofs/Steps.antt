@@ -20,6 +20,6 @@ carried-agrees x y _ same = cc
 pub done-agrees : (x y : Chip) (out : List ℕ) (replies : ℕ) → Agrees x y → done_of y out replies ≡ done_of x out replies
 done-agrees x y out replies same = cc (carried-agrees x y (command_of y.config out replies) same)
 
--- A bus that stops before the first byte therefore satisfies `AtStop`.
+-- A transaction that sends and reads no bytes leaves the chip as it is, so a bus may stop before the first byte.
 pub nothing_sent : (chip : Chip) → Step chip [] [] chip
 nothing_sent chip = search arith

@@ -11,11 +11,11 @@ code_of kept = 32 * cmp_bit kept + sec_to_bp0 kept
 abbrev pub bp_of : (code : ℕ) → ℕ
 bp_of code = code % 8
 
--- true if TB is set, so that the selected range is at the start of the chip and not at its end
+-- true if TB is set, so that the selected range is at the start of the chip instead of its end
 abbrev pub is_bottom : (code : ℕ) → Bool
 is_bottom code = code / 8 % 2 == 1
 
--- true if SEC is set, so that BP 001 to 101 select 4 to 32 KiB and not a fraction of the chip
+-- true if SEC is set, so that BP 001 to 101 select 4 to 32 KiB instead of a fraction of the chip
 abbrev pub names_sectors : (code : ℕ) → Bool
 names_sectors code = code / 16 % 2 == 1
 

@@ -50,8 +50,8 @@ abbrev pub names : (opcode address : ℕ) → (out : List ℕ) → Bool
 names opcode address (first ∷ x ∷ y ∷ z ∷ rest) = first == opcode && 65536 * x + 256 * y + z == address
 names opcode address _ = false
 
--- Holds if `old` and `new` have the same last reply for each test `is` that is false whenever `may` is true. For
--- example, if `may` is the test for 9Fh, the last reply to a poll is the same.
+-- Holds if `old` and `new` have the same last replies, except to transactions that satisfy `may`. For example, if `may`
+-- is the test for 9Fh, the last reply to a poll is the same.
 pub record KeepsReplies (may : List ℕ → Bool) (old new : List Exchange) : Type 0 where
   pub same : (is : List ℕ → Bool) → ((out : List ℕ) → may out ≡ true → is out ≡ false)
       → last_reply is new ≡ last_reply is old

@@ -20,7 +20,7 @@ abbrev pub polled_ready_by : (out : List ℕ) → (reply : Option (List ℕ)) �
 polled_ready_by out (Some answer) before = polled_ready_after out answer before
 polled_ready_by out None before = before
 
--- True if, in this history, the last poll that received a reply byte showed that the chip is ready. False without one.
+-- True if, in this history, the last poll with a reply byte showed a ready chip. False if there was no such poll.
 abbrev pub polled_ready_in : List Exchange → Bool
 polled_ready_in [] = false
 polled_ready_in (exchange ∷ earlier) = polled_ready_by exchange.out exchange.reply (polled_ready_in earlier)

@@ -74,7 +74,7 @@ Sent = List (List ℕ)
 abbrev pub with_sent : (out : List ℕ) → Sent → Sent
 with_sent out before = if begins_quiet out then before else out ∷ before
 
--- the list `Sent` that belongs to a history
+-- the transactions of this history that may modify a chip, the last one first
 abbrev pub sent_in : List Exchange → Sent
 sent_in [] = []
 sent_in (exchange ∷ earlier) = with_sent exchange.out (sent_in earlier)

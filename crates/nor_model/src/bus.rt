@@ -20,11 +20,11 @@ impl std::error::Error for Stopped {}
 
 /// A bus to a chip. A transaction sends the bytes `out`, and then fills `reply` with the bytes that it reads.
 ///
-/// Contracts see a bus as a `BusState`. A *well-behaved* bus (`honest`) carries out a transaction, which is one step of
-/// the chip, or stops. A *punctual* bus stops if and only if it has no transaction left; any other may stop at any
+/// Contracts see a bus as a `BusState`. A *well-behaved* bus (`honest`) carries out each transaction as the modelled
+/// chip would, or stops. A *punctual* bus stops if and only if it has no transaction left; any other may stop at any
 /// transaction. Clauses that count transactions are about punctual buses. An *unlimited* bus takes transactions of any
-/// length, any other well-behaved bus those that send at most 260 bytes (a page program) and read at most 4,096 (a
-/// sector). For longer ones only `nature` and `records` of `Transfers` hold.
+/// length. Any other well-behaved bus takes those that send at most 260 bytes (a page program) and read at most 4,096
+/// (a sector) plus `longer`. For others only `nature` and `records` of `Transfers` hold.
 ///
 /// If a *steady* bus stops, it sends no byte of the transaction and keeps the chip's power. Any other bus that stops
 /// may have sent the first bytes and lost bytes of the reply, and the chip may have lost its power.
@@ -40,7 +40,7 @@ pub trait Bus {
         ensures { Transfers out.now reply.old reply.new result (state self.old) (state self.new) };
 
     /// Returns whether the chip may be of a further type, which only programs for real chips know. A bus to a real chip
-    /// returns true, a bus around another bus what that one returns, and a well-behaved bus false.
+    /// returns true, a well-behaved bus false, and a bus that wraps another one what the inner bus returns.
     fn has_further_types(&self) -> bool
         ensures further { result ≡ (state self.now).further }
         ensures honest { (state self.now).honest ≡ true → result ≡ false };

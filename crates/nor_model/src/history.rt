@@ -61,7 +61,7 @@ impl History {
         self.with(&Event::Allowed(n))
     }
 
-    // Nothing happens at run time, because the lists exist only in the proof.
+    // Adds an event. Nothing happens at run time, because the lists exist only in the proof.
     #[inline(always)]
     fn with(&self, _event: &Event<'_>) -> History
         ensures { (result.exchanges ≡ exchanges_with _event.now self.now.exchanges)

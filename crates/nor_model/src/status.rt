@@ -25,7 +25,7 @@ bitflag_items! {
         const BP2 = 0x10;
         /// Set if the range that BP selects is at the start of the chip, clear if it is at the end.
         const TB = 0x20;
-        /// Set if BP 001 to 101 select 4 to 32 KiB, clear if they select a fraction of the chip.
+        /// If set, BP 001 to 101 select 4, 8, 16, 32 and 32 KiB; if clear, they select 1/64 to 1/4 of the chip.
         const SEC = 0x40;
         /// Locks the status registers if set. (On a real chip with only SRP0 set, they are locked only while the WP#
         /// pin is low; the model assumes that it is low.)
@@ -104,7 +104,7 @@ impl Status1 {
 
     const FIXED: Status1 = Status1(Self::KEPT.0 & !Self::CODE.0);
 
-    /// Returns these bits with WEL set if `latch`, and with BUSY set if `busy`. Both must be clear before.
+    /// Returns these bits with WEL set if `latch`, and BUSY set if `busy`. WEL and BUSY must be clear in these bits.
     #[tactic(auto, using(crate::proofs::StatusBits::or_latch, crate::proofs::StatusBits::or_busy))]
     pub fn with(self, latch: bool, busy: bool) -> Status1
         requires { self.0 % 4 ≡ 0 }

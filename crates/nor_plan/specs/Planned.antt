@@ -15,8 +15,8 @@ holds_run set from count = list_all set (range_with_len from count)
 abbrev pub holds_block : (ℕ → Bool) → (count sector : ℕ) → Bool
 holds_block set count sector = holds_run set (sector - sector % count) count
 
--- The erase block for `sector`, a sector of `set`: the whole chip if `whole` is true, otherwise the largest block of
--- 64, 32 and 4 KiB that contains `sector`, lies in the set and is an erase type of the chip.
+-- The kind of erase block for `sector`, which is in `set`: the whole chip if `whole` is true, otherwise the largest
+-- kind (64, 32 or 4 KiB) that the chip has, and whose block with `sector` lies in the set.
 unfoldable pub planned_block : Bool → Kinds → (ℕ → Bool) → ℕ → EraseBlock
 planned_block whole kinds set sector =
     if whole then Chip

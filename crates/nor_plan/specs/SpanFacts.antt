@@ -1,11 +1,11 @@
--- Properties of spans: each differing byte lies in a span.
+-- The properties of spans: a span reaches from the first to the last differing byte of a page.
 use Rattle.std.specs.Prelude.{ℕ, ◌≡◌, ◌<◌, ◌≤◌, ◌/◌, Bool, false, ◌&&◌, nat_le, List, length, slice_index, All, Any, AllPairs}
 use Rattle.std.specs.List.{list_any}
 use Rattle.nor_plan.specs.declared.page.PageSpan.{PageSpan}
 use Rattle.nor_plan.specs.Bytes.{DifferAt}
 use Rattle.nor_plan.specs.Span.{pages_changed}
 
--- Holds if `span` reaches from the first to the last byte of one page in which `old` and `target` differ.
+-- Holds if, in one page, `old` and `target` differ first at the start of `span`, and last at its end.
 pub record IsSpan (old target : List ℕ) (span : PageSpan) : Type 0 where
   pub one_page : span.first / 256 ≡ span.last / 256
   pub order : span.first ≤ span.last

@@ -52,7 +52,7 @@ fn first_difference(a: &[u8], b: &[u8]) -> Option<usize>
     first_from(a, b, agreeing(a, b))
 }
 
-/// The slices must agree in all bytes before `from`.
+/// Returns the position of the first byte that differs. The slices must agree in all bytes before `from`.
 fn first_from(a: &[u8], b: &[u8], from: usize) -> Option<usize>
     requires same_length { length a.now ≡ length b.now }
     requires within { from ≤ length a.now }

@@ -28,7 +28,7 @@ impl Plan {
         ensures touched { MatchBool result.touched (SomeDiffer old.now target.now) (AllAgree old.now target.now) }
         ensures raised { MatchBool result.raised (SomeRise old.now target.now) (NoneRises old.now target.now) }
         ensures needed { result.raised ≡ true → result.touched ≡ true }
-        // The result also holds for functions from positions to bytes that have these bytes.
+        // `IsPlan` holds for all functions from positions to bytes that begin with the bytes of the two slices.
         ensures anywhere { (content wanted : ℕ → ℕ) → AreBytesOf content old.now → AreBytesOf wanted target.now
             → IsPlan content wanted (length old.now) result }
     {

@@ -78,7 +78,7 @@ pub record Finds (old new : BusState) (found : Found) : Type 0 where
   pub count : Spent (needed old.chip) old new
 
 -- Holds if the configuration is that of a known chip with the ID, size, erase types and block protection of `found`.
--- For a genuine chip this follows from `shown_as config ≡ Ok (part_in found)`, which also gives the name.
+-- For a genuine chip this follows if `found` is what the chip shows (`shown_as`).
 pub record IsConfigOf (config : Config) (found : Found) : Type 0 where
   pub known : IsKnown config
   pub id : found.id ≡ id_of config
@@ -113,7 +113,7 @@ ProbeErrors named old new Timeout = ⊥
 
 -- The promises of a probe on every bus.
 pub record ProbeAlways (named : Option ChipName) (old new : BusState) (result : Result Found ProbeFault) : Type 0 where
-  -- no modifying command was sent; on a well-behaved bus, at most 65,540 transactions were carried out
+  -- no modifying command was sent; on a punctual bus, at most 65,540 transactions were carried out
   pub only_reads : OnlyReads most_probe old new
   -- the row of a chip found is the one that applies on this bus
   pub part : IfOk result (IsPart old.further)

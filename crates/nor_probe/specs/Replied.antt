@@ -34,8 +34,8 @@ pub record IsTypeBySfdp (history : List Exchange) (part : Part) : Type 0 where
   pub says : sfdp_says header first table ≡ Ok geometry
   pub is : part ≡ sfdp_part part.id geometry
 
--- Holds if `found` is what the bus replied: its ID to the last 9Fh, its status 1 to the last poll and, if no row
--- applies to the ID, its size and erase types to reads of the SFDP.
+-- Holds if `found` is what the bus replied: its ID to the last 9Fh, and its status 1 to the last poll. If no row
+-- applies to the ID, its size and erase types are those that reads of the SFDP returned.
 pub record IsFoundBy (further : Bool) (history : List Exchange) (found : Found) : Type 0 where
   pub id : last_reply (begins_with 0x9F) history ≡ found.id
   pub status1 : last_reply is_poll history ≡ found.status1 ∷ []

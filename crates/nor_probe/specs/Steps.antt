@@ -41,7 +41,7 @@ pub record IsIdentified (further : Bool) (of_id : List ℕ) (part : Part) : Type
   pub sized : is_chip_size part.size ≡ true
   pub reads : reads_under part.name ≡ reads_for further of_id
 
--- Holds on a well-behaved bus after the parts of the SFDP were read.
+-- Holds on a well-behaved bus after the header, the first parameter header and the table of the SFDP were read.
 pub record ReadsParameters (old new : BusState) (parameters : Parameters) : Type 0 where
   pub rested : Rested old new
   pub count : Spent 3 old new

@@ -30,7 +30,6 @@ pub enum ProbeFault {
     /// The chip was identified, and has another name than the given one.
     #[error("the chip has another name")]
     OtherName,
-    /// The bus stopped.
     #[error("the bus stopped")]
     Stopped,
     /// 65,536 polls in a row showed BUSY.

@@ -133,7 +133,7 @@ fn is_basic_table(first: &[u8; 8]) -> bool
     first[0] == 0 && first[2] == 1
 }
 
-// Bits 17 and 18 of double word 1: 0 for three-byte addresses, 1 for three or four, 2 for four only; 3 is reserved.
+// Returns bits 17 and 18 of double word 1: 0 for three-byte addresses, 1 for three or four, 2 for four; 3 is reserved.
 #[tactic(auto, unfolding(crate::specs::Sfdp::address_mode))]
 fn address_bits(table: &[u8; 36]) -> u32
     ensures { result ≡ address_mode table.now }

@@ -24,8 +24,6 @@ use Rattle.nor_read.specs.Verifying.{AgreeIn, IsFirstOther, FindsFirst}
 use Rattle.nor_read.specs.Verifying.{ReadsDifference, ComparesReply, ComparesPart, ComparesBelow}
 use Rattle.nor_read.proofs.Onward.{read_after, read_then}
 
--- ---- one sector
-
 in_sector : (Holds : ℕ → Type 0) (sector : ℕ) → ((i : ℕ) → i < 4096 → Holds (4096 * sector + i)) → (a : ℕ)
     → 4096 * sector ≤ a → a < 4096 * (sector + 1) → Holds a
 in_sector Holds sector each a above below =
@@ -155,8 +153,6 @@ module _ (included : Option (List Span)) (image : List ℕ) {bytes : List ℕ} {
     honest_reads = has_only_read-one only_reads reads.read (λ ready. same ∙ ready);
     errors = λ honest idle inside. finds old.chip.bytes (reads.replied honest idle inside).byte;
   }
-
--- ---- all sectors
 
 module _ (included : Option (List Span)) (image : List ℕ) (content : ℕ → ℕ) (from mid : ℕ) where
   agree_more : (to : ℕ) → AgreeIn included image content from mid → AgreeIn included image content mid to

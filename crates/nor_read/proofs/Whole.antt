@@ -20,8 +20,8 @@ use Rattle.nor_request.specs.Errors.{IdentificationErrors, EndsAtError}
 use Rattle.nor_read.specs.Finding.{IsModelled, HasFound, IsNamed, IsPassed, IsTaken}
 use Rattle.nor_read.specs.Finding.{ReportsPart, ReportsReads, ReadingErrors, most_read}
 
--- Holds if no modifying command was sent, and the transactions are within the bounds on a well-behaved and modelled
--- bus.
+-- Holds if no modifying command was sent, and the transactions are within the bounds for a well-behaved bus and for a
+-- modelled one.
 pub record Sends (old new : BusState) : Type 0 where
   pub largest : OnlyReads (most_read 16777216) old new
   pub own : IsModelled old → OnlyReads (most_read old.chip.config.size) old new
@@ -31,8 +31,6 @@ pub record OperationFails (old new : BusState) : Type 0 where
   pub last : EndsStopped new.history
   pub largest : old.honest ≡ true → RanOut (most_read 16777216) old new
   pub own : IsModelled old → RanOut (most_read old.chip.config.size) old new
-
--- ---- if no chip is found
 
 pub find_errors : (most : ℕ) (named : Option ChipName) (old new : BusState) (refusal : Refusal) → most_probe ≤ most
     → IdentificationErrors most_probe named old new refusal → old.honest ≡ true → ReadingErrors most named old new refusal
@@ -49,8 +47,6 @@ find_ends most named old new _ errors = search
 
 pub sends_probe : {old new : BusState} → OnlyReads most_probe old new → Sends old new
 sends_probe only_reads = search (arith, only_reads_more)
-
--- ---- if a chip is found
 
 abbrev pub report_of : Probed → (reads : ℕ) → Report
 report_of probed reads =

@@ -93,9 +93,9 @@ IsFindRefusal Stopped = ⊤
 IsFindRefusal (Timeout address) = address ≡ 0
 IsFindRefusal _ = ⊥
 
--- The meaning of errors on a well-behaved bus. A stop means that fewer than `most` transactions were left at the start,
--- and that none is left. A timeout does not occur. After any error except a stop, contents and non-volatile status bits
--- are as before.
+-- The meaning of errors on a well-behaved bus. On a punctual bus a stop means that fewer than `most` transactions were
+-- left at the start, and none is left now. A timeout does not occur. After any error except a stop, contents and
+-- non-volatile status bits are as before.
 abbrev pub ReadingErrors : ℕ → Option ChipName → (old new : BusState) → Refusal → Type 0
 ReadingErrors most named old new NoChip = ProbeErrors named old new Probes.NoChip
 ReadingErrors most named old new (UnknownChip fault) = ProbeErrors named old new (Probes.UnknownChip fault)

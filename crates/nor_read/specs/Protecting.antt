@@ -36,7 +36,7 @@ IsProtectionRefusal refusal = IsFindRefusal refusal
 
 -- The promises of `wp_status` on every bus.
 pub record ProtectionAlways (old new : BusState) (result : Result Protection Refusal) : Type 0 where
-  -- No modifying command was sent. On a well-behaved bus at most 65,541 transactions were sent.
+  -- No modifying command was sent. On a punctual bus at most 65,541 transactions were sent.
   pub only_reads : OnlyReads most_status old new
   pub sized : IfOk result (λ protection. is_chip_size protection.size ≡ true)
   pub refuses : IfErr result IsProtectionRefusal

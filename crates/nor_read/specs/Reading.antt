@@ -56,7 +56,7 @@ IsReadRefusal vault vault' refusal = IsFindRefusal refusal × Accepted vault vau
 -- The promises of `read_out` on every bus and with every vault.
 pub record ReadOutAlways (named : Option ChipName) (included : Option (List Span)) (old new : BusState)
     (vault vault' : VaultState) (result : Result Report Refusal) : Type 0 where
-  -- On a well-behaved bus, the number of transactions is at most the bound for the largest chip, of 16 MiB.
+  -- On a punctual bus, the number of transactions is at most the bound for the largest chip, of 16 MiB.
   pub only_reads : OnlyReads (most_read 16777216) old new
   pub reports : IfOk result (ReportsPart named old.further)
   pub fits : IfOk result (λ report. FitsInto included report.found.size)
@@ -149,8 +149,8 @@ pub record BreaksCopy (included : Option (List Span)) (size written : ℕ) (old 
   pub took : TakesPart written vault vault'
   pub copy : IsOpen size old → vault.telling ≡ true → Copies included old.chip.bytes written vault vault'
 
--- The meaning of an error of the copy. After a stop on a well-behaved bus, fewer transactions were left at the start
--- than a chip of `size` bytes has sectors.
+-- The meaning of an error of the copy. After a stop on a punctual bus, fewer transactions were left at the start than a
+-- chip of `size` bytes has sectors.
 abbrev pub CopyErrors : Option (List Span) → ℕ → (old new : BusState) → (vault vault' : VaultState) → Refusal → Type 0
 CopyErrors included size old new vault vault' Stopped = HasStopped (size / 4096) old new × Accepted vault vault'
 CopyErrors included size old new vault vault' (Output written) = BreaksCopy included size written old new vault vault'

@@ -89,7 +89,7 @@ HasReadBack included image old new (Err refusal) = ⊤
 -- The promises of `verify` on every bus.
 pub record VerifyAlways (named : Option ChipName) (included : Option (List Span)) (image : List ℕ) (old new : BusState)
     (result : Result Report Refusal) : Type 0 where
-  -- On a well-behaved bus, the number of transactions is at most the bound for the largest chip, of 16 MiB.
+  -- On a punctual bus, the number of transactions is at most the bound for the largest chip, of 16 MiB.
   pub only_reads : OnlyReads (most_read 16777216) old new
   pub reports : IfOk result (ReportsPart named old.further)
   pub fits : IfOk result (λ report. FitsInto included report.found.size)

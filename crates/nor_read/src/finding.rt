@@ -10,7 +10,7 @@ use nor_probe::{ChipName, Probed, probe_counted};
 use nor_request::{Refusal, Report};
 
 /// Waits until the chip is ready, and identifies it by its ID or SFDP. If `named` is given, the chip must have that
-/// name. On a well-behaved bus at most 65,540 transactions are sent.
+/// name. On a punctual bus at most 65,540 transactions are sent.
 ///
 /// Returns error 1 (no chip), 2 (unknown chip), 3 (other name), 12 (the bus stopped) or 13 with address 0 (the chip
 /// stayed busy; not on a well-behaved bus).

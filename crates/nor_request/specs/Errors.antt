@@ -23,8 +23,8 @@ IdentificationErrors most named old new (Timeout address) =
     (address ≡ 0) × EndsBusy new.history × (old.honest ≡ true → ⊥)
 IdentificationErrors most named old new _ = ⊥
 
--- Holds for the history after a call that returned this error: the bus stopped at the last transaction (12), or this
--- was a poll that showed BUSY (13), or a read of the sector with the error's address (14).
+-- The last transaction before this error: for error 12 one at which the bus stopped, for error 13 a poll that showed
+-- BUSY, and for error 14 a read of the sector with the error's address. Nothing is stated for other errors.
 abbrev pub EndsAtError : Refusal → List Exchange → Type 0
 EndsAtError Stopped history = EndsStopped history
 EndsAtError (Timeout address) history = EndsBusy history

@@ -37,8 +37,6 @@ use Rattle.nor_journal.specs.Saved.{IsJournalPrefix}
 use Rattle.nor_plan.specs.Content.{is_touched, is_raised}
 use Rattle.nor_request.specs.Request.{wanted}
 
--- ---- what a scan has written to the journal
-
 put_begins : {V : Type 0} {state : V → VaultState} {writer : Writer V} {c : Content} → HasWritten state writer c
     → (vault_seen state writer).telling ≡ true → StartsWith (front c) (vault_seen state writer).bytes
 put_begins {c = c} written faithful = rw (written.put.held faithful) (take_all (length (front c)) (front c) (omega arith))
@@ -75,8 +73,6 @@ cut_in_record {state = state} {writer = writer} {head = head} {chip = chip} {n =
     (Saves-more chip _ (λ s. nat_lt s (n + 1) && touched s) kept.content n bytes kept.saves
     (may_follow state writer head chip _ n n kept (omega arith) inside) sector (one_more_below touched n is))
     (omega (arith, next_number-with_sector kept.content n bytes)) (omega arith) (holds faithful))
-
--- ---- a chip with this identification
 
 abbrev touched_of : Request → (image : List ℕ) → Chip → (s : ℕ) → Bool
 touched_of request image chip = is_touched chip.bytes (wanted request image chip)
@@ -163,8 +159,6 @@ judged_errors {image = image} code StatusLocked scans is judges =
 judged_errors {image = image} code (Protected address) scans is judges =
     λ chip opened shows accepts. judges chip image opened accepts (touched_right opened shows scans)
 judged_errors code _ scans is judges = absurd is
-
--- ---- an incomplete journal, after an error
 
 pub cut_in_head : (request : Request) (image : List ℕ) (seen vault : VaultState) {identity : Identity} {status : List ℕ}
     {old : BusState} → (old.honest ≡ true → IsChip old.chip) → status ≡ kept_read identity

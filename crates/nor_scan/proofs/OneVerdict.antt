@@ -25,8 +25,6 @@ use Rattle.nor_scan.specs.Saving.{AsksForNone, NeedsStatus, NoneProtected, SomeP
 use Rattle.nor_scan.specs.Verdict.{IsNamed, NeedsStatusWrite, RefusalHolds, IsVerdict, IsAccepted, NoneHoldsTo, IdentityAccepts, ScanAccepts}
 use Rattle.nor_scan.proofs.Planned.{untouched}
 
--- ---- the checks of the code, in order
-
 pub record FitsChip (request : Request) (image : ℕ) (chip : Chip) : Type 0 where
   pub image_size : is_data request.what ≡ true → image ≡ chip.config.size
   pub regions : is_data request.what ≡ true → ¬ ReachesPast request.included chip.config.size
@@ -65,8 +63,6 @@ pub record ScanPasses (request : Request) (code : ℕ) (touched : ℕ → Bool) 
   pub free : unlock ≡ false → NoneProtected touched chip
   pub not_locked : is_locked chip.kept ≡ true → ¬ NeedsStatus request.what request.unlock code touched chip
 
--- ---- the request
-
 asks_for_range : (what : What) (chip : Chip) → AsksForNone what chip → is_data what ≡ false
 asks_for_range (WpRange start len) chip none = refl
 asks_for_range _ chip none = absurd none
@@ -101,8 +97,6 @@ needs_unlock _ unlock code touched chip about_bytes off needs = let on = needs.0
 
 never_lifted : (unlock lifted : Bool) → (lifted ≡ true → unlock ≡ true) → unlock ≡ false → lifted ≡ false
 never_lifted unlock lifted asked off = grind arith
-
--- ---- no error with a lower number applies
 
 pub record IsClear (request : Request) (image : List ℕ) (chip : Chip) (n : ℕ) : Type 0 where
   pub few : n ≤ 9
@@ -140,8 +134,6 @@ module _ {request : Request} {image : List ℕ} {chip : Chip} where
       → RefusalHolds request image chip refusal → IsVerdict request image chip refusal
   first_of refusal is holds = record { holds = holds; first = λ other. none_below other is }
 
-  -- ---- the errors of the check against the identification
-
   pub opening_judged : (refusal : Refusal) → IsNamed request.named chip.config
       → OpeningJudges request (length image) chip refusal → IsVerdict request image chip refusal
   opening_judged (ImageSize size len) named judges = first_of (ImageSize size len) (search (rules, arith))
@@ -162,8 +154,6 @@ module _ {request : Request} {image : List ℕ} {chip : Chip} where
       none_or_code request.what chip code none passes.is_wanted in
       let clear : IsClear request image chip 9 = search (rules, arith) in
       record { clear = λ refusal low. none_below refusal clear (omega arith); is_wanted = passes.is_wanted }
-
--- ---- the errors of the check against the touched sectors
 
 pub some_protected-found : (touched : ℕ → Bool) (chip : Chip) (found : Option ℕ)
     → MatchOption found (NoneProtected touched chip) (IsLeastProtected touched chip)
@@ -235,8 +225,6 @@ module _ {request : Request} {image : List ℕ} {chip : Chip} {code : ℕ} {touc
         lifts = passes.lifts;
         free = passes.free;
       }
-
--- ---- an accepted request has no error as its verdict
 
 pub accepted_only : (request : Request) (image : List ℕ) (chip : Chip) (refusal : Refusal)
     → IsAccepted request image chip → IsVerdict request image chip refusal → ⊥

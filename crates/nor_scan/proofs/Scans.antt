@@ -57,8 +57,6 @@ pub record HasScanned (request : Request) (size n : ℕ) (image image' : List �
       → slice_index image' a ≡ wanted_at request image size old.chip.bytes a
   pub rest : (a : ℕ) → 4096 * n ≤ a → slice_index image' a ≡ slice_index image a
 
--- ---- marking a sector as touched or raised
-
 -- `seen` says whether sector `s` was seen, and `old` whether `s` was seen and passes a test. If sector `n` is seen now,
 -- too, and passes the test if and only if `verdict` is true, then `more` and `new` say the same of `s` afterwards.
 tested : (n s : ℕ) (test : ℕ → Bool) (seen more : Bool) {verdict old new : Bool} → verdict ≡ test n → more ≡ ((s == n) || seen)
@@ -111,8 +109,6 @@ pub marked_none : (n : ℕ) (plan : SectorPlan) (old new : Scanned) → plan.tou
     → (s : ℕ) → has new.touched s ≡ has old.touched s
 marked_none n plan old new untouched marked s = rw untouched at (marked.touched s)
 
--- ---- the loop, from sector to sector
-
 pub record IsAt (request : Request) (size n : ℕ) (verdict : Bool) : Type 0 where
   pub about_bytes : is_data request.what ≡ true
   pub below : n < size / 4096
@@ -155,8 +151,6 @@ nothing_scanned request size image state scanned blank = record {
   merged = λ is_open a is. absurd (both_ways _ (blank.touched (a / 4096)) is);
   rest = λ a above. refl;
 }
-
--- ---- after the sectors below `n` were scanned
 
 module _ {request : Request} {size n : ℕ} {image image' : List ℕ} {old mid : BusState} {scanned : Scanned}
     (was : HasScanned request size n image image' old mid scanned) where

@@ -19,7 +19,7 @@ use Rattle.nor_scan.specs.Judging.{Lifts}
 use Rattle.nor_scan.specs.Saving.{IsIdentityOf, HasIdleChip, header_of}
 use Rattle.nor_scan.specs.Verdict.{IsVerdict, IdentityAccepts, ScanAccepts}
 
--- Holds for the vault before and after `save`, which seals it only if it succeeds.
+-- The effect of `save` on the vault: success seals it, and error 11 means that it refused a call.
 abbrev pub SavePuts : Result SavedScan Refusal → (old new : VaultState) → Type 0
 SavePuts (Ok saved) old new = Completed old new
 SavePuts (Err Vault) old new = Refused old new
@@ -63,15 +63,15 @@ pub record HasSaved (request : Request) (identity : Identity) (code : ℕ) (imag
   pub chip : (chip : Chip) → IsIdentityOf chip identity → HasIdleChip chip old
       → HasSavedChip request code image image' chip vault saved
 
--- Holds if the error is the verdict on the request for the chip on the bus, provided that the bus is well-behaved, its
--- chip is idle and has this identification, and none of the errors 1 to 8 applies (`IdentityAccepts`).
+-- Holds if the error is the verdict on the request for the chip on the bus. The premises are that the bus is
+-- well-behaved, its chip is idle and has this identification, and errors 1 to 8 don't apply (`IdentityAccepts`).
 abbrev pub JudgesChip : Request → Identity → ℕ → List ℕ → BusState → Refusal → Type 0
 JudgesChip request identity code image old refusal =
     (chip : Chip) → IsIdentityOf chip identity → HasIdleChip chip old → IdentityAccepts request image chip code
     → IsVerdict request image chip refusal
 
--- Holds if `save` may return this error. Error 12 means that the bus stopped at the last transaction; on a well-behaved
--- bus fewer transactions were left than the scan needs.
+-- Holds if `save` may return this error. Error 12 means that the bus stopped at the last transaction; on a punctual bus
+-- fewer transactions were left than the scan needs.
 abbrev pub SaveErrors : Request → Identity → ℕ → List ℕ → (old new : BusState) → Refusal → Type 0
 SaveErrors request identity code image old new Stopped =
     HasStopped (scanned_sectors request identity.found.size) old new

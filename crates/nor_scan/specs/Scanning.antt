@@ -24,8 +24,8 @@ use Rattle.nor_scan.specs.declared.scanning.Scanned.{Scanned}
 use Rattle.nor_request.specs.Request.{is_data, target, is_requested, scanned_sectors}
 use Rattle.nor_layout.specs.Sectors.{includes, has_in_sector}
 
--- The target byte at address `a` of a chip with this size and content: the image's byte (for a write) or FFh (for an
--- erase) if the request may change this address, otherwise the byte of `content`.
+-- The target byte at address `a` of a chip with this size and content. If the request may change the address, this is
+-- the image's byte (for a write) or FFh (for an erase), otherwise the byte of `content`.
 abbrev pub wanted_at : Request → (image : List ℕ) → (size : ℕ) → (content : ℕ → ℕ) → (a : ℕ) → ℕ
 wanted_at request image size content a = if is_requested request size a then target request.what image a else content a
 
@@ -106,7 +106,7 @@ ScanErrors most old new Stopped = HasStopped most old new
 ScanErrors most old new Vault = ⊤
 ScanErrors most old new _ = ⊥
 
--- Holds for the vault before and after a scan, which doesn't seal it.
+-- The effect of a scan on the vault, which stays unsealed: error 11 means that the vault refused a call.
 abbrev pub ScanPuts : {T : Type 0} → Result T Refusal → (old new : VaultState) → Type 0
 ScanPuts (Err Vault) old new = Refused old new
 ScanPuts _ old new = Accepted old new

@@ -14,7 +14,7 @@ use nor_probe::{ChipName, Probed, probe_counted};
 use nor_request::Refusal;
 
 /// Waits until the chip is ready, identifies it by its ID or SFDP, and reads status 2 and the unique ID. If `named` is
-/// given, the chip must have that name. On a well-behaved bus at most 65,542 transactions are sent.
+/// given, the chip must have that name. On a punctual bus at most 65,542 transactions are sent.
 ///
 /// Returns error 1 (no chip), 2 (unknown chip), 3 (other name), 12 (the bus stopped) or 13 with address 0 (the chip
 /// stayed busy; not on a well-behaved bus).
@@ -34,7 +34,7 @@ pub fn identify<B: Bus>(bus: &mut B, named: Option<ChipName>) -> Result<Identity
 /// Reads status 2 and the unique ID of the chip that a probe found, with two transactions. `probed` must have a size
 /// that a chip may have, and count at most 65,540 transactions.
 ///
-/// Returns `Stopped` if the bus stopped; on a well-behaved bus this means that fewer than two transactions were left.
+/// Returns `Stopped` if the bus stopped; a punctual bus then had fewer than two transactions left.
 pub fn read_on<B: Bus>(bus: &mut B, probed: Probed) -> Result<Identity, Stopped>
     requires few { probed.transactions ≤ most_probe }
     requires sized { IsTrue (is_chip_size probed.found.size) }

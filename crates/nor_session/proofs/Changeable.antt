@@ -51,8 +51,6 @@ pub record AreRead (choice : Choice) (journal : Content) (identity : Identity) (
   pub small : old.honest ≡ true → old.chip.kept.two < 128
   pub scans : MarksChosen choice journal mid new scanned
 
--- ---- if the status is locked
-
 module _ {choice : Choice} {journal : Content} {identity : Identity} {scanned : Scanned} {old mid new : BusState}
     (read : AreRead choice journal identity scanned old mid new) where
   rested_all : old.honest ≡ true → Rested old new
@@ -81,8 +79,6 @@ module _ {choice : Choice} {journal : Content} {identity : Identity} {scanned : 
         let is_shut = rw (marks_old modelled).0 at (shut old.chip is) in
         (read.fits old.chip (read.small modelled.honest) is, is_shut.locked, is_shut.needs);
   }
-
--- ---- the changes can be made (`CanApply`)
 
 scheme_for : (journal : Content) (touched : ℕ → Bool) (chip : Chip) → FitsJournal journal chip
     → NeedsStatusWith journal touched chip → chip.config.scheme ≡ true

@@ -24,8 +24,6 @@ use Rattle.nor_session.specs.declared.checks.CheckFault.{CheckFault}
 use Rattle.nor_session.specs.declared.checks.CheckFault.TheVariants.{Stopped, Mismatch}
 use Rattle.nor_apply.proofs.Alone.{count_below-next, only-here, only-is, sector_count-only, shown_byte, old_byte}
 
--- ---- one sector
-
 pub stops : {sector : ℕ} (wanted : List ℕ) {old new : BusState} → sector < 4096 → HasStopped 1 old new
     → CheckErrors (only sector) (byte_of sector wanted) old new Stopped
 stops {sector} wanted below out = rw (sector_count-only sector below) out
@@ -72,8 +70,6 @@ pub read_whole : {sector : ℕ} {bytes : List ℕ} {old new : BusState} {Is : Li
     → ReadsSector sector old new bytes → length bytes ≡ 4096 → Is bytes
     → ReadsWhole sector Is old.history new.history
 read_whole {bytes = bytes} reads long is = record { bytes = bytes; answered = reads.answered; whole = long; is = is }
-
--- ---- sector by sector
 
 -- Holds after each sector of the set `sectors` that is below `n` was read once, and its reply had the target bytes.
 pub record HasChecked (sectors : ℕ → Bool) (wanted : ℕ → ℕ) (n : ℕ) (old new : BusState) (sent : ℕ) : Type 0 where

@@ -23,8 +23,6 @@ use Rattle.nor_scan.specs.Saving.{header_of}
 use Rattle.nor_session.proofs.JudgedAgain.{accepted_free}
 use Rattle.nor_session.proofs.WrittenBack.{read_back, read_kept, session_over}
 
--- ---- the chip is already the one that the journal saves
-
 as_saved : (journal : Content) (first chip : Chip) (a : ℕ) → SavesChip journal first → IsSame first chip → restored journal chip.bytes a ≡ chip.bytes a
 as_saved journal first chip a saves same = search (arith, saved_byte-is)
 
@@ -58,8 +56,6 @@ changes_nothing journal first old new report saves same done =
           (λ page below. and_left (is_touched old.chip.bytes (restored journal old.chip.bytes) (page / 16)) _ (untouched (page / 16)));
       spares = never;
     }
-
--- ---- one session after the other
 
 -- Holds if the journal saves the original chip `first`, and `chip` has the same configuration and the same bytes at all
 -- addresses that a restore can't write. A restore of `chip` that succeeds then leaves the original chip.
@@ -110,8 +106,6 @@ left_reached request image old new taken journal left (inr can) = can_restore_ch
 
 restored_same : (journal : Content) (first : Chip) (old new : BusState) (report : Report) → CanRestoreChip journal first old.chip → IsRestored journal old new report → IsSame first new.chip
 restored_same journal first old new report can done = search (arith, same_as_original)
-
--- ---- two sessions, one after the other
 
 idle_again : (p : ℕ → Bool) (first : Chip) (old new : BusState) → IsWithin p first old → IsSame old.chip new.chip → new.chip.busy ≡ 0 → IsWithin p first new
 idle_again p first old new within same idle =

@@ -108,8 +108,6 @@ pub prepare_read_back : (choice : Choice) (journal : Content) (most : ℕ) (old 
 prepare_read_back choice journal most old new (Mismatch address) errors = absurd (true≢false (sym errors.judged))
 prepare_read_back choice journal most old new _ errors = tt
 
--- ---- a session
-
 module _ (request : Request) (image : List ℕ) where
   pub session_read_other : (kept : Scanned) (size : ℕ) (image' : List ℕ) (changes : Changes)
       (old opened mid new : BusState) → Continues old.history opened.history → Continues opened.history mid.history

@@ -61,8 +61,6 @@ pub record Ready (request : Request) (identity : Identity) (status : Status) (co
   pub is_status : bytes_of status ≡ status_read identity
   pub same_code : is_data request.what ≡ true → code ≡ code_of (kept_in (status_read identity))
 
--- ---- the identification, and the scan after it
-
 pub has_opened : {named : _} {identity : Identity} {old mid : BusState} → OnlyReads most_identity old mid
     → ReadsIdentity named old mid identity → HasOnlyRead identity.transactions old mid
 has_opened only_reads opens = search rules
@@ -78,8 +76,6 @@ ready {identity = identity} {kept = kept} {old = old} {mid = mid} {new = new} on
     = grind (arith, nature_then old mid new more.nature only_reads.nature, rested_then old mid new) in
     search rules
 
--- ---- the number of sectors
-
 pub scanned_most : (request : Request) (size : ℕ) → scanned_sectors request size ≤ size / 4096
 scanned_most request size =
     let most = count_below-most (size / 4096) (has_in_sector (includes request.included)) in
@@ -87,8 +83,6 @@ scanned_most request size =
 
 pub scanned_few : (request : Request) (size : ℕ) → size ≤ 16777216 → scanned_sectors request size ≤ 4096
 scanned_few request size small = let most = scanned_most request size in omega arith
-
--- ---- the number of transactions
 
 pub spends_more : {m n : ℕ} {old new : BusState} → m ≤ n → Spends m old new → Spends n old new
 spends_more fits spends =
@@ -100,8 +94,6 @@ spends_more fits spends =
 pub spends_only_reads : {m n : ℕ} {old new : BusState} → m ≤ n → OnlyReads m old new → Spends n old new
 spends_only_reads fits only_reads =
     spends_more fits (record { nature = only_reads.nature; falls = λ honest. (only_reads.honest_reads honest).falls })
-
--- ---- the number of status writes
 
 pub touched_data : (request : Request) (size : ℕ) {scanned : Scanned} (s : ℕ) → size ≤ 16777216
     → AreMarks (size / 4096) scanned → scanned.count ≤ scanned.reads → scanned.reads ≡ scanned_sectors request size
@@ -151,8 +143,6 @@ module _ {request : Request} {identity : Identity} {status : Status} {code : ℕ
       let same : code_of (kept_in (bytes_of status)) ≡ code = ap (λ (bytes : List ℕ). code_of (kept_in bytes)) is.is_status ∙ sym (is.same_code about_bytes) in
       grind (arith, nat_tests))
       (λ range. write_once changes (lifts_none range))
-
--- ---- the report
 
 pub bounded_by : (request : Request) (identity : Identity) (status : Status) (code : ℕ) (kept : SavedScan) (old mid new : BusState) (wanted : ℕ → ℕ) (verify : Bool) (work : Work) (sent most : ℕ) → sent ≡ kept.scanned.reads
     → Ready request identity status code kept old mid → status_writes (changes_of identity kept status code) ≤ most

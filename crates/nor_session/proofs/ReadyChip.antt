@@ -30,8 +30,6 @@ use Rattle.nor_session.specs.Session.{SessionErrors, HonestErrors}
 use Rattle.nor_scan.proofs.OneVerdict.{first_of}
 use Rattle.nor_session.proofs.Ready.{scanned_most, scanned_few}
 
--- ---- what the identification says about the chip as it was before the identification
-
 kept_one : (status1 one : ℕ) (chip : Chip) → status1 ≡ status1_of chip → chip.kept.one ≡ one → status1 / 4 ≡ one
 kept_one status1 one chip read kept = grind (arith, nat_tests)
 
@@ -71,8 +69,6 @@ pub most_sized : (request : Request) {config : Config} {found : Found} → IsCon
     → most_of (scanned_sectors request found.size) ≤ most_of (config.size / 4096)
 most_sized request {found = found} is =
     let most = scanned_most request found.size in let size = is.size in omega arith
-
--- ---- the errors of the scan
 
 pub save_fails : (request : Request) (image : List ℕ) (identity : Identity) (code few : ℕ) (old mid new : BusState)
     (refusal : Refusal) → old.honest ≡ true → OnlyReads most_identity old mid → ReadsIdentity request.named old mid identity
@@ -124,8 +120,6 @@ save_last request identity code image old new Stopped errors = errors.last
 save_last request identity code image old new (Timeout address) errors = absurd errors
 save_last request identity code image old new (Mismatch address) errors = absurd errors
 save_last request identity code image old new _ errors = tt
-
--- ---- the errors of the identification
 
 pub open_last : (most : ℕ) (named : Option ChipName) (old new : BusState) (refusal : Refusal)
     → IdentificationErrors most named old new refusal → EndsAtError refusal new.history

@@ -31,8 +31,6 @@ use Rattle.nor_session.proofs.RestoresOriginal.{can_restore_read}
 use Rattle.nor_session.proofs.Naming.{saved_names}
 use Rattle.nor_session.proofs.SavedBytes.{saved_room, saved_count}
 
--- ---- the allowances
-
 pub allowed_then : (stops : List ℕ) (n : ℕ) (old : List ℕ) {allowance : ℕ} {now new : List ℕ}
     → allowance ≡ slice_index_or stops n (most_of 4096) → now ≡ allowances_of stops n ++ old → new ≡ allowance ∷ now
     → new ≡ allowances_of stops (n + 1) ++ old
@@ -69,8 +67,6 @@ pub allowed_after : (stops : List ℕ) (n : ℕ) {old mid new : List ℕ} → mi
 allowed_after stops n {old = old} first later =
     rw one-add (later ∙ ap (λ (l : List ℕ). allowances_of (drop 1 stops) n ++ l) first ∙ later_allowed stops n old)
 
--- ---- the nature of the bus
-
 pub same_nature : {old new : BusState} → KeepsNature old new → SameNature old new
 same_nature keeps =
     record {
@@ -92,8 +88,6 @@ same_nature_then later earlier =
       punctual = later.punctual ∙ earlier.punctual;
       config = λ honest. later.config (earlier.honest ∙ honest) ∙ earlier.config honest;
     }
-
--- ---- one restore
 
 pub modelled_at : (old new : BusState) → new.honest ≡ old.honest → new.chip.config ≡ old.chip.config → IsModelled old → IsModelled new
 modelled_at old new honest config modelled =
@@ -136,8 +130,6 @@ module _ {n : ℕ} {journal : Content} {old mid new : BusState} (allows : Allows
       → StopsRestores journal old new refusal
   under_refuses refusal gives always returned never =
       let leaves = allow_leaves journal old mid allows in search (arith, not_bus_error)
-
--- ---- restores in turn
 
 -- Holds after `n` restores were run in turn, and all of them were stopped.
 pub record AreStopped (journal : Content) (stops : List ℕ) (old now : BusState) (n : ℕ) : Type 0 where
@@ -202,8 +194,6 @@ unstopped : (restores : ℕ) (ended : Bool) → 1 ≤ restores → restores ≤ 
     → (ended ≡ true) × (restores ≡ 1)
 unstopped restores true some most = (refl, omega arith)
 unstopped restores false some most = absurd (omega arith)
-
--- ---- restores from bytes
 
 module _ {bytes : List ℕ} {journal : Content} (is : IsContent journal) (same : bytes ≡ text journal)
     (reads : (head : Content) (chip : ℕ → ℕ) (saved : ℕ → Bool) → JournalSaves head chip saved bytes

@@ -27,8 +27,6 @@ use Rattle.nor_session.proofs.RestoresOriginal.{restorable}
 use Rattle.nor_session.proofs.Targeting.{none_sent, sends_then, sends_most, sends_wider}
 use Rattle.nor_session.proofs.RehearsedRestores.{modelled_at, not_bus_error, allowed_first, allowed_after, same_nature, same_nature_then}
 
--- ---- the session
-
 returned : (request : Request) (image : List ℕ) (old new : BusState) (before after : VaultState) (refusal : Refusal) → (refusal ≡ Stopped → ⊥)
     → SessionErrors request image old new before after refusal → RehearsalErrors request image old.chip before after refusal
 returned request image old new before after Vault never errors = errors
@@ -128,8 +126,6 @@ module _ {n : ℕ} {old mid : BusState} (allows : Allows n old mid) where
 pub unlimited : (stops : List ℕ) → length stops ≡ 0 → first_allowance stops ≡ most_of 4096
 unlimited [] none = refl
 unlimited (first ∷ later) none = absurd (omega arith)
-
--- ---- the session and the restores after it
 
 count_after_first : (stops : List ℕ) → length (drop 1 stops) + 1 ≡ max 1 (length stops)
 count_after_first [] = refl

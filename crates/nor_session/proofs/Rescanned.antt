@@ -47,14 +47,10 @@ pub record HasRescanned (journal : Content) (i : ℕ) (old new : BusState) (scan
   pub right : IsOpen journal.size old
       → AreRight (restored journal old.chip.bytes) old.chip.bytes (saved_before journal i) scanned
 
--- ---- before the first sector
-
 pub nothing_rescanned : {journal : Content} {state : BusState} {scanned : Scanned} → IsBlank scanned
     → HasRescanned journal 0 state state scanned
 nothing_rescanned {journal = journal} {state = state} {scanned = scanned} blank =
     search (arith, and_left, both_ways, count_below-none, has_only_read-none, saved_in-nil)
-
--- ---- one more sector
 
 pub later_marks : {m n : ℕ} {scanned : Scanned} → m ≤ n → AreMarks m scanned → AreMarks n scanned
 later_marks later are = search (are.below, arith)
@@ -144,8 +140,6 @@ rescanned_more {journal = journal} {i = i} {s = s} {saved = saved} {bytes = byte
           (was.replied content before);
       right = λ is_open. right_more (plans_are is_open) more marked (was.right is_open);
     }
-
--- ---- after the last sector
 
 pub untouched_other : (journal : Content) (content : ℕ → ℕ) (s : ℕ) → is_saved journal s ≡ false → is_touched content (restored journal content) s ≡ false
 untouched_other journal content s none = search (arith, restored_other, sector_at, untouched)

@@ -39,8 +39,6 @@ use Rattle.nor_session.specs.Restore.{Choice, differing, every_saved, restored, 
 use Rattle.nor_session.proofs.Rescanned.{restored_saved, restored_other}
 use Rattle.nor_session.proofs.RestoredBytes.{touched_byte, touched_saved}
 
--- ---- `IsWithin` after calls that only read
-
 steady_or_idle_or_not : (state : BusState) → IsSteadyOrIdle state ⊎ ((state.steady ≡ false) × (state.chip.busy ≢ 0))
 steady_or_idle_or_not state = grind arith
 
@@ -72,8 +70,6 @@ within_after_reads p first most old new steady honest_reads within =
           search (arith, narrower)
     ]
 
--- ---- `IsWithin` after a loss of power
-
 idle_or_works : (state : BusState) → (state.steady ≡ false) ⊎ (state.chip.busy ≡ 0)
     → (state.chip.busy ≡ 0) ⊎ ((state.steady ≡ false) × (state.chip.busy ≢ 0))
 idle_or_works state known = grind (arith, nat_tests)
@@ -93,8 +89,6 @@ lost_within p first old new known lost within =
           search (arith, narrower)
     ]
 
--- ---- protected ranges are whole sectors
-
 scheme_size_at : (config : Config) (row : Option Part) → part_with_id (id_of config) ≡ row → IsGenuine config → config.scheme ≡ true → config.size % 262144 ≡ 0
 scheme_size_at config (Some part) is genuine scheme = search (arith, eqb-true, row_has)
 scheme_size_at config None is genuine scheme = absurd (both_ways config.scheme (genuine.unlisted is) scheme)
@@ -111,8 +105,6 @@ protected_within chip a b genuine scheme sector below_a below_b =
 protected_same : (chip : Chip) (a b : ℕ) → IsGenuine chip.config → a / 4096 ≡ b / 4096 → is_protected chip a ≡ is_protected chip b
 protected_same chip a b genuine sector =
     search (arith, cases_Bool, cases_lt, protected_within, is_protected-no_scheme, is_protected-past, sized_bounds)
-
--- ---- each address in a touched sector is open (`open_addresses`)
 
 pub touched_open : (journal : Content) (first chip : Chip) (a : ℕ) → IsKnown first.config → SavesChip journal first → ((b : ℕ) → open_addresses journal first b ≡ false → chip.bytes b ≡ first.bytes b)
     → is_touched chip.bytes (restored journal chip.bytes) (a / 4096) ≡ true → open_addresses journal first a ≡ true
@@ -144,16 +136,12 @@ change_within journal first touched raised wanted old mid new can within saved f
     (within_wider (addresses_of touched) (open_addresses journal first) mid.chip new
     (λ a hit. chosen_open journal first touched old a can saved free hit) change.within)
 
--- ---- a restore that succeeds leaves the original chip
-
 pub same_as_original : (journal : Content) (first old new : Chip) → SavesChip journal first → old.config ≡ first.config
     → ((a : ℕ) → open_addresses journal first a ≡ false → old.bytes a ≡ first.bytes a) → new.config ≡ old.config
     → ((a : ℕ) → new.bytes a ≡ restored journal old.bytes a) → new.kept ≡ kept_in journal.status → IsSame first new
 same_as_original journal first old new saves config within config_now bytes kept =
     let same = kept ∙ sym saves.bits in
     search (arith, and_left, cases_Bool, restored_other, restored_saved, saved_byte-is)
-
--- ---- a restorable chip is never refused
 
 fixed_fits : (journal : Content) (first chip : Chip) → first.kept ≡ kept_in journal.status → chip.config ≡ first.config
     → fixed_of chip.kept ≡ fixed_of first.kept → (is_writable first ≡ false → chip.kept ≡ first.kept) → FitsStatus journal chip

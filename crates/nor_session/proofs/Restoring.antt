@@ -44,8 +44,6 @@ use Rattle.nor_session.proofs.Rescanned.{restored_saved}
 use Rattle.nor_session.proofs.RestoredBytes.{written_restored, pages_same}
 use Rattle.nor_session.proofs.RestoredOriginal.{within_after_reads, change_within, same_as_original}
 
--- ---- the errors before the first change
-
 pub only_reads_spend : (few most : ℕ) (old new : BusState) → few ≤ most → OnlyReads few old new → Spends most old new
 only_reads_spend few most old new fits only_reads = search (arith, only_reads_most)
 
@@ -85,8 +83,6 @@ pub can_restore_after_reads : (journal : Content) (first : Chip) (most : ℕ) (o
 can_restore_after_reads journal first most old new honest only_reads can =
     assumption (within_after_reads _ first most old new only_reads.nature.steady (only_reads.honest_reads honest) can.within)
 
--- ---- the changes after the preparation
-
 pub changed_fits : {journal : Content} {old mid new : BusState} → FitsReplies journal old mid → KeepsNature mid new
     → FitsReplies journal old new
 changed_fits fits later = search (continues_then fits.after later.history)
@@ -125,8 +121,6 @@ module _ (choice : Choice) (journal : Content) (prepared : PreparedRestore) (old
       let stays = (are.only_reads.honest_reads modelled.honest).stays in
       let fixed = λ (steady_or_idle : IsSteadyOrIdle old). may.within.fixed ∙ ap fixed_of (stays.steady_or_idle steady_or_idle).kept in
       search (arith, narrower)
-
-  -- ---- the changes failed
 
   pub change_fails : (refusal : Refusal) → AreChanged choice journal prepared old mid new → old.honest ≡ true
       → ChangeErrors prepared.changes (saved_byte journal) mid new refusal
@@ -174,8 +168,6 @@ change_last changes wanted old new Stopped errors = errors.last
 change_last changes wanted old new (Timeout address) errors = errors.0
 change_last changes wanted old new (Mismatch address) errors = errors.0
 change_last changes wanted old new _ errors = absurd errors
-
--- ---- the changes succeeded
 
 abbrev pub report_of : PreparedRestore → Work → ℕ → Report
 report_of prepared work sent = record {
@@ -292,8 +284,6 @@ module _ (choice : Choice) (journal : Content) (prepared : PreparedRestore) (old
 
 pub restored_original : (choice : Choice) (journal : Content) (first : Chip) (old new : BusState) (report : Report) → CanRestore journal first old → IsRestoredBy choice journal old new report → IsSame first new.chip
 restored_original choice journal first old new report can done = search (arith, same_as_original)
-
--- ---- from the preparation on, or from the start of the restore on
 
 pub work_fits : (prepared : PreparedRestore) {wanted : ℕ → ℕ} {old new : BusState} (work : Work)
     → prepared.transactions ≤ most_reads 4096 → DoesChange prepared.changes wanted true old new work

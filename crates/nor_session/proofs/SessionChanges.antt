@@ -55,8 +55,6 @@ pub record ReadyChip (request : Request) (image image' : List ℕ) (identity : I
   pub bytes : (a : ℕ) → slice_index image' a < 256
   pub small : old.chip.kept.two < 128
 
--- ---- the status is written only if that is possible
-
 needs_by : (what : What) (unlock lifted : Bool) (code : ℕ) (touched : ℕ → Bool) (chip : Chip)
     → (lifted ≡ true → (unlock ≡ true) × SomeProtected touched chip) → (is_data what ≡ false → lifted ≡ false)
     → (is_data what ≡ true → code ≡ code_of chip.kept) → (lifted ≡ false → code ≢ code_of chip.kept)
@@ -68,8 +66,6 @@ needs_by _ unlock lifted code touched chip lifts off same other =
 scheme_needed : (what : What) (unlock : Bool) (code : ℕ) (touched : ℕ → Bool) (chip : Chip) → (is_data what ≡ false → chip.config.scheme ≡ true) → NeedsStatus what unlock code touched chip → chip.config.scheme ≡ true
 scheme_needed (WpRange start len) unlock code touched chip scheme need = scheme refl
 scheme_needed _ unlock code touched chip scheme need = held_scheme touched chip need.1
-
--- ---- the changes can be made (`CanApply`)
 
 module _ (request : Request) (image image' : List ℕ) (identity : Identity) (status : Status) (code : ℕ)
     (kept : SavedScan) (old mid : BusState) (is : Ready request identity status code kept old mid)
@@ -124,8 +120,6 @@ module _ (request : Request) (image image' : List ℕ) (identity : Identity) (st
             let fall = falls a (sym (of.touched (a / 4096)) ∙ touched) (sym (of.raised (a / 4096)) ∙ low) in
             cc;
       }
-
--- ---- the errors of the changes
 
 pub change_fails : (request : Request) (identity : Identity) (status : Status) (code : ℕ) (kept : SavedScan) (target_bytes : ℕ → ℕ) (old mid new : BusState) (refusal : Refusal) → old.honest ≡ true
     → Ready request identity status code kept old mid → ChangeErrors (changes_of identity kept status code) target_bytes mid new refusal → HonestErrors (most_of 4096) (λ refusal. refusal_number refusal ≤ 11) old new refusal

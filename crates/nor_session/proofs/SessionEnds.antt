@@ -46,8 +46,6 @@ module _ (request : Request) (image image' : List ℕ) (identity : Identity) (st
   ready_chip new vault modelled only_reads opens is accepts keeps bytes small =
       search (arith, is_opening, named, shows, status1_if_idle)
 
-  -- ---- after the seal
-
   pub can_be_undone : (ready new : BusState) (vault : VaultState) → IsModelled old → OnlyReads most_identity old mid
       → ReadsIdentity request.named old mid identity → HasSaved request identity code image image' mid ready vault kept
       → Ready request identity status code kept old ready → ReadyChip request image image' identity code kept old ready
@@ -71,8 +69,6 @@ module _ (request : Request) (image image' : List ℕ) (identity : Identity) (st
             let least = is.least in let reads = is.reads ∙ ap (scanned_sectors request) opened.config.size in
             omega arith;
       }
-
-  -- ---- after success
 
   pub done : (new : BusState) (verify : Bool) (work : Work) (sent : ℕ) → Ready request identity status code kept old mid
       → ReadyChip request image image' identity code kept old mid

@@ -21,8 +21,6 @@ use Rattle.nor_apply.proofs.ApplyingInTurn.{count_below-fewer}
 use Rattle.nor_session.specs.Changing.{LeavesChange}
 use Rattle.nor_session.specs.Session.{SendsSaved, SendsFew, WritesOnly, WritesStatusAtMost}
 
--- ---- if no modifying command was sent
-
 pub none_written : (most : ℕ) (old new : BusState) → new.sent ≡ old.sent → WritesStatusAtMost most old new
 none_written most old new same = let count = ap status_writes_of same in omega (arith, count)
 
@@ -32,8 +30,6 @@ none_sent IsCode calls journal old new same = grind arith
 
 pub few_none : (old new : BusState) → new.sent ≡ old.sent → SendsFew old new
 few_none old new same = grind arith
-
--- ---- successive calls with the same journal
 
 pub sends_then : (IsCode : ℕ → Type 0) (m n : ℕ) (journal : Content) (old mid new : BusState)
     → SendsSaved IsCode m journal old mid → SendsSaved IsCode n journal mid new
@@ -61,8 +57,6 @@ pub sends_wider : (IsCode IsWider : ℕ → Type 0) (calls : ℕ) (journal : Con
     → SendsSaved IsWider calls journal old new
 sends_wider IsCode IsWider calls journal old new wider sends = grind (arith, sends.targeted, sends.written, wider)
 
--- ---- the bytes of a status write
-
 pub coded_only : (IsCode : ℕ → Type 0) (journal : Content) (status : Status) (code one two : ℕ) → code < 64
     → fixed_of (kept_in (bytes_of status)) ≡ fixed_of (kept_in journal.status) → IsCode code
     → is_status_with_code status code one two ≡ true → WritesOnly IsCode journal one two
@@ -78,8 +72,6 @@ coded_only IsCode journal status code one two small fixed is written =
       clear1 = omega (arith, first);
       clear2 = omega (arith, second);
     }
-
--- ---- the changes, after calls that only read
 
 -- Holds if the changes are for a chip of the journal's size and touch only sectors that the journal saves.
 pub record AreOfJournal (IsCode : ℕ → Type 0) (journal : Content) (changes : Changes) : Type 0 where

@@ -78,8 +78,8 @@ BackupReturns vault vault' _ = ⊥
 
 -- ---- on a well-behaved bus
 
--- The meaning of errors on a well-behaved bus. A stop occurs only if no transaction is left and fewer than `most` were
--- left at the start. A timeout does not occur. `BackupReturns` says when error 11 occurs.
+-- The meaning of errors on a well-behaved bus. On a punctual bus a stop occurs only if no transaction is left and fewer
+-- than `most` were left at the start. A timeout does not occur. `BackupReturns` says when error 11 occurs.
 abbrev pub BackupErrors : (most : ℕ) → Option ChipName → (old new : BusState) → Refusal → Type 0
 BackupErrors most named old new NoChip = shown_as old.chip.config ≡ Err Probes.NoChip
 BackupErrors most named old new (UnknownChip fault) = shown_as old.chip.config ≡ Err (Probes.UnknownChip fault)
@@ -100,7 +100,7 @@ HoldsBackupBegun chip bytes = (bytes ≡ [])
 -- The promises of a backup on every bus and with every vault.
 pub record BackupAlways (named : Option ChipName) (old new : BusState) (vault vault' : VaultState)
     (result : Result Report Refusal) : Type 0 where
-  -- On a well-behaved bus, the number of transactions is at most that of identifying and reading the largest chip.
+  -- On a punctual bus, the number of transactions is at most that of identifying and reading the largest chip.
   pub only_reads : OnlyReads (most_reads 4096) old new
   pub sealed : OnOk result (Completed vault vault')
   -- the vault, which was unsealed at the start, is still unsealed
@@ -124,7 +124,7 @@ pub record BackupHonest (named : Option ChipName) (old new : BusState) (result :
 -- The promises of a backup on a modelled bus.
 pub record BackupModelled (named : Option ChipName) (old new : BusState) (vault' : VaultState)
     (result : Result Report Refusal) : Type 0 where
-  -- a stop occurs only if fewer transactions were left at the start than the bound for a chip of this size
+  -- on a punctual bus a stop occurs only if fewer transactions were left at the start than a chip of this size may need
   pub errors : IfErr result (BackupErrors (most_reads (old.chip.config.size / 4096)) named old new)
   pub config : IfOk result (λ report. IsConfigOf old.chip.config report.found)
   pub saves : OnOk result (vault'.telling ≡ true → IsBackupOf vault'.bytes old.chip)

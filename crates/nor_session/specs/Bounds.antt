@@ -1,4 +1,4 @@
--- Bounds on the transactions of a call on a well-behaved bus.
+-- Bounds on the transactions of a call on a punctual bus.
 use Rattle.std.specs.Prelude.{◌+◌, ◌*◌, ℕ}
 use Rattle.nor_driver.specs.Operations.{most_operation}
 use Rattle.nor_scan.specs.Identity.{most_identity}

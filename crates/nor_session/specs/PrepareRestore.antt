@@ -98,8 +98,8 @@ pub record IsRefusedFor (choice : Choice) (journal : Content) (old new : BusStat
   pub same : old.honest ≡ true → IsSame old.chip new.chip
   pub verdict : IsModelled old → RestoreJudges choice journal old.chip refusal
 
--- The meaning of an error before the first change. A stop means that on a well-behaved bus fewer than `most`
--- transactions were left at the start. A timeout names address 0, and does not occur on a well-behaved bus.
+-- The meaning of an error before the first change. A stop means that on a punctual bus fewer than `most` transactions
+-- were left at the start. A timeout names address 0, and does not occur on a well-behaved bus.
 abbrev pub PrepareErrors : Choice → Content → ℕ → (old new : BusState) → Refusal → Type 0
 PrepareErrors choice journal most old new Stopped = HasStopped most old new
 PrepareErrors choice journal most old new (Timeout address) =

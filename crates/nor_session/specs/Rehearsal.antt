@@ -66,7 +66,7 @@ pub record CanEnd (request : Request) (image : List ℕ) (allowance : ℕ) (chip
   pub fewest : AreFewestErases chip.config chip.bytes (wanted request image chip) erases
   pub enough : least_needed request image chip erases ≤ allowance
 
--- Holds if the seal of a session's vault fits the session's allowance.
+-- Holds if the allowance was enough for a seal (if `seal` is true), or too small for one (if it is false).
 pub record SealFits (request : Request) (allowance : ℕ) (chip : Chip) (seal : Bool) : Type 0 where
   pub enough : seal ≡ true → 4 + scanned_sectors request chip.config.size ≤ allowance
   pub below : seal ≡ false → allowance < needed_to_identify chip + scanned_sectors request chip.config.size

@@ -68,7 +68,7 @@ every_saved = record {
 
 -- ---- the verdict
 
--- A journal of format 1 has no unique ID.
+-- Holds if the journal has a unique ID, and it isn't the chip's. A journal of format 1 has no unique ID.
 abbrev pub IsOfOtherDevice : Content → Config → Type 0
 IsOfOtherDevice journal config = IsSomeAnd journal.unique (λ unique. unique ≢ unique_of config)
 
@@ -167,8 +167,8 @@ IsRestoreRefusal refusal = list_any (λ n. refusal_number refusal == n) (12 ∷ 
 
 -- ---- on a modelled bus
 
--- Holds if a restore may return this error on a modelled bus: the verdict, or 12 because too few transactions were
--- left.
+-- Holds if a restore may return this error on a modelled bus: the verdict, or 12 because the bus stopped (a punctual
+-- bus stops only if too few transactions were left).
 abbrev pub ErrorsBy : Choice → Content → (old new : BusState) → Refusal → Type 0
 ErrorsBy choice journal old new Stopped = RanOut (most_of (length journal.saved)) old new
 ErrorsBy choice journal old new refusal = IsRestoreVerdict choice journal old.chip refusal
@@ -203,8 +203,8 @@ pub record AlwaysBy (choice : Choice) (journal : Content) (old new : BusState)
   pub answers : IfErr result IsRestoreRefusal
   -- a timeout names address 0 or an address in a saved sector, and a mismatch names an address in a saved sector
   pub names : IfErr result (NamesSector (λ sector. is_saved journal sector ≡ true))
-  -- On a well-behaved bus, the number of transactions is then at most that of identifying and scanning the largest
-  -- chip.
+  -- After an error of the checks, no modifying command was sent. On a punctual bus, the number of transactions is then
+  -- at most that of identifying and scanning the largest chip.
   pub only_reads : IfErr result (λ refusal. IsCheckedFirst refusal → OnlyReads (most_reads 4096) old new)
   -- after success the counts of the report are within their bounds, and its erases and page programs are those that
   -- were sent
@@ -222,7 +222,7 @@ pub record AlwaysBy (choice : Choice) (journal : Content) (old new : BusState)
 -- The promises of a restore on a well-behaved bus.
 pub record HonestBy (choice : Choice) (journal : Content) (old new : BusState)
     (result : Result Report Refusal) : Type 0 where
-  -- A timeout does not occur, and a stop occurs only if no transaction is left.
+  -- A timeout does not occur, and a punctual bus stops only if no transaction is left.
   pub honest_errors : IfErr result (HonestErrors (most_of (length journal.saved)) IsCheckedFirst old new)
   pub counted : IfOk result (λ report. Spent report.transactions old new)
   -- The restore read the touched sectors back and compared them, so this holds even for a chip that isn't genuine.

@@ -163,9 +163,9 @@ pub record EndsSealed (request : Request) (old new : BusState) (vault vault' : V
 
 -- ---- on a well-behaved bus
 
--- The meaning of errors on a well-behaved bus. A stop occurs only if no transaction is left and fewer than `most` were
--- left at the start. `IsEarly` holds for the errors from before the first modifying command. After such an error, other
--- than a stop, bytes and non-volatile status bits are as they were.
+-- The meaning of errors on a well-behaved bus. On a punctual bus a stop occurs only if no transaction is left and fewer
+-- than `most` were left at the start. `IsEarly` holds for the errors from before the first modifying command. After
+-- such an error, other than a stop, bytes and non-volatile status bits are as they were.
 abbrev pub HonestErrors : (most : ℕ) → (IsEarly : Refusal → Type 0) → (old new : BusState) → Refusal → Type 0
 HonestErrors most IsEarly old new Stopped = RanOut most old new
 HonestErrors most IsEarly old new (Timeout address) = ⊥
@@ -174,7 +174,7 @@ HonestErrors most IsEarly old new refusal = IsEarly refusal → IsSame old.chip 
 -- ---- on a modelled bus
 
 -- Holds if a session may return this error on a modelled bus: the verdict on the request, 11 because the vault failed,
--- or 12 because too few transactions were left.
+-- or 12 because the bus stopped (a punctual bus stops only if too few transactions were left).
 abbrev pub SessionErrors : Request → List ℕ → (old new : BusState) → (vault vault' : VaultState) → Refusal → Type 0
 SessionErrors request image old new vault vault' Vault = CountsRefusal vault vault'
 SessionErrors request image old new vault vault' Stopped = RanOut (most_of (old.chip.config.size / 4096)) old new
@@ -246,8 +246,8 @@ SessionReadsBack request image old new (Err _) = ⊤
 -- The promises of a session on every bus and with every vault.
 pub record SessionAlways (request : Request) (image : List ℕ) (old new : BusState) (vault vault' : VaultState)
     (result : Result Report Refusal) : Type 0 where
-  -- On a well-behaved bus, the number of transactions is then at most that of identifying and scanning the largest
-  -- chip.
+  -- Without a seal, no modifying command was sent. On a punctual bus, the number of transactions is then at most that
+  -- of identifying and scanning the largest chip.
   pub only_reads : vault'.sealed ≡ false → OnlyReads (most_reads 4096) old new
   pub spends : Spends (most_of 4096) old new
   pub few : SendsFew old new
@@ -288,8 +288,8 @@ pub record SessionModelled (request : Request) (image : List ℕ) (old new : Bus
   pub unwritten : ¬ NeedsStatusWrite request image old.chip → WritesStatusAtMost 0 old new
   pub spares : ¬ NeedsStatusWrite request image old.chip
       → IfOk result (IsWithinBound (scanned_sectors request old.chip.config.size) 0 request.verify)
-  -- a stop before the seal occurs only if fewer transactions were left at the start than the identification of this
-  -- chip and the scan need together
+  -- on a punctual bus, a stop before the seal occurs only if fewer transactions were left at the start than the
+  -- identification of this chip and the scan need together
   pub early : vault'.sealed ≡ false → old.punctual ≡ true → IfErr result (λ refusal. refusal ≡ Stopped
       → old.left < needed_to_identify old.chip + scanned_sectors request old.chip.config.size)
   -- after an error other than 11, an unsealed faithful vault is empty, or holds the header and complete records of the

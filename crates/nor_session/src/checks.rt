@@ -18,7 +18,7 @@ use nor_request::Refusal;
 #[derive(Clone, Copy, Debug, PartialEq, Eq)]
 pub(crate) enum CheckFault {
     Stopped,
-    /// A byte that was read back isn't the target byte. `address` is the first address at which this is so.
+    /// A byte that was read back isn't the target byte. `address` is that of the first byte that differs.
     Mismatch { address: u32 },
 }
 
@@ -45,7 +45,7 @@ impl From<CheckFault> for Refusal {
 /// touched sector. Returns the number of transactions.
 ///
 /// Returns `Stopped` if the bus stopped, and `Mismatch` with an address in a touched sector if a byte differs. On a
-/// well-behaved bus, if the chip is idle and the touched sectors lie on it, that is the first address that differs.
+/// well-behaved bus, if the chip is idle and has the touched sectors, this is the first address that differs.
 pub(crate) fn check_all<B: Bus, S: Source>(
     bus: &mut B,
     source: &S,

@@ -14,7 +14,7 @@ use nor_request::{Refusal, Report, Request};
 use nor_scan::{Identity, save};
 
 /// The state of a session whose request was checked against the identification, and in which nothing is saved yet. It
-/// obtains a `Restorer`, without which nothing can be changed, only from a sealed vault or a journal that was read.
+/// obtains the `Restorer` that every change needs only from a sealed vault or a journal that was read.
 pub(crate) struct Judged<'a, B: Bus, V: Vault> {
     pub(crate) bus: &'a mut B,
     pub(crate) vault: &'a mut V,

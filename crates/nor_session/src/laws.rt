@@ -31,7 +31,7 @@ pub fn power_lost_restores_original()
 {}
 
 /// If a session on a modelled bus sealed a `telling` vault, the journal in this vault saves no sector that a locked
-/// status protects. So the only possible error of a `rewrite` from it is a stop, if it can restore the chip.
+/// status protects. If this journal can restore the chip, a `rewrite` from it can therefore only fail with a stop.
 pub fn session_can_be_rewritten()
     ensures { (request : Request) (image : List ℕ) (old new : BusState) (journal : Content)
         → LeavesJournal request image old new journal → CanBeRewritten journal old.chip }
@@ -95,8 +95,8 @@ pub fn session_written_over()
         → CanRestore journal old.chip opened }
 {}
 
-/// If a journal can restore the original chip from the chips before and after a restore, it can restore the original
-/// chip from files that held the first one and were being overwritten with the second one.
+/// Suppose that a journal can restore the original chip before and after a restore. Then it can do so from files that
+/// held the chip from before the restore and were being overwritten with the chip after it.
 pub fn restore_written_over()
     ensures { (journal : Content) (first : Chip) (old new opened : BusState)
         → CanRestore journal first old → CanRestore journal first new → IsWrittenOver old.chip new.chip opened.chip

@@ -27,9 +27,8 @@ pub struct Rehearsal {
 }
 
 /// Runs a session and, if its vault is sealed, restores from its journal until one ends. `stops` has the allowances of
-/// the session, the first restore, and so on. A call without an entry may send as many transactions as any session or
-/// restore on a well-behaved bus needs. The rehearsal ends at the first error; a stop of a call that has an entry isn't
-/// an error.
+/// the session, the first restore, and so on. The allowance of a call without an entry is enough for any session or
+/// restore. The rehearsal ends at the first error; a stop of a call that has an entry isn't an error.
 ///
 /// `stops` must have at most 64 entries, and `vault` must be empty and unsealed. `image` and `request` are as for
 /// `session`.

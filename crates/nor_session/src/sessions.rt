@@ -96,7 +96,7 @@ pub fn session_announced<B: Bus, V: Vault, F: FnOnce(Announcement) + Drop>(
     judged.answer(announce)
 }
 
-/// If a request is accepted for an image and a chip, then no error is the verdict on that request for them.
+/// States that no error is the verdict on a request that is accepted for the same image and the same chip.
 #[tactic(auto, using(nor_scan::proofs::OneVerdict::accepted_only))]
 pub fn accepted_alone()
     ensures { (request : Request) (image : List ℕ) (chip : Chip) (refusal : Refusal)

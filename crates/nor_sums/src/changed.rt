@@ -15,7 +15,6 @@ pub struct Changed {
 }
 
 impl Changed {
-    /// Adds a sector.
     pub fn add(&mut self, sector: u32)
         ensures { 0 < self.new.count }
     {

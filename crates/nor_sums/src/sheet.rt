@@ -58,7 +58,7 @@ fn push_entry(entry: Option<[u8; 8]>, out: &mut Vec<u8>) -> Result<(), AllocErro
     }
 }
 
-/// Decodes a table. Returns `None` if the bytes are no encoding, and an error if memory runs out.
+/// Decodes a table. Returns `None` if the bytes aren't an encoding, and an error if memory runs out.
 pub fn decode(alloc: Global, bytes: &[u8]) -> Result<Option<Sheet>, AllocError>
     ensures { IfOk result (λ found. IfSome found
         (λ sheet. bytes.now ≡ sums_text sheet.id sheet.unique sheet.sums.entries.items)) }
@@ -97,8 +97,8 @@ fn read_fields(alloc: Global, bytes: &[u8]) -> Result<Option<Sheet>, AllocError>
 }
 
 impl Sheet {
-    /// True if the table may describe the chip before the session of this journal: it has the journal's IDs, and the
-    /// sum of each sector that the journal saves.
+    /// Returns whether the table may describe the chip before the session of this journal: it has the journal's IDs,
+    /// and the sum of each sector that the journal saves.
     pub fn fits(&self, journal: &Journal<'_>) -> bool {
         let is_same = journal.id() == self.id && journal.unique() == Some(self.unique);
         is_same

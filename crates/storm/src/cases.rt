@@ -35,12 +35,12 @@ impl Case {
         })
     }
 
-    /// True if the request includes the address.
+    /// Returns whether the request includes the address.
     pub fn includes(&self, address: u32) -> bool {
         self.reaches(address, address)
     }
 
-    /// True if the request includes at least one address of the sector.
+    /// Returns whether the request includes at least one address of the sector.
     pub fn includes_in(&self, sector: u32) -> bool {
         let first = sector.saturating_mul(SECTOR_LEN);
         self.reaches(first, first.saturating_add(4095))
@@ -100,7 +100,7 @@ fn request_for(
     Ok((request, spans))
 }
 
-// In some images all bytes are replaced, and one in 25 has another length than the chip.
+// Draws an image. In some images all bytes are replaced, and one in 25 has another length than the chip.
 fn image_for(alloc: Global, dice: &mut Dice, chip: &Chip) -> Result<Vec<u8>, Fault> {
     let mut image = chip.bytes.to_vec(alloc)?;
     contents::alter(dice, image.as_mut_slice());
@@ -135,7 +135,7 @@ fn change_guarded(dice: &mut Dice, chip: &Chip, image: &mut [u8]) {
     }
 }
 
-// A range is drawn for 8 in 20 chips with block protection, and for 1 in 20 without.
+// Draws what is requested: a range for 8 in 20 chips with block protection, and for 1 in 20 without.
 fn what_for(dice: &mut Dice, chip: &Chip) -> What {
     let ranges = if chip.config.scheme { 8 } else { 1 };
     if dice.hits(ranges, 20) {
@@ -147,7 +147,7 @@ fn what_for(dice: &mut Dice, chip: &Chip) -> What {
     dice.pick(What::Write, &[What::Write, What::Erase])
 }
 
-// Of 24 requests, 19 have no name, 4 the right one, and 1 some name.
+// Draws the requested name: of 24 requests, 19 have none, 4 have the right one, and 1 has some name.
 fn name_for(dice: &mut Dice, chip: &Chip) -> Option<ChipName> {
     let right = verdicts::name_of(&chip.config);
     let listed = chips::row(dice).map_or(right, |part| part.name);
@@ -167,8 +167,8 @@ fn spans_for(alloc: Global, dice: &mut Dice, chip: &Chip) -> Result<Vec<Span>, F
     Ok(spans)
 }
 
-// The greatest length is 300 bytes, one sector, 40,000 bytes or half of the chip. One span in 40 may be longer, and
-// ends at the chip's last address or after it.
+// Draws a span. Its greatest length is 300 bytes, one sector, 40,000 bytes or half of the chip. One span in 40 may be
+// longer, and ends at the chip's last address or after it.
 fn span_for(dice: &mut Dice, size: u32) -> Span {
     let sector = contents::sector(dice, size / SECTOR_LEN);
     let offset = dice.pick(0, &[0, 0x800, 0xFFF, 0x100]);
@@ -188,7 +188,7 @@ fn span_for(dice: &mut Dice, size: u32) -> Span {
     }
 }
 
-// Each span is an included region of a layout.
+// Returns the addresses of these spans, read from a layout in which each span is an included region.
 fn ranges_of(alloc: Global, spans: &[Span]) -> Result<Ranges, Fault> {
     let mut names = String::from_str(alloc, "r0")?;
     let mut text = String::new(alloc);

@@ -54,7 +54,7 @@ fn run_on(alloc: Global, bus: SimBus, image: &mut [u8], request: &Request) -> Re
     if lost { Err(Fault::Memory) } else { Ok(ran) }
 }
 
-/// True if the chip on the bus has the bytes and non-volatile status bits of `chip`.
+/// Returns whether the chip on the bus has the bytes and non-volatile status bits of `chip`.
 pub fn is_same(bus: &SimBus, chip: &Chip) -> bool {
     bus.bytes() == chip.bytes.as_slice() && guards::kept(bus.status()) == guards::kept(chip.status)
 }

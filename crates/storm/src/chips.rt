@@ -46,7 +46,7 @@ impl Chip {
         })
     }
 
-    /// True if the chip isn't busy.
+    /// Returns whether the chip isn't busy.
     pub fn is_idle(&self) -> bool {
         self.delays.now == 0
     }
@@ -74,7 +74,7 @@ pub fn small(alloc: Global, dice: &mut Dice) -> Result<Chip, Fault> {
     chip_of(alloc, dice, config, status)
 }
 
-// One ID in 40 means that there is no chip.
+// Draws an ID without a row. One in 40 is an ID that means that there is no chip.
 fn id_for(dice: &mut Dice) -> [u8; 3] {
     let last = dice.byte();
     let ids = [
@@ -101,7 +101,7 @@ pub fn listed(id: [u8; 3]) -> Option<Config> {
     Some(Config::emulated(part.id, part.size, part.kinds, part.scheme))
 }
 
-/// Draws a chip of the table, with block protection: four times in five a W25Q64FV.
+/// Draws a chip of the table, with block protection: at least four times in five a W25Q64FV.
 pub fn large(alloc: Global, dice: &mut Dice) -> Result<Chip, Fault> {
     let status = protection(dice);
     if dice.hits(4, 5) {

@@ -49,8 +49,8 @@ pub fn sector_at(bytes: &[u8], number: u32) -> &[u8] {
         .unwrap_or(&[])
 }
 
-/// Fills a chip with FFh or 00h (or a fifth of the chips of up to 256 KiB with random bytes), and changes up to eight
-/// runs of sectors.
+/// Fills a chip with FFh or 00h or, one time in five if it has at most 256 KiB, with random bytes. Then changes up to
+/// eight runs of sectors.
 pub fn paint(dice: &mut Dice, bytes: &mut [u8]) {
     let base = dice.pick(Style::Erased, &[Style::Erased, Style::Cleared]);
     let small = bytes.len() <= 262_144;
@@ -68,8 +68,8 @@ pub fn paint(dice: &mut Dice, bytes: &mut [u8]) {
     }
 }
 
-/// Changes up to six runs of sectors in `image`. For a fifth of the chips of up to 256 KiB, all bytes are replaced
-/// first.
+/// Changes up to six runs of sectors in `image`. For about a fifth of the chips of up to 256 KiB, all bytes are
+/// replaced first.
 pub fn alter(dice: &mut Dice, image: &mut [u8]) {
     let small = image.len() <= 262_144;
     if small && dice.hits(1, 10) {
@@ -103,7 +103,7 @@ fn change_run(dice: &mut Dice, bytes: &mut [u8], style: Style) {
     }
 }
 
-// A run of one to three sectors, or one of at least 32 or 64 KiB from a multiple of that on.
+// Draws a run of one to three sectors, or one of at least 32 or 64 KiB that begins at a multiple of this length.
 fn run_for(dice: &mut Dice, sectors: u32) -> (u32, usize) {
     let from = sector(dice, sectors);
     match dice.below(4) {

@@ -55,7 +55,7 @@ fn check_damaged(bytes: &[u8], damage: Damage) -> Result<(), Fault> {
     }
 }
 
-// Half of the time one of the last 40 positions.
+// Draws a position, at least half of the time one of the last 40.
 fn place(dice: &mut Dice, length: usize) -> usize {
     let length = u32::try_from(length).unwrap_or(u32::MAX);
     let at = if dice.hits(1, 2) {

@@ -13,7 +13,7 @@ pub fn fixed(status: Status) -> Status {
     [status[0] & 0b1000_0000, status[1] & 0b0011_1111]
 }
 
-/// True if the status is locked: SRP0 or SRP1 is set.
+/// Returns whether the status is locked: SRP0 or SRP1 is set.
 pub fn is_locked(status: Status) -> bool {
     status[0] & 0b1000_0000 != 0 || status[1] & 0b0000_0001 != 0
 }
@@ -35,12 +35,12 @@ pub fn with_code(status: Status, code: u8) -> Status {
     [fixed1 | (code % 32 * 4), fixed2 | high]
 }
 
-/// True if the datasheets don't define these protection bits: SEC is set and BP is 110.
+/// Returns whether the datasheets don't define these protection bits: SEC is set and BP is 110.
 pub fn is_undefined(code: u8) -> bool {
     code / 16 % 2 == 1 && code % 8 == 6
 }
 
-// The protection bits must be defined.
+// Returns the length of the range that these bits select. The bits must be defined.
 fn part_len(code: u8, size: u32) -> u32 {
     let by_sectors = code / 16 % 2 == 1;
     match (by_sectors, code % 8) {
@@ -76,13 +76,13 @@ pub fn guarded_places(code: u8, size: u32) -> (u32, u32) {
     }
 }
 
-/// True if `code` protects this address on a chip of this size with block protection.
+/// Returns whether `code` protects this address on a chip of this size with block protection.
 pub fn guards(code: u8, size: u32, address: u32) -> bool {
     let (start, len) = guarded_places(code, size);
     start <= address && address < start.saturating_add(len)
 }
 
-/// True if `code` protects an address of the sector on a chip of this size with block protection.
+/// Returns whether `code` protects an address of the sector on a chip of this size with block protection.
 pub fn guards_some(code: u8, size: u32, sector: u32) -> bool {
     let start = sector.saturating_mul(4096);
     for address in start..start.saturating_add(4096) {
@@ -93,8 +93,8 @@ pub fn guards_some(code: u8, size: u32, sector: u32) -> bool {
     false
 }
 
-/// Returns the least protection bits that protect exactly `len` bytes from `start` on, if any do. Without bytes, any
-/// start will do.
+/// Returns the least protection bits that protect exactly `len` bytes from `start` on, if any do. If `len` is 0, any
+/// start is accepted.
 pub fn least_code(start: u32, len: u32, size: u32) -> Option<u8> {
     (0..64).find(|code| !is_undefined(*code) && protects_exactly(*code, start, len, size))
 }

@@ -9,7 +9,7 @@ use crate::{guards, lengths};
 use nor_journal::{Journal, MemVault};
 use std::alloc::Global;
 
-// An end mark of four bytes, and a SHA-256.
+// The length of the end mark (four bytes) and of the SHA-256 (32 bytes).
 const END_LEN: usize = 36;
 
 /// Returns the journal after the scan of the sectors below `below`, without the end mark and the digest.
@@ -96,7 +96,7 @@ pub fn check_stopped(
     agree(held == begun.as_slice(), "the journal that a stop leaves")
 }
 
-// One more than the last of the first `scanned` included sectors, or 0 without one.
+// Returns one more than the number of the last of the first `scanned` included sectors, or 0 if there is none.
 fn below(case: &Case, scanned: u64) -> u32 {
     let mut below = 0;
     let mut left = scanned;

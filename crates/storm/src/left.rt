@@ -46,7 +46,7 @@ impl<'a> Call<'a> {
         self.stop.after >= lines::count(self.whole)
     }
 
-    // A transaction that the stop interrupts has no line.
+    // Returns the lines of the transactions before the stop. A transaction that the stop interrupts has no line.
     fn lines(self) -> &'a str {
         lines::first(self.whole, self.stop.after)
     }

@@ -113,7 +113,7 @@ fn tell_restore(alloc: Global, bus: Faulty, saved: Saved<'_>) -> Told {
     Told { answer, sent }
 }
 
-// Errors must agree including the address. After a success, the report must count the transactions.
+// Checks the trace and the result. Errors must agree including the address; a report must count the transactions.
 fn check(ran: &Ran, told: Told, call: &'static str) -> Result<(), Fault> {
     let count = check_sent(ran.sent.as_slice(), told.sent.as_slice(), call)?;
     check_answer(ran.answer, told.answer, count)
@@ -149,7 +149,7 @@ struct Read {
     sent: Vec<u8>,
 }
 
-// After a success the result is the case with the chip that the replies describe.
+// The trace of the reference implementation, and its result: an error, or the case with the chip as replied.
 #[derive(Drop)]
 struct Known {
     answer: Result<Case, CallError>,
@@ -229,8 +229,8 @@ enum Lie {
 
 type Faulty = HighBus<SpoiltBus<SimBus>>;
 
-// Three of four faults that clear a bit are replaced by one that sets it, in the replies to one opcode, half of the
-// time 35h (status 2). This depends only on `count`.
+// Draws a fault. `Low`, which clears a bit, is replaced unless `count` is a multiple of 4: the bit is then set in the
+// replies to one opcode, in half of the cases 35h (status 2).
 fn lie_for(dice: &mut Dice, count: u64) -> Lie {
     let opcodes = [0x35, 0x05, 0x35, 0x9F, 0x35, 0x03, 0x35, 0x4B];
     let high = usize::try_from(count / 4 % 8)
@@ -245,8 +245,8 @@ fn lie_for(dice: &mut Dice, count: u64) -> Lie {
     }
 }
 
-// Half of the time the transaction of `Drop` and `BusyFrom` is in the last quarter of the call. A `Drop` at 0 has no
-// effect.
+// Draws a fault. At least half of the time the transaction of `Drop` and `BusyFrom` is in the last quarter of the call.
+// A `Drop` at 0 has no effect.
 fn spoil_for(dice: &mut Dice, count: u64) -> Spoil {
     let late = count / 4 * 3;
     let number = if dice.hits(1, 2) {

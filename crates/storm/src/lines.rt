@@ -161,7 +161,6 @@ pub fn byte_at(sent: &str, place: usize) -> u8 {
     u8::from_str_radix(digits, 16).unwrap_or(0)
 }
 
-/// Returns the number of lines.
 pub fn count(lines: &str) -> u64 {
     u64::try_from(lines.lines().count()).unwrap_or(u64::MAX)
 }

@@ -13,10 +13,10 @@ use std::alloc::Global;
 pub struct Stop {
     /// The number of transactions that are carried out before the stop.
     pub after: u64,
-    /// The number of bytes of the next transaction that are still sent, if it has so many. `None` sends none.
+    /// The greatest number of bytes of the next transaction that are still sent. `None` sends none.
     pub cut: Option<u32>,
     /// With `Some`, the stop is a power failure. Each byte of the page or block in progress becomes this byte; a status
-    /// write in progress is undone if it is even.
+    /// write in progress is undone if this byte is even.
     pub fill: Option<u8>,
 }
 
@@ -97,7 +97,7 @@ impl Model {
         ])
     }
 
-    // `sent` has the hexadecimal digits of the transaction without a stop.
+    // Stops at a transaction. `sent` has the hexadecimal digits that it would send without the stop.
     fn stop(&mut self, sent: &str, stop: Stop) {
         if let Some(count) = stop.cut {
             let digits = (count as usize).saturating_mul(2);
@@ -137,7 +137,7 @@ impl Model {
         self.chip.status[0] = guards::kept(self.chip.status)[0] | pace.bits();
     }
 
-    // True if the chip is idle with a set write enable latch, and none of the addresses is protected.
+    // Returns whether the chip is idle with a set write enable latch, and none of the addresses is protected.
     fn takes(&self, start: u32, len: u32) -> bool {
         let Chip { config, status, .. } = &self.chip;
         let (first, count) = guards::guarded_places(guards::code_of(*status), config.size);
@@ -151,7 +151,7 @@ impl Model {
         self.pace().bits() == 0b0000_0010
     }
 
-    // An LB bit that is set stays set, and the reserved bit keeps its value.
+    // Carries out a status write. An LB bit that is set stays set, and the reserved bit keeps its value.
     fn write_status(&mut self, one: u8, two: u8) {
         let before = guards::kept(self.chip.status);
         if !self.is_ready() || guards::is_locked(before) {
@@ -188,7 +188,7 @@ impl Model {
         }
     }
 
-    // Bits change only from 1 to 0. The last byte of the page is followed by its first.
+    // Carries out a program. Bits change only from 1 to 0, and the first byte of the page follows its last one.
     fn program(&mut self, sent: &str) {
         let address = self.address_of(sent);
         if !self.takes(address, 1) {
@@ -223,7 +223,7 @@ impl Model {
         self.set_pace(pace.without_power());
     }
 
-    // A status write leaves the old bits if `fill` is even, and the new bits if it is odd.
+    // Interrupts the operation. A status write leaves the old bits if `fill` is even, and the new bits if it is odd.
     fn cut_off(&mut self, fill: u8) {
         match self.work {
             Work::Bytes(start, len) => self.fill(start, len, fill),

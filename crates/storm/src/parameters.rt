@@ -56,7 +56,7 @@ pub fn show(dice: &mut Dice, told: Told) -> Shown {
     shown
 }
 
-// The number of bits minus one or, with bit 31 set, its binary logarithm.
+// Returns double word 2: the size in bits minus one or, with bit 31 set, the binary logarithm of the size in bits.
 fn density(dice: &mut Dice, size: u32) -> [u8; 4] {
     let bits = size.saturating_mul(8);
     if dice.hits(1, 3) {
@@ -66,7 +66,7 @@ fn density(dice: &mut Dice, size: u32) -> [u8; 4] {
     }
 }
 
-// In a random rotation, with others that `read` ignores.
+// Puts the erase types in a random rotation, with others that `read` ignores.
 fn put_kinds(dice: &mut Dice, shown: &mut Shown, start: usize, told: Told) {
     let blank = dice.pick([0x00, 0x00], &[[0x0C, 0x21], [0x12, 0xDC], [0x00, 0x52]]);
     let half = if told.k32 { [0x0F, 0x52] } else { blank };
@@ -186,7 +186,7 @@ fn read_table(table: &[u8; 36]) -> Result<Told, SfdpFault> {
     })
 }
 
-// `None` for a size that is none of the nine that a chip may have.
+// Returns `None` for a size that no chip may have.
 fn size_of(density: u32) -> Option<u32> {
     let bits = if density < 0x8000_0000 {
         Some(u64::from(density) + 1)

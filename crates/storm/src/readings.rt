@@ -110,8 +110,8 @@ impl Reading {
         lies::check_reading(alloc, dice, case, self, enough)
     }
 
-    // With a stop after `allowed` transactions the call must return `Stopped` after those lines of `whole`, or its
-    // result if it sends no more. The chip must be as before.
+    // Checks the call with a stop after `allowed` transactions. It must return `Stopped` after these lines of `whole`,
+    // or its result if it sends no more. The chip must be as before.
     fn check_under(
         self,
         alloc: Global,
@@ -241,7 +241,7 @@ fn copy_of(alloc: Global, case: &Case) -> Result<Vec<u8>, Fault> {
     Ok(copy)
 }
 
-// An empty range must be reported as 0, 0, and undefined protection bits without a range.
+// Checks a report on protection: an empty range must be 0, 0, and undefined protection bits have no range.
 fn check_protection(case: &Case, told: Protection) -> Result<(), Fault> {
     let code = guards::code_of(case.chip.status);
     let size = case.chip.config.size;
@@ -260,7 +260,7 @@ fn check_protection(case: &Case, told: Protection) -> Result<(), Fault> {
     ])
 }
 
-// The report counts no changes, the transactions of the probe, and one for each sector with an included address.
+// Checks that the report counts no changes, the transactions of the probe, and one for each included sector.
 fn check_report(case: &Case, report: &Report) -> Result<(), Fault> {
     checks::check_found(&case.chip, &report.found)?;
     let idle = report.touched == 0 && report.erases == 0 && report.programs == 0;
@@ -278,8 +278,8 @@ struct Copied {
     sent: Vec<u8>,
 }
 
-// A readout that must fail anyway must return the same error. Otherwise it must return error 19 with the number of
-// bytes in the vault, including those of the refused piece.
+// Checks a readout whose vault refuses a call. It must return the error that it returns anyway or, without one, error
+// 19 with the number of bytes in the vault, including those of the refused piece.
 fn check_refused_copy(alloc: Global, dice: &mut Dice, case: &Case) -> Result<(), Fault> {
     let nth = u64::from(dice.below(case.chip.sectors() / 16)).saturating_add(1);
     let kept = dice.pick(0, &[1, 4095, 65_535]);
@@ -292,7 +292,7 @@ fn check_refused_copy(alloc: Global, dice: &mut Dice, case: &Case) -> Result<(),
     }
 }
 
-// The vault refuses its call `nth`, from 1, and keeps the first `kept` bytes of its piece.
+// Reads out into a vault that refuses its call `nth`, from 1, and keeps the first `kept` bytes of its piece.
 fn copy_out(alloc: Global, case: &Case, bus: SimBus, (nth, kept): (u64, usize)) -> Copied {
     let mut sent = Vec::new(alloc);
     let mut bus = TraceBus::new(bus, &mut sent);
@@ -303,8 +303,8 @@ fn copy_out(alloc: Global, case: &Case, bus: SimBus, (nth, kept): (u64, usize)) 
     Copied { answer, out, sent }
 }
 
-// The vault must have the first `written` bytes of the copy. Only sectors up to the end of the refused piece (16
-// sectors each) may have been read.
+// Checks that the vault has the first `written` bytes of the copy, and that only sectors up to the end of the refused
+// piece (16 sectors each) were read.
 fn check_part(alloc: Global, case: &Case, written: u64, copied: &Copied) -> Result<(), Fault> {
     check_first(alloc, case, written, copied.out.inner().bytes())?;
     let piece = u32::try_from(written / 65_536).unwrap_or(u32::MAX);

@@ -115,7 +115,7 @@ fn check_ran(alloc: Global, accepted: Accepted<'_>, plan: Plan, ran: &Ran) -> Re
     check_restores(alloc, accepted, plan, rehearsal.restores, &ran.sent)
 }
 
-// The number of restores and the trace must be those of the calls one by one.
+// Checks that the number of restores and the trace are those of the calls one by one.
 fn check_restores(
     alloc: Global,
     accepted: Accepted<'_>,

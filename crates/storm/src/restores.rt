@@ -95,7 +95,7 @@ fn lines_of(alloc: Global, whole: Whole<'_>) -> Result<Lines, Fault> {
     }
 }
 
-// It must send `lines`, only those before a stop, or those of the reference implementation on the same faulty bus.
+// Checks a restore without a stop, with one, and on a faulty bus. Without a stop or fault it must send `lines`.
 fn check_lines(alloc: Global, dice: &mut Dice, whole: Whole<'_>, lines: &str) -> Result<(), Fault> {
     check_unstopped(alloc, whole, lines)?;
     check_stopped(alloc, dice, whole, lines)?;
@@ -134,8 +134,8 @@ fn check_ended(whole: Whole<'_>, ran: &Restored) -> Result<(), Fault> {
     checks::check_wanted(whole.wanted, &ran.bus)
 }
 
-// If the stop is after all `lines`, the result is that without a stop, otherwise `Stopped`. The chip must equal the
-// model.
+// Checks a stopped restore. If the stop is after all `lines`, the result is that without a stop, otherwise `Stopped`.
+// The chip must equal the model.
 fn check_stopped(
     alloc: Global,
     dice: &mut Dice,
@@ -177,8 +177,8 @@ fn check_stop(wanted: Option<Refusal>, lines: &str, ran: &Restored) -> Result<()
     traces::check_trace(ran.sent.as_slice(), lines, "a restore under a stop")
 }
 
-// One time in twelve an unrelated small chip, otherwise the original one, usually with changed bytes, half of the time
-// with new status bits or another unique ID.
+// Draws a chip: one time in twelve an unrelated small one, otherwise the original one, usually with changed bytes, and
+// half of the time with new status bits or another unique ID.
 fn other_chip(alloc: Global, dice: &mut Dice, chip: &Chip) -> Result<Chip, Fault> {
     if dice.hits(1, 12) {
         return chips::small(alloc, dice);

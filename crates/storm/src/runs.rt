@@ -66,7 +66,7 @@ fn check_case(
     check_session(alloc, dice, case, &ran, tally)
 }
 
-// Errors 1 to 8 come before the scan, and errors 9 and 10 after it. A request for a range has no scan.
+// Checks a session. Errors 1 to 8 come before the scan, 9 and 10 after it. A request for a range has no scan.
 fn check_session(
     alloc: Global,
     dice: &mut Dice,

@@ -120,8 +120,8 @@ pub fn fill_for(dice: &mut Dice, case: &Case) -> Option<u8> {
     }
 }
 
-// Untouched sectors and status bits that flashnor never changes must be as before; without block protection, or with a
-// locked status, all non-volatile status bits.
+// Checks that untouched sectors, and status bits that flashnor never changes, are as before. Without block protection,
+// or with a locked status, all non-volatile status bits must be as before.
 fn check_within(case: &Case, wanted: &Wanted, bus: &SimBus) -> Result<(), Fault> {
     check_outside(&case.chip, wanted, bus.bytes())?;
     let (before, after) = (guards::kept(case.chip.status), guards::kept(bus.status()));
@@ -144,7 +144,7 @@ fn check_outside(chip: &Chip, wanted: &Wanted, bytes: &[u8]) -> Result<(), Fault
     Ok(())
 }
 
-// In a sector that isn't raised, only bits that are 0 in the target may have changed, to 0. A loss of power may do
+// Checks that in a sector that isn't raised, only bits that are 0 in the target have changed. A loss of power may do
 // more.
 fn check_gentle(case: &Case, wanted: &Wanted, bus: &SimBus, fill: Option<u8>) -> Result<(), Fault> {
     if fill.is_some() {
@@ -169,7 +169,7 @@ fn is_gentle(old: &[u8], new: &[u8], now: &[u8]) -> bool {
         .all(|((old, new), now)| *new & !*now == 0 && *now & !*old == 0)
 }
 
-// If four restores with stops don't succeed, a last one without a stop must. A stop is a power failure if `first` is.
+// If up to four restores with stops fail, one without a stop must succeed. A stop is a power failure if `first` is.
 fn give_back(
     alloc: Global,
     dice: &mut Dice,
@@ -202,7 +202,7 @@ fn next_stop(dice: &mut Dice, accepted: Accepted<'_>, first: Stop) -> Stop {
     }
 }
 
-// A restore that did not succeed must leave a chip that `check_within` accepts.
+// Restores with a stop. A restore that fails must leave a chip that `check_within` accepts.
 fn give_some(
     alloc: Global,
     accepted: Accepted<'_>,

@@ -96,8 +96,8 @@ impl Tally {
         cuts: Cuts::NONE,
     };
 
-    /// True if accepted sessions, accepted restores, readings, the three counts of stops, and sessions with each of
-    /// errors 1 to 10 reach `least(cases)`. No session may have another error.
+    /// Returns whether accepted sessions, accepted restores, readings, the three counts of stops, and sessions with
+    /// each of errors 1 to 10 reach `least(cases)`. No session may have another error.
     pub fn is_sufficient(&self, cases: u64) -> bool {
         let least = least(cases);
         let mut refused = self.refused.iter().enumerate();
@@ -128,7 +128,6 @@ impl Tally {
         }
     }
 
-    /// Counts a rehearsal.
     pub fn count_rehearsal(&mut self) {
         self.rehearsed = self.rehearsed.wrapping_add(1);
     }

@@ -25,8 +25,8 @@ pub type Liar<'a> = TraceBus<HighBus<SpoiltBus<SimBus>>, &'a mut Vec<u8>>;
 /// The number of polls after which a wait returns `Timeout`.
 const MOST_POLLS: u32 = 65_536;
 
-/// The bytes that a session must have written to its vault, without the end mark and the digest, and whether it is
-/// sealed.
+/// The bytes that a session must have written to its vault, without the end mark and the digest, and whether the vault
+/// is sealed.
 #[derive(Drop)]
 pub struct Put {
     pub begun: Vec<u8>,
@@ -133,7 +133,7 @@ impl Caller<'_> {
         }
     }
 
-    // Returns the status 1 without BUSY, or `Timeout` with `address` after `MOST_POLLS` polls.
+    // Polls until BUSY is clear, and returns status 1. Returns `Timeout` with `address` after `MOST_POLLS` polls.
     fn wait(&mut self, address: u32) -> Result<u8, CallError> {
         for _ in 0..MOST_POLLS {
             let mut status1 = [0];
@@ -145,7 +145,7 @@ impl Caller<'_> {
         Err(CallError::Refused(Refusal::Timeout { address }))
     }
 
-    // The SFDP is not read if the ID has a row, or means that there is no chip.
+    // Finds the chip. Reads no SFDP if the ID has a row, or means that there is no chip.
     fn find(&mut self, named: Option<ChipName>) -> Result<(Config, u8), CallError> {
         let status1 = self.wait(0)?;
         let mut id = [0; 3];
@@ -163,7 +163,7 @@ impl Caller<'_> {
         Ok((config, status1))
     }
 
-    // The returned table is right after the headers, although the chip may have it elsewhere.
+    // Reads the SFDP. In the returned configuration the table follows the headers, even if the chip has it elsewhere.
     fn find_parameters(&mut self, id: [u8; 3]) -> Result<Config, CallError> {
         let mut signature = [0; 8];
         self.send(&[0x5A, 0x00, 0x00, 0x00, 0x00], &mut signature)?;
@@ -222,7 +222,7 @@ impl Caller<'_> {
         self.send(&[0x03, high, middle, low], sector)
     }
 
-    // The order is that of `transactions.rt`.
+    // Makes the changes, in the order of `transactions.rt`.
     fn change(&mut self, chip: &mut Chip, wanted: &Wanted) -> Result<(), CallError> {
         self.prepare(chip, wanted)?;
         for number in 0..chip.sectors() {
@@ -245,7 +245,7 @@ impl Caller<'_> {
         self.play(lines)
     }
 
-    // A sector that wasn't erased is read again, and only pages that then differ from the target are programmed.
+    // Programs a sector. One that wasn't erased is read again, and only pages that then differ are programmed.
     fn program(&mut self, chip: &mut Chip, wanted: &Wanted, number: u32) -> Result<(), CallError> {
         if !wanted.raises_all(number, 1) {
             self.take_sector(number, chip)?;
@@ -309,7 +309,7 @@ fn difference(start: u32, shown: &[u8], wanted: &[u8]) -> Option<Refusal> {
     None
 }
 
-// Each byte is FFh.
+// Returns a chip whose bytes are all FFh.
 fn unread(alloc: Global, config: Config, status: Status) -> Result<Chip, Fault> {
     Ok(Chip {
         config,
@@ -319,7 +319,7 @@ fn unread(alloc: Global, config: Config, status: Status) -> Result<Chip, Fault> 
     })
 }
 
-// The included addresses are only in `included`, since the reference implementation doesn't use those of the request.
+// Returns the case with this chip, and with the included addresses only in `included`, not in the request.
 fn asked_of(alloc: Global, case: &Case, chip: Chip) -> Result<Case, Fault> {
     Ok(Case {
         chip,
@@ -338,7 +338,7 @@ fn asked_of(alloc: Global, case: &Case, chip: Chip) -> Result<Case, Fault> {
     })
 }
 
-// The line must have no reply.
+// Returns the bytes that the transaction of this line sends. The line must have no reply.
 fn bytes_of(alloc: Global, line: &str) -> Result<Vec<u8>, Fault> {
     let mut bytes = Vec::new(alloc);
     for pair in line.as_bytes().chunks(2) {
@@ -350,7 +350,7 @@ fn bytes_of(alloc: Global, line: &str) -> Result<Vec<u8>, Fault> {
     Ok(bytes)
 }
 
-// 0 for a command without an address.
+// Returns the address of a command, or 0 if the command has none.
 fn address_of(command: &[u8]) -> u32 {
     match command {
         [0x02 | 0x20 | 0x52 | 0xD8, high, middle, low, ..] => {

@@ -80,7 +80,7 @@ fn erases_only_raised(sent: &str, sectors: u32, wanted: &Wanted) -> bool {
     true
 }
 
-// The first erased sector and their number, on a chip of `sectors` sectors.
+// Returns the first sector that the line erases and the number of these sectors, on a chip of `sectors` sectors.
 fn erased_by(line: &str, sectors: u32) -> Option<(u32, u32)> {
     let count = match byte_at(line, 0) {
         0xC7 => return Some((0, sectors)),

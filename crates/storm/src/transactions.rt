@@ -35,8 +35,8 @@ pub fn session(alloc: Global, case: &Case, wanted: &Wanted) -> Result<Lines, Fau
     lines.whole()
 }
 
-// During step 3 the session writes each touched sector to the vault as soon as it has read it. The vault's calls add no
-// line.
+// Appends steps 1 to 3 of a session. During step 3 the session writes each touched sector to the vault as soon as it
+// has read it, which adds no line.
 fn save(lines: &mut Lines, case: &Case, below: u32) {
     find(lines, &case.chip);
     identify(lines);
@@ -121,7 +121,7 @@ pub fn protection(alloc: Global, chip: &Chip, is_found: bool) -> Result<Lines, F
     lines.whole()
 }
 
-// The SFDP reads are the header, the first parameter header, and the table at the address in it.
+// Appends step 1. The SFDP reads are the header, the first parameter header, and the table at the address in it.
 fn find(lines: &mut Lines, chip: &Chip) {
     let config = &chip.config;
     lines.wait();
@@ -191,8 +191,8 @@ pub fn protect(lines: &mut Lines, chip: &Chip, wanted: &Wanted) {
     }
 }
 
-// Each erase takes the largest aligned block (64 KiB, 32 KiB or one sector) with only raised sectors that the chip can
-// erase at once.
+// Appends the erases. Each one takes the largest aligned block (64 KiB, 32 KiB or one sector) with only raised sectors
+// that the chip can erase at once.
 fn erase_blocks(lines: &mut Lines, chip: &Chip, wanted: &Wanted) {
     for block in 0..chip.sectors() / 16 {
         let first = block.saturating_mul(16);
@@ -232,7 +232,7 @@ pub fn program_sector(lines: &mut Lines, chip: &Chip, wanted: &Wanted, number: u
     }
 }
 
-// From the first byte that must be programmed to the last one, if any.
+// Appends a program from the first byte that must be programmed to the last one, if any.
 fn program_page(lines: &mut Lines, start: u32, (old, new): (&[u8], &[u8]), is_erased: bool) {
     if let Some((first, last)) = span(old, new, is_erased) {
         let bytes = new.get(first..last.saturating_add(1)).unwrap_or(&[]);
@@ -249,7 +249,7 @@ fn page_at(bytes: &Vec<u8>, start: u32) -> &[u8] {
         .unwrap_or(&[])
 }
 
-// In an erased page the bytes to program are those whose target isn't FFh, otherwise those that differ.
+// Returns the first and the last position to program: of bytes other than FFh in an erased page, else of differences.
 fn span(old: &[u8], new: &[u8], is_erased: bool) -> Option<(usize, usize)> {
     let mut found = None;
     for (place, (old, new)) in old.iter().zip(new).enumerate() {

@@ -8,7 +8,7 @@ use nor_chip::{Config, SECTOR_LEN};
 use nor_probe::{ChipName, part_of};
 use nor_session::{Refusal, What};
 
-/// True if the table of chips contains the ID.
+/// Returns whether the table of chips contains the ID.
 pub fn is_in_table(config: &Config) -> bool {
     name_of(config) != ChipName::Sfdp
 }
@@ -18,7 +18,7 @@ pub fn name_of(config: &Config) -> ChipName {
     part_of(config.id).map_or(ChipName::Sfdp, |part| part.name)
 }
 
-/// True if the ID is one that a bus without a chip returns: all FFh or all 00h.
+/// Returns whether the ID is one that a bus without a chip returns: all FFh or all 00h.
 pub fn is_no_chip(config: &Config) -> bool {
     config.id == [0xFF; 3] || config.id == [0x00; 3]
 }

@@ -74,7 +74,7 @@ impl Wanted {
         })
     }
 
-    /// True if the sector is touched.
+    /// Returns whether the sector is touched.
     pub fn touches(&self, number: u32) -> bool {
         touches(self.sectors.as_slice(), number)
     }
@@ -84,7 +84,7 @@ impl Wanted {
         u32::try_from(self.sectors.len()).unwrap_or(u32::MAX)
     }
 
-    /// True if each of the `count` sectors from `first` on is raised, as sectors past the end are.
+    /// Returns whether each of the `count` sectors from `first` on is raised, as sectors past the end are.
     pub fn raises_all(&self, first: u32, count: u32) -> bool {
         let from = self.sectors.get(first as usize..).unwrap_or(&[]);
         are_raised(from.get(..count as usize).unwrap_or(from))
@@ -102,8 +102,8 @@ impl Wanted {
         }
     }
 
-    // One write clears the protection bits if a touched sector is protected, and one sets the target's if they differ
-    // then.
+    // Counts the status writes: one clears the protection bits if a touched sector is protected, and one sets those of
+    // the target if they then differ.
     fn status_writes(&self, chip: &Chip) -> u64 {
         let lifted = self.first_guarded(chip).is_some();
         let code = if lifted {
@@ -143,7 +143,7 @@ fn take_span(case: &Case, span: Span, bytes: &mut [u8]) {
     }
 }
 
-// A request for a range has the least protection bits that protect exactly this range, if there are any.
+// Returns the target status. For a range it has the least protection bits that protect exactly this range, if any do.
 fn wanted_status(case: &Case) -> Status {
     let status = guards::kept(case.chip.status);
     let What::WpRange { start, len } = case.request.what else {
@@ -186,8 +186,8 @@ fn rises(old: &[u8], new: &[u8]) -> bool {
     old.iter().zip(new).any(|(old, new)| *new & !*old != 0)
 }
 
-// In a raised sector, which is erased first, these are the pages whose target isn't all FFh, otherwise those that
-// change.
+// Counts the pages to program. In a raised sector, which is erased first, these are the pages whose target isn't all
+// FFh, otherwise those that change.
 fn pages_of(old: &[u8], new: &[u8], raised: bool) -> u32 {
     let mut pages = 0_u32;
     for (old, new) in old.chunks(256).zip(new.chunks(256)) {
@@ -201,8 +201,8 @@ fn pages_of(old: &[u8], new: &[u8], raised: bool) -> u32 {
     pages
 }
 
-// One erase if all sectors are raised. Otherwise one for each aligned 64 KiB with only raised sectors, for each other
-// such 32 KiB, and for each other raised sector, as far as the chip has the erase types.
+// Returns 1 if all sectors are raised. Otherwise counts an erase for each aligned 64 KiB with only raised sectors, for
+// each other such 32 KiB, and for each other raised sector, as far as the chip has the erase types.
 fn fewest_erases(sectors: &[Sector], chip: &Chip) -> u64 {
     if are_raised(sectors) {
         return 1;
@@ -234,7 +234,7 @@ fn are_raised(sectors: &[Sector]) -> bool {
     sectors.iter().all(|sector| sector.raised)
 }
 
-/// True if the sector with this number is touched.
+/// Returns whether the sector with this number is touched.
 pub fn touches(sectors: &[Sector], number: u32) -> bool {
     match sectors.get(number as usize) {
         Some(sector) => sector.touched,
@@ -242,7 +242,6 @@ pub fn touches(sectors: &[Sector], number: u32) -> bool {
     }
 }
 
-/// Returns the number of touched sectors.
 pub fn touched_in(sectors: &[Sector]) -> u64 {
     let mut touched = 0_u64;
     for sector in sectors {

@@ -26,7 +26,7 @@ fn must_tell(told: Result<(), Fault>, what: &'static str) -> Result<(), Fault> {
     }
 }
 
-// The number of a line that is wrong, missing or additional must be reported.
+// Checks that the number of a line that is wrong, missing or additional is reported.
 fn check_places() -> Result<(), Fault> {
     let rows = [
         ("05 > 00\n9f > fe1010\n", None),
@@ -48,7 +48,7 @@ fn check_places() -> Result<(), Fault> {
     Ok(())
 }
 
-// A wrong byte of the target, a modifying command before the seal, and an erase of too many sectors must be detected.
+// Checks that a wrong byte of the target, a modifying command before the seal, and an additional erase are detected.
 fn check_session(alloc: Global) -> Result<(), Fault> {
     let case = Case::next(alloc, &mut Dice::new(1, 0))?;
     let ran = checks::run(alloc, &case, Stop::NEVER)?;
@@ -96,7 +96,7 @@ fn check_byte(case: &Case, wanted: &mut Wanted, lines: &str, ran: &Ran) -> Resul
     must_tell(told, "the bytes at the end")
 }
 
-// A model that received one byte less must be detected.
+// Checks that a model that received one byte less is detected.
 fn check_cut(alloc: Global) -> Result<(), Fault> {
     let case = Case::next(alloc, &mut Dice::new(1, 0))?;
     let wanted = Wanted::of_case(alloc, &case)?;
@@ -114,8 +114,8 @@ fn check_cut_in(alloc: Global, case: &Case, lines: &str) -> Result<(), Fault> {
     }
 }
 
-// Five bytes are the opcode, the address, and the first data byte, which differs from the chip's. The wrong model gets
-// four.
+// Compares a chip that received five bytes of a program (opcode, address, and a first data byte that differs from the
+// chip's) with a model that received four.
 fn check_cut_after(alloc: Global, case: &Case, lines: &str, after: u64) -> Result<(), Fault> {
     let stop = Stop {
         cut: Some(5),
@@ -143,7 +143,7 @@ fn check_model(
     model.check(bus)
 }
 
-// An additional line and a modifying command must be detected.
+// Checks that an additional line and a modifying command are detected.
 fn check_refusal(alloc: Global) -> Result<(), Fault> {
     let case = Case::next(alloc, &mut Dice::new(1, 18))?;
     let Some(refusal) = verdicts::of_opening(&case) else {

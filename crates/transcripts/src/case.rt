@@ -117,7 +117,7 @@ fn step_of(line: &str) -> (Word, &str) {
     (Word::of(word), rest)
 }
 
-/// True if each line of the text is blank, or begins with `#` after any white space.
+/// Returns whether each line of the text is blank, or begins with `#` after any white space.
 pub fn is_blank(text: &str) -> bool {
     for line in text.split('\n') {
         if !matches!(step_of(line).0, Word::Nothing) {

@@ -93,7 +93,7 @@ impl Word {
         )
     }
 
-    /// True if the line must be a check. A line that begins with an unknown word counts as a check, which fails.
+    /// Returns whether the line must be a check. A line with an unknown first word counts as a check, which fails.
     pub fn is_check(self) -> bool {
         !self.is_action() && !matches!(self, Word::Nothing)
     }

@@ -111,7 +111,7 @@ impl Flash {
         }
     }
 
-    // The next `each` polls show BUSY. If `each` is 0, the operation ends at once.
+    // Begins an operation: the next `each` polls show BUSY. If `each` is 0, the operation ends at once.
     fn begin(&mut self, running: Running)
         requires { RunsInside self.old.config.size running }
         ensures begins { Begins running self.old.each (chip_of self.old) (chip_of self.new) }
@@ -122,7 +122,7 @@ impl Flash {
         self.latch = self.each != 0;
     }
 
-    // The poll that shows the last BUSY also clears the write enable latch.
+    // Counts a poll. The poll that shows the last BUSY also clears the write enable latch.
     fn tick(&mut self)
         ensures does { Does Command.Poll [] (chip_of self.old) [] (chip_of self.new) }
         ensures paces { Paces Command.Poll self.old self.new }
