@@ -24,7 +24,7 @@ none_rest answer reply [] e len = refl
 none_rest answer reply (x ∷ rest) e len =
     absurd (omega (arith, length-append reply (x ∷ rest), ap length e))
 
-steps_then : (out answer : List ℕ) (old sent new : Device) → new.chip ≡ sent.chip → new.worn ≡ sent.worn
+pub steps_then : (out answer : List ℕ) (old sent new : Device) → new.chip ≡ sent.chip → new.worn ≡ sent.worn
     → StepsOnce out answer old sent → StepsOnce out answer old new
 steps_then out answer old sent new chip worn steps = record {
   step = subst (λ (c : Chip). Step old.chip out answer c) (sym chip) steps.step;

@@ -5,3 +5,8 @@ pub mod Synchronized
 pub mod Handshaken
 pub mod Stops
 pub mod Framed
+pub mod Enabling
+pub mod Enabled
+pub mod Batches
+pub mod Batched
+pub mod BatchLaw

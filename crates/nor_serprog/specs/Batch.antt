@@ -1,8 +1,12 @@
 -- A link and the write enable that waits to be sent over it, as contracts see them.
-use Rattle.std.specs.Prelude.{Bool}
+use Rattle.std.specs.Prelude.{◌≡◌, ◌≤◌, ℕ, Bool, true}
 use Rattle.nor_serprog.specs.declared.batch.Batch.{Batch}
 use Rattle.nor_serprog.specs.declared.link.Link.{Link}
 use Rattle.nor_serprog.specs.declared.port.Port.{Ghosts}
+use Rattle.nor_serprog.specs.Device.{Device, PortState}
+use Rattle.nor_serprog.specs.Firmware.{buffer_at}
+use Rattle.nor_serprog.specs.Enabled.{enabled_device}
+use Rattle.nor_serprog.specs.Link.{is_in_step, IsSettled}
 
 -- The link to the programmer.
 abbrev pub batch_link : {P C : Type 0} {over : Ghosts P C} → Batch P C over → Link P C
@@ -11,3 +15,20 @@ batch_link batch = batch.link
 -- True if the frame of a write enable waits to be sent.
 abbrev pub waits_in : {P C : Type 0} {over : Ghosts P C} → Batch P C over → Bool
 waits_in batch = batch.waits
+
+-- The size of the serial buffer that the programmer reported, or 0 if it lacks the query.
+abbrev pub buffer_in : {P C : Type 0} {over : Ghosts P C} → Batch P C over → ℕ
+buffer_in batch = batch.buffer
+
+-- The programmer of the port, with the chip as it is after the write enable that waits.
+abbrev pub device_of : {P C : Type 0} {over : Ghosts P C} → Batch P C over → Device
+device_of {over = over} batch = enabled_device batch.waits (over.state batch.link.port).device
+
+-- Holds if the link is settled, and over a well-behaved port the programmer's serial buffer holds `least` bytes.
+pub record IsSettledFor {P C : Type 0} (least : ℕ) (port : P → PortState) (link : Link P C) : Type 0 where
+  pub settled : IsSettled port link
+  pub buffer : (port link.port).honest ≡ true → is_in_step link ≡ true
+      → least ≤ buffer_at (port link.port).device.firmware
+
+abbrev pub IsSettledBatch : {P C : Type 0} {over : Ghosts P C} → Batch P C over → Type 0
+IsSettledBatch {over = over} batch = IsSettledFor batch.buffer over.state batch.link

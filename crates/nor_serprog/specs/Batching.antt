@@ -1,6 +1,6 @@
 -- The bus that sends a write enable together with the command after it, as contracts see it.
-use Rattle.std.specs.Prelude.{ℕ, List, Bool, true, Option}
-use Rattle.nor_model.specs.Bus.{BusState, unknown_bus}
+use Rattle.std.specs.Prelude.{◌&&◌, ℕ, List, [], Bool, true, false, not, Option}
+use Rattle.nor_model.specs.Bus.{BusState}
 use Rattle.nor_model.specs.Exchange.{Exchange}
 use Rattle.nor_model.specs.PolledReady.{polled_ready_in}
 use Rattle.nor_model.specs.Sent.{Sent, sent_in}
@@ -10,6 +10,8 @@ use Rattle.nor_serprog.specs.declared.port.Port.{Ghosts}
 use Rattle.nor_serprog.specs.declared.link.Failure.{Failure}
 use Rattle.nor_serprog.specs.Link.{is_in_step}
 use Rattle.nor_serprog.specs.Asked.{IsFramed}
+use Rattle.nor_serprog.specs.Device.{PortState}
+use Rattle.nor_serprog.specs.Enabled.{enabled}
 
 -- The link to the programmer.
 abbrev pub link_of : {P C : Type 0} {over : Ghosts P C} → BatchingBus P C over → Link P C
@@ -51,7 +53,34 @@ cause_of batching = batching.cause
 abbrev pub is_ready : {P C : Type 0} {over : Ghosts P C} → BatchingBus P C over → Bool
 is_ready batching = is_in_step batching.batch.link
 
--- The state of the bus. It has further types, and otherwise only its history is known. A write enable that waits is
--- already in the history, with an empty reply.
+-- True if the chip may be of a further type (`has_further_types`). Such a bus isn't well-behaved as contracts see it,
+-- since well-behaved buses have no further types.
+abbrev pub has_further : {P C : Type 0} {over : Ghosts P C} → BatchingBus P C over → Bool
+has_further batching = batching.further
+
+-- The state of a bus over a port in this state. The chip is the programmer's. If a write enable waits and this chip is
+-- idle, its write enable latch is set, since the write enable is in the history already. A write enable that is never
+-- carried out counts as a loss of power, which clears the latch of an idle chip and changes nothing else. The bus isn't
+-- punctual, since a transaction may take more calls of the port than the next one. It is unlimited, because a bus that
+-- isn't punctual may stop at any transaction, and this one stops at each that is too long.
+abbrev pub over_batch : (waits further : Bool) → PortState → (history : List Exchange) → BusState
+over_batch waits further port history = record {
+  chip = enabled waits port.device.chip;
+  left = 0;
+  honest = port.honest && not further;
+  history = history;
+  sent = sent_in history;
+  allowances = [];
+  worn = port.device.worn;
+  steady = false;
+  unlimited = true;
+  longer = 0;
+  punctual = false;
+  polled_ready = polled_ready_in history;
+  further = further;
+}
+
+-- The state of the bus.
 abbrev pub serprog_state : {P C : Type 0} {over : Ghosts P C} → BatchingBus P C over → BusState
-serprog_state batching = record (unknown_bus (history_of batching)) { further = true }
+serprog_state {over = over} batching =
+    over_batch batching.batch.waits batching.further (over.state batching.batch.link.port) (history_of batching)

@@ -9,7 +9,7 @@ use Rattle.nor_model.specs.Step.{Step, done_of, wears}
 use Rattle.nor_serprog.specs.declared.command.Command.{Command}
 use Rattle.nor_serprog.specs.declared.command.Command.TheVariants.{Operate}
 use Rattle.nor_serprog.specs.Frame.{IsFrame, out_in, replies_in}
-use Rattle.nor_serprog.specs.Firmware.{Firmware, ProgrammerSettings, HaveReplies, frames_of, replies_of, settings_after_all, unknown_firmware}
+use Rattle.nor_serprog.specs.Firmware.{Firmware, ProgrammerSettings, HaveReplies, frames_of, replies_of, settings_after_all, buffer_at, unknown_firmware}
 
 -- The state of a programmer and its chip.
 pub record Device : Type 0 where
@@ -76,6 +76,30 @@ pub record CompletesOperation (bytes : List ℕ) (old : Device) : Type 0 where
   pub whole : IsFrame (old.begun ++ bytes)
   pub opcode : slice_index (old.begun ++ bytes) 0 ≡ 0x13
 
+-- Holds if `bytes` are two whole frames of O_SPIOP, which fit into the serial buffer together, and the programmer is
+-- idle. The first frame requests no reply bytes.
+pub record CompletesBoth (first second bytes : List ℕ) (old : Device) : Type 0 where
+  pub idle : IsIdle old
+  pub is : bytes ≡ first ++ second
+  pub whole : IsFrame first
+  pub opcode : slice_index first 0 ≡ 0x13
+  pub unanswered : replies_in first ≡ 0
+  pub second_whole : IsFrame second
+  pub second_opcode : slice_index second 0 ≡ 0x13
+  pub fits : length bytes ≤ buffer_at old.firmware
+
+-- Holds if the programmer carried out the frames `first` and `second` of O_SPIOP, in this order.
+pub record OperatesBoth (first second : List ℕ) (old new : Device) : Type 0 where
+  pub between : Device
+  pub former : OperatesFrame first old between
+  pub latter : OperatesFrame second between new
+
+-- Holds if the programmer carried out the frame `first`, and the transaction of the frame `second` was cut.
+pub record CutsSecond (first second : List ℕ) (old new : Device) : Type 0 where
+  pub between : Device
+  pub former : OperatesFrame first old between
+  pub cut : IsCut (out_in second) between new
+
 -- Holds if `bytes` are the frames of `commands`, whose replies are specified, and no command is incomplete.
 pub record AsksFor (commands : List Command) (bytes : List ℕ) (old : Device) : Type 0 where
   pub begun : old.begun ≡ []
@@ -90,14 +114,19 @@ pub record RepliesTo (commands : List Command) (old new : Device) : Type 0 where
   pub chip : new.chip ≡ old.chip
   pub worn : new.worn ≡ old.worn
 
--- Holds if one call sent all of `bytes`. Their effect is specified only if they complete a frame of O_SPIOP, or are
--- whole frames of other commands (`AsksFor`).
+-- Holds if one call sent all of `bytes`. Their effect is specified only if they complete a frame of O_SPIOP, are two
+-- frames of O_SPIOP that fit into the serial buffer (`CompletesBoth`), or are whole frames of other commands
+-- (`AsksFor`).
 pub record IsSent (bytes : List ℕ) (old new : PortState) : Type 0 where
   pub left : old.left ≡ new.left + 1
   pub firmware : new.device.firmware ≡ old.device.firmware
   pub done : CompletesOperation bytes old.device → OperatesFrame (old.device.begun ++ bytes) old.device new.device
   pub replies : (commands : List Command) → AsksFor commands bytes old.device
       → RepliesTo commands old.device new.device
+  -- A programmer whose firmware reports a serial buffer that holds both frames, but which loses bytes of the second
+  -- frame while it carries out the first, has no well-behaved port.
+  pub both : (first second : List ℕ) → CompletesBoth first second bytes old.device
+      → OperatesBoth first second old.device new.device
 
 -- Holds if `frame`, a frame of O_SPIOP, is within the limits of every well-behaved port: it sends at most a page
 -- program, requests at most a sector, and no reply is pending.
@@ -113,8 +142,9 @@ pub record AreWithinLimits (commands : List Command) (device : Device) : Type 0 
   pub reads : length (replies_of device.firmware commands) ≤ 4096
 
 -- Holds if the port failed while it sent `bytes`, after any number of them. If they would complete a frame of O_SPIOP,
--- its transaction was cut, since a programmer may begin a transaction before its frame is complete. Bytes within the
--- limits fail only if no call was left.
+-- its transaction was cut, since a programmer may begin a transaction before its frame is complete. If they are two
+-- frames of O_SPIOP, the transaction of one was cut, and that of the second was cut only after the first was carried
+-- out. Bytes within the limits fail only if no call was left; of two frames of O_SPIOP this isn't required.
 pub record IsCutOff (bytes : List ℕ) (old new : PortState) : Type 0 where
   pub firmware : new.device.firmware ≡ old.device.firmware
   pub none_left_for_commands : (commands : List Command) → AsksFor commands bytes old.device
@@ -125,6 +155,8 @@ pub record IsCutOff (bytes : List ℕ) (old new : PortState) : Type 0 where
       → old.left ≡ 0
   pub left : new.left ≡ 0
   pub cut : CompletesOperation bytes old.device → IsCut (out_in (old.device.begun ++ bytes)) old.device new.device
+  pub cut_both : (first second : List ℕ) → CompletesBoth first second bytes old.device
+      → IsCut (out_in first) old.device new.device ⊎ CutsSecond first second old.device new.device
 
 pub record IsReceived (bytes : List ℕ) (old new : PortState) : Type 0 where
   pub left : old.left ≡ new.left + 1

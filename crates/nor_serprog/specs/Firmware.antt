@@ -45,6 +45,10 @@ is_in_map commands opcode = slice_index commands (opcode / 8) / 2 ^ (opcode % 8)
 abbrev pub has_command : Firmware → (opcode : ℕ) → Bool
 has_command firmware opcode = is_in_map firmware.commands opcode
 
+-- The size of the serial buffer that the programmer reports (Q_SERBUF), or 0 if the programmer lacks the query.
+abbrev pub buffer_at : Firmware → ℕ
+buffer_at firmware = if has_command firmware 0x04 then firmware.buffer else 0
+
 abbrev pub two_of : ℕ → List ℕ
 two_of n = n % 256 ∷ n / 256 % 256 ∷ []
 

@@ -1,5 +1,6 @@
 -- The limits, settings and features that a programmer reported when it was identified.
 use Rattle.std.specs.Prelude.{ℕ, Bool, List, Option}
+use Rattle.nor_serprog.specs.declared.programmer.AnyProgrammer.{AnyProgrammer}
 use Rattle.nor_serprog.specs.declared.programmer.Programmer.{Programmer}
 
 abbrev pub writes_most : Programmer → ℕ
@@ -17,6 +18,10 @@ programmer_name programmer = programmer.reported.name
 -- The size of the serial buffer in bytes, or 0 if the programmer lacks Q_SERBUF.
 abbrev pub buffer_of : Programmer → ℕ
 buffer_of programmer = programmer.reported.serial_buffer
+
+-- The same of a programmer with lower limits.
+abbrev pub any_buffer_of : AnyProgrammer → ℕ
+any_buffer_of programmer = programmer.serial_buffer
 
 abbrev pub frequency_of : Programmer → Option ℕ
 frequency_of programmer = programmer.reported.frequency

@@ -1,7 +1,9 @@
 //! A write enable that waits to be sent over a link. It is sent together with the page program that it enables, which
 //! saves a round trip.
-ghost use Rattle.std.specs.Prelude.{◌≡◌, ◌<◌, ◌≤◌, ◌⊎◌, ◌++◌, ◌∷◌, [], true, false, length, OnOk, OnErr, IfOk};
-ghost use Rattle.nor_serprog.specs.Frame.{operation_frame};
+ghost use Rattle.std.specs.Prelude.{◌≡◌, ◌<◌, ◌≤◌, ◌⊎◌, ◌++◌, ◌∷◌, [], ℕ, List, true, false, length, OnOk, OnErr, IfOk};
+ghost use Rattle.nor_serprog.specs.Device.{StepsOnce, IsCut};
+ghost use Rattle.nor_serprog.specs.Enabled.{SameChipOf};
+ghost use Rattle.nor_serprog.specs.Frame.{operation_frame, IsFrame, replies_in};
 ghost use Rattle.nor_serprog.specs.Asked.{enable_frame, AsksLead, AsksInOrder, AsksSync, FitsOperation, IsLongProgram, acks};
 ghost use Rattle.nor_serprog.specs.Link.{port_of, is_in_step};
 
@@ -38,12 +40,13 @@ pub(crate) struct Batch<P: Port + Drop> {
 }
 
 impl<P: Port + Drop> Batch<P> {
-    ghost use Rattle.nor_serprog.specs.Batch.{batch_link, waits_in};
+    ghost use Rattle.nor_serprog.specs.Batch.{batch_link, waits_in, buffer_in, device_of, IsSettledBatch};
 
     /// Returns a batch over a link whose programmer was identified. Nothing waits.
     pub(crate) fn new(link: Link<P>, programmer: &AnyProgrammer) -> Batch<P>
         ensures link { batch_link result ≡ link }
         ensures empty { waits_in result ≡ false }
+        ensures buffer { buffer_in result ≡ programmer.now.serial_buffer }
     {
         Batch {
             link,
@@ -66,6 +69,9 @@ impl<P: Port + Drop> Batch<P> {
     /// Returns `OutOfStep` or `CutFrame` if the link was out of step. Otherwise returns `TooLong` if the transaction
     /// does not fit into one frame, or reads more than the programmer can; then nothing was sent, and the write enable
     /// still waits. After any other error nothing waits.
+    ///
+    /// Over a well-behaved port, the chip with the write enable that waits (`device_of`) made one step, or this step
+    /// was cut.
     pub(crate) fn transact(&mut self, out: &[u8], reply: &mut [u8]) -> Result<(), Failure<P::Cause>>
         ensures silent { is_in_step (batch_link self.old) ≡ false → self.new ≡ self.old }
         ensures was_in_step { OnOk result (is_in_step (batch_link self.old) ≡ true) }
@@ -86,6 +92,13 @@ impl<P: Port + Drop> Batch<P> {
             ≡ (P.state (port_of (batch_link self.old))).received ++ acks (waits_in self.old)) }
         ensures acked { OnOk result (waits_in self.new ≡ false → (P.state (port_of (batch_link self.new))).received
             ≡ (P.state (port_of (batch_link self.old))).received ++ (acks (waits_in self.old) ++ 0x06 ∷ reply.new)) }
+        ensures nature { (P.state (port_of (batch_link self.new))).honest
+            ≡ (P.state (port_of (batch_link self.old))).honest }
+        ensures settled { IsSettledBatch self.old → IsSettledBatch self.new }
+        ensures carried { IsSettledBatch self.old → (P.state (port_of (batch_link self.old))).honest ≡ true
+            → OnOk result (StepsOnce out.now reply.new (device_of self.old) (device_of self.new)) }
+        ensures cut { IsSettledBatch self.old → (P.state (port_of (batch_link self.old))).honest ≡ true
+            → OnErr result (IsCut out.now (device_of self.old) (device_of self.new)) }
     {
         if self.link.sync() != Sync::InStep || reply.len() > self.longest_read as usize {
             return Err(self.link.rejection());
@@ -116,6 +129,14 @@ impl<P: Port + Drop> Batch<P> {
             ≡ (P.state (port_of (batch_link self.old))).received ++ acks (waits_in self.old)) }
         ensures asked { AsksLead (waits_in self.old) (P.state (port_of (batch_link self.old))).asked
             (P.state (port_of (batch_link self.new))).asked }
+        ensures nature { (P.state (port_of (batch_link self.new))).honest
+            ≡ (P.state (port_of (batch_link self.old))).honest }
+        ensures buffer { buffer_in self.new ≡ buffer_in self.old }
+        ensures settled { IsSettledBatch self.old → IsSettledBatch self.new }
+        ensures carried { IsSettledBatch self.old → (P.state (port_of (batch_link self.old))).honest ≡ true
+            → OnOk result (SameChipOf (device_of self.old) (device_of self.new)) }
+        ensures cut { IsSettledBatch self.old → (P.state (port_of (batch_link self.old))).honest ≡ true
+            → OnErr result ((out : List ℕ) → IsCut out (device_of self.old) (device_of self.new)) }
     {
         if !self.waits {
             return Ok(());
@@ -132,6 +153,7 @@ impl<P: Port + Drop> Batch<P> {
         ensures asked { (self.new ≡ self.old) ⊎ ((is_in_step (batch_link self.old) ≡ false)
             × AsksSync (P.state (port_of (batch_link self.old))).asked
             (P.state (port_of (batch_link self.new))).asked) }
+        ensures settled { IsSettledBatch self.old → IsSettledBatch self.new }
     {
         if self.link.sync() == Sync::InStep {
             return Ok(());
@@ -149,6 +171,14 @@ impl<P: Port + Drop> Batch<P> {
         ensures err { OnErr result (is_in_step (batch_link self.new) ≡ false) }
         ensures asked { AsksLead (waits_in self.old) (P.state (port_of (batch_link self.old))).asked
             (P.state (port_of (batch_link self.new))).asked }
+        ensures nature { (P.state (port_of (batch_link self.new))).honest
+            ≡ (P.state (port_of (batch_link self.old))).honest }
+        ensures settled { IsSettledBatch self.old → IsSettledBatch self.new }
+        ensures carried { (reply : List ℕ) → length reply ≡ 0 → IsSettledBatch self.old
+            → (P.state (port_of (batch_link self.old))).honest ≡ true
+            → OnOk result (StepsOnce (0x06 ∷ []) reply (device_of self.old) (device_of self.new)) }
+        ensures cut { IsSettledBatch self.old → (P.state (port_of (batch_link self.old))).honest ≡ true
+            → OnErr result ((out : List ℕ) → IsCut out (device_of self.old) (device_of self.new)) }
     {
         self.flush()?;
         self.waits = true;
@@ -159,6 +189,8 @@ impl<P: Port + Drop> Batch<P> {
 fn encode<C>(out: &[u8], replies: u32) -> Result<Frame, Failure<C>>
     ensures exact { IfOk result (λ frame. frame.items ≡ operation_frame out.now replies) }
     ensures len { IfOk result (λ frame. length frame.items ≤ 267) }
+    ensures whole { IfOk result (λ frame. IsFrame frame.items) }
+    ensures reads { IfOk result (λ frame. replies_in frame.items ≡ replies) }
     ensures fits { OnOk result (FitsOperation out.now replies) }
 {
     let command = Command::Operate { out, replies };

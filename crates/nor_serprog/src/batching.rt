@@ -1,7 +1,7 @@
 //! A bus to the chip at a serial programmer that needs few round trips.
-ghost use Rattle.std.specs.Prelude.{◌≡◌, ◌⊎◌, ◌∷◌, ◌++◌, [], ℕ, List, true, false, length, OnOk, OnErr, IsSome, option_copied};
-ghost use Rattle.std.proofs.lemmas.Bool.{false≢true};
+ghost use Rattle.std.specs.Prelude.{◌≡◌, ◌≤◌, ◌⊎◌, ◌∷◌, ◌++◌, [], ℕ, List, true, false, length, OnOk, OnErr, IsSome, option_copied};
 ghost use Rattle.nor_model.specs.Bus.{Transfers};
+ghost use Rattle.nor_serprog.specs.Batch.{IsSettledBatch};
 
 use crate::batch::Batch;
 use crate::{AnyProgrammer, Failure, Link, Port, Programmer, Sync};
@@ -34,20 +34,31 @@ use nor_model::{Bus, History, Stopped};
 /// rejected: nothing is sent, and the write enable that waits still waits. After any other transaction that failed,
 /// nothing waits, and no transaction is sent until `synchronize` returns `Ok`.
 ///
-/// The bus is not well-behaved as `Bus` defines it, even over a well-behaved port, because a write enable that waits
-/// has not reached the chip.
+/// Over a well-behaved port, the bus that `emulated` returns is well-behaved, for transactions of any length. Its chip
+/// is the programmer's, with the write enable latch set while a write enable waits and the chip is idle. If this write
+/// enable is never carried out, the chip is as after a loss of power, which also clears the latch. The bus is not
+/// punctual, and may stop at any transaction, even if calls of the port are left.
+///
+/// The buses that `new` and `over` return are for real chips, and may have chips of further types. A contract sees no
+/// such bus as well-behaved. They send the same.
 #[derive(Drop)]
 pub struct BatchingBus<P: Port + Drop> {
     batch: Batch<P>,
     programmer: AnyProgrammer,
     cause: Option<Failure<P::Cause>>,
     history: History,
+    further: bool,
+    // As for `SerprogBus`, and the programmer's serial buffer holds as many bytes as the batch assumes.
+    ghost settled: { further ≡ false → IsSettledBatch batch },
 }
 
 impl<P: Port + Drop> BatchingBus<P> {
     ghost use Rattle.nor_serprog.specs.Batching.{link_of, port_in, waits_of, history_of, sent_of, polled_ready_of};
-    ghost use Rattle.nor_serprog.specs.Batching.{cause_of, is_ready, SendsFrames};
-    ghost use Rattle.nor_serprog.specs.Link.{port_of};
+    ghost use Rattle.nor_serprog.specs.Batching.{cause_of, is_ready, has_further, SendsFrames};
+    ghost use Rattle.nor_serprog.specs.Device.{IsIdle};
+    ghost use Rattle.nor_serprog.specs.Firmware.{buffer_at};
+    ghost use Rattle.nor_serprog.specs.Link.{port_of, is_in_step};
+    ghost use Rattle.nor_serprog.specs.Programmer.{any_buffer_of};
 
     /// Returns a bus over a link whose programmer was identified (`Programmer::identify`).
     pub fn new(link: Link<P>, programmer: Programmer) -> BatchingBus<P>
@@ -78,6 +89,33 @@ impl<P: Port + Drop> BatchingBus<P> {
             programmer,
             cause: None,
             history: History::new(),
+            further: true,
+        }
+    }
+
+    /// Returns a bus as `over` does, except that its chip is of no further type, as a chip of the model. The link must
+    /// be in step. If the port is well-behaved, the programmer must be idle, and `programmer` must not report a longer
+    /// serial buffer than it has; `AnyProgrammer::identify` returns what it reports.
+    pub fn emulated(link: Link<P>, programmer: AnyProgrammer) -> BatchingBus<P>
+        requires in_step { is_in_step link ≡ true }
+        requires idle { (P.state (port_of link)).honest ≡ true → IsIdle (P.state (port_of link)).device }
+        requires buffer { (P.state (port_of link)).honest ≡ true
+            → any_buffer_of programmer ≤ buffer_at (P.state (port_of link)).device.firmware }
+        ensures link { link_of result ≡ link }
+        ensures empty { waits_of result ≡ false }
+        ensures further { has_further result ≡ false }
+        ensures history { history_of result ≡ [] }
+        ensures sent { sent_of result ≡ [] }
+        ensures polled_ready { polled_ready_of result ≡ false }
+        ensures frames { SendsFrames (P.state (port_of link)).asked result }
+    {
+        let batch = Batch::new(link, &programmer);
+        BatchingBus {
+            batch,
+            programmer,
+            cause: None,
+            history: History::new(),
+            further: false,
         }
     }
 
@@ -110,6 +148,7 @@ impl<P: Port + Drop> BatchingBus<P> {
         ensures silent { is_ready self.old ≡ false → link_of self.new ≡ link_of self.old }
         ensures frames { (start : List (List ℕ)) → SendsFrames start self.old → SendsFrames start self.new }
         ensures empty { waits_of self.new ≡ false }
+        ensures further { has_further self.new ≡ has_further self.old }
     {
         match self.batch.flush() {
             Ok(()) => Ok(()),
@@ -129,6 +168,7 @@ impl<P: Port + Drop> BatchingBus<P> {
         ensures frames { (start : List (List ℕ)) → SendsFrames start self.old → SendsFrames start self.new }
         ensures ok { OnOk result (is_ready self.new ≡ true) }
         ensures err { OnErr result (is_ready self.new ≡ false) }
+        ensures further { has_further self.new ≡ has_further self.old }
     {
         self.batch.synchronize()
     }
@@ -138,10 +178,16 @@ impl<P: Port + Drop> Bus for BatchingBus<P> {
     ghost use Rattle.nor_serprog.specs.Batching.{link_of, port_in, waits_of, cause_of, is_ready, serprog_state};
     ghost use Rattle.nor_serprog.specs.Batching.{SendsFrames};
     ghost use Rattle.nor_serprog.specs.Asked.{acks};
+    ghost use Rattle.std.proofs.lemmas.Bool.{and_parts};
 
     ghost state = { serprog_state };
 
-    ghost reaches = { λ batching honest. absurd (false≢true honest) };
+    ghost reaches = { λ batching honest. let is = P.reaches batching.batch.link.port (and_parts _ _ honest).0 in record {
+      busy = is.busy;
+      kept1 = is.kept1;
+      kept2 = is.kept2;
+      bytes = is.bytes;
+    } };
 
     fn transfer(&mut self, out: &[u8], reply: &mut [u8]) -> Result<(), Stopped>
         ensures law { Transfers out.now reply.old reply.new result (serprog_state self.old) (serprog_state self.new) }
@@ -176,6 +222,6 @@ impl<P: Port + Drop> Bus for BatchingBus<P> {
     }
 
     fn has_further_types(&self) -> bool {
-        true
+        self.further
     }
 }

@@ -1,6 +1,7 @@
 //! Exchanges with a programmer. An exchange sends the frame of a command, and receives the reply.
-ghost use Rattle.std.specs.Prelude.{◌≡◌, ◌≤◌, ◌+◌, ◌++◌, ◌⊎◌, ◌∷◌, [], true, false, length, ◌↔◌, IsOk, IfOk, OnOk, OnErr, IfErr};
+ghost use Rattle.std.specs.Prelude.{◌≡◌, ◌≤◌, ◌+◌, ◌++◌, ◌⊎◌, ◌∷◌, [], ℕ, List, true, false, length, ◌↔◌, IsOk, IfOk, OnOk, OnErr, IfErr};
 ghost use Rattle.nor_serprog.specs.Device.{IsIdle, IsSent, IsCutOff, IfOperates, Exchanged, Interrupted};
+ghost use Rattle.nor_serprog.specs.Enabled.{SendsBatch, TakesAcks, ExchangedBatch, InterruptedBatch};
 ghost use Rattle.nor_serprog.specs.Device.{AnswerBegins, TakesAnswer, MissesAnswer, MayLoseDevicePower};
 ghost use Rattle.nor_serprog.specs.Firmware.{HasReply, nak};
 ghost use Rattle.nor_serprog.specs.Frame.{frame_of, FitsFrame, IsFrame, ReadsAs};
@@ -205,6 +206,10 @@ impl<P: Port + Drop> Link<P> {
     /// If the link was out of step, the call returns `OutOfStep` or `CutFrame` and does not use the port. The call
     /// returns `Ok` only after it received ACK for each frame. After any other error the programmer may have carried
     /// out any of the frames. After each error no exchange sends anything until `synchronize` returns `Ok`.
+    ///
+    /// If the port is well-behaved and the programmer is idle, success means that the chip carried out the write enable
+    /// and the O_SPIOP after it (`ExchangedBatch`), and after an error one of them was cut (`InterruptedBatch`). Two
+    /// frames must fit into the serial buffer.
     pub(crate) fn exchange_batch(
         &mut self,
         frames: &[u8],
@@ -220,12 +225,20 @@ impl<P: Port + Drop> Link<P> {
         ensures was_in_step { OnOk result (is_in_step self.old ≡ true) }
         ensures ok { OnOk result (is_in_step self.new ≡ true) }
         ensures err { OnErr result (is_in_step self.new ≡ false) }
+        ensures exchanged { (P.state (port_of self.old)).honest ≡ true → IsIdle (P.state (port_of self.old)).device
+            → (out : List ℕ)
+            → SendsBatch is_led out (length reply.old) frames.now (P.state (port_of self.old)).device → OnOk result
+            (ExchangedBatch is_led out reply.new (P.state (port_of self.old)) (P.state (port_of self.new))) }
+        ensures interrupted { (P.state (port_of self.old)).honest ≡ true → IsIdle (P.state (port_of self.old)).device
+            → is_in_step self.old ≡ true → (out : List ℕ)
+            → SendsBatch is_led out (length reply.old) frames.now (P.state (port_of self.old)).device → OnErr result
+            (InterruptedBatch is_led out (P.state (port_of self.old)) (P.state (port_of self.new))) }
     {
         if self.sync != Sync::InStep {
             return Err(self.rejection());
         }
         self.sync = Sync::Cut;
-        self.port.send(frames).map_err(Failure::Port)?;
+        send_all(&mut self.port, frames)?;
         self.sync = Sync::Lost;
         receive_acks(&mut self.port, is_led)?;
         receive_answer(&mut self.port, O_SPIOP, reply)?;
@@ -300,10 +313,11 @@ fn send<P: Port>(port: &mut P, frame: &Frame) -> Result<(), Failure<P::Cause>>
     port.send(frame).map_err(Failure::Port)
 }
 
-// Sends `bytes`, which contain no O_SPIOP.
+// Sends `bytes` with one call of the port.
 fn send_all<P: Port>(port: &mut P, bytes: &[u8]) -> Result<(), Failure<P::Cause>>
     ensures nature { (P.state port.new).honest ≡ (P.state port.old).honest }
     ensures asked { (P.state port.new).asked ≡ bytes.now ∷ (P.state port.old).asked }
+    ensures unreceived { (P.state port.new).received ≡ (P.state port.old).received }
     ensures fewer { (P.state port.old).honest ≡ true → (P.state port.new).left ≤ (P.state port.old).left }
     ensures calls { (P.state port.old).honest ≡ true
         → OnOk result ((P.state port.old).left ≡ (P.state port.new).left + 1) }
@@ -352,6 +366,10 @@ fn receive_acks<P: Port>(port: &mut P, is_led: bool) -> Result<(), Failure<P::Ca
     ensures nature { (P.state port.new).honest ≡ (P.state port.old).honest }
     ensures unasked { (P.state port.new).asked ≡ (P.state port.old).asked }
     ensures acked { OnOk result ((P.state port.new).received ≡ (P.state port.old).received ++ acks is_led) }
+    ensures taken { (P.state port.old).honest ≡ true
+        → OnOk result (TakesAcks is_led (P.state port.old) (P.state port.new)) }
+    ensures missed { (P.state port.old).honest ≡ true → (is_led ≡ true → AnswerBegins (P.state port.old))
+        → OnErr result (MissesAnswer 0 (P.state port.old) (P.state port.new)) }
 {
     if is_led {
         receive_answer(port, O_SPIOP, &mut [])?;

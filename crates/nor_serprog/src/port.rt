@@ -16,6 +16,10 @@ ghost use Rattle.nor_serprog.specs.Device.{PortState, IsSent, IsCutOff, IsReceiv
 ///   arguments must be in the programmer's map
 /// - a call that requests no more bytes than are pending
 ///
+/// A call may also send two O_SPIOP frames to an idle programmer, if the first requests no reply bytes and both fit
+/// into the serial buffer that the programmer reports (Q_SERBUF). If this call succeeds, the programmer carries out
+/// both transactions, in order. If it fails, one of them was cut, and no later one was begun.
+///
 /// Any other call may fail, and after a failure no further call succeeds. Any number of bytes may have been sent, the
 /// programmer may have carried out any part of the transaction, and the chip may then have lost its power.
 ///

@@ -1,3 +1,4 @@
 pub mod Over
 pub mod Simulated
+pub mod Pairs
 pub mod Replying

@@ -1,4 +1,5 @@
-use Rattle.std.proofs.Common.{length}
+use Rattle.std.proofs.Common.{rules, length}
+use Rattle.nor_serprog.proofs.BatchLaw.{law_ok, law_err}
 use Rattle.nor_serprog.proofs.Framed.{framed_ok, framed_err}
 use Rattle.nor_serprog.proofs.batching.BatchingBusBus.transfer.Goals as goal
 
@@ -21,3 +22,27 @@ returns-else-was_in_step-clause-frames g c start f =
     framed_err start c.args.self.now.batch c.transact.new.self c.args.self.now.history.exchanges
     c.stopped-self.result.exchanges c.args.out.now (length c.args.reply.now) c.stopped-self.ensures.exchanges
     c.in-Err.ensures.err f
+
+pub returns-in-Ok-clause-law : goal.returns-in-Ok-clause-law
+returns-in-Ok-clause-law g c =
+    law_ok c.args.out.now c.args.reply.now c.transact.new.reply c.args.self.now.batch.waits c.transact.new.self.waits
+    c.args.self.now.further (g.P.Port.state c.args.self.now.batch.link.port)
+    (g.P.Port.state c.transact.new.self.link.port) c.args.self.now.history.exchanges c.replied-self.result.exchanges
+    c.transact.ensures.nature (λ known honest. c.in-Ok.ensures.carried (c.args.self.now.settled known) honest)
+    (search rules)
+
+pub returns-then-was_in_step-clause-law : goal.returns-then-was_in_step-clause-law
+returns-then-was_in_step-clause-law g c =
+    law_err c.args.out.now c.args.reply.now c.transact.new.reply c.args.self.now.batch.waits c.transact.new.self.waits
+    c.args.self.now.further (g.P.Port.state c.args.self.now.batch.link.port)
+    (g.P.Port.state c.transact.new.self.link.port) c.args.self.now.history.exchanges c.stopped-self.result.exchanges _
+    c.transact.ensures.nature (λ known honest. c.in-Err.ensures.cut (c.args.self.now.settled known) honest)
+    (search rules)
+
+pub returns-else-was_in_step-clause-law : goal.returns-else-was_in_step-clause-law
+returns-else-was_in_step-clause-law g c =
+    law_err c.args.out.now c.args.reply.now c.transact.new.reply c.args.self.now.batch.waits c.transact.new.self.waits
+    c.args.self.now.further (g.P.Port.state c.args.self.now.batch.link.port)
+    (g.P.Port.state c.transact.new.self.link.port) c.args.self.now.history.exchanges c.stopped-self.result.exchanges _
+    c.transact.ensures.nature (λ known honest. c.in-Err.ensures.cut (c.args.self.now.settled known) honest)
+    (search rules)

@@ -1,4 +1,5 @@
 use Rattle.std.proofs.Common.{◌≡◌, ◌∙◌, ◌++◌, ◌∷◌, rules, refl, sym, ap, List, [], ℕ}
+use Rattle.serprog_session.proofs.Pairs.{none_both}
 use Rattle.serprog_session.proofs.Replying.{no_operation}
 use Rattle.serprog_session.proofs.Simulated.{empty}
 use Rattle.serprog_session.proofs.sim_port.SimPort.operate.Goals as goal
@@ -13,6 +14,7 @@ returns-clause-sent c =
       firmware = refl;
       replies = λ commands asks.
           absurd (no_operation commands c.args.frame.now asks.frames asks.replies c.requires);
+      both = λ first second both. absurd (none_both first second c.args.frame.now _ refl both);
       done = λ whole. record {
         answer = c.transact.new.reply;
         len = search rules;
@@ -33,4 +35,5 @@ returns-in_default-clause-cut_off c = record {
   none_left = search rules;
   left = search rules;
   cut = search rules;
+  cut_both = λ first second both. absurd (none_both first second c.args.frame.now _ refl both);
 }
