@@ -78,7 +78,7 @@ pub record HasPrinted (wording : Wording) (detail : Detail) (outcome : Result An
   pub no_errors : (IsAnswered outcome → ⊥) → (to ≡ at.Errors → ⊥) → err' ≡ err
   pub silent : IsAnswered outcome → ending.printed ≡ true → unwritten ≡ all_written → err' ≡ err
 
--- Holds if the run ended with this exit status and such an `Ending`.
+-- Holds if some `Ending` satisfies the predicate and has this exit status.
 abbrev pub EndsWith : (Ending → Type 0) → ℕ → Type 0
 EndsWith IsEnding status = (ending : Ending) × IsEnding ending × (status ≡ ending.status)
 

@@ -49,7 +49,8 @@ pub struct KnownStatus2<B> {
     // The ID of a chip whose status 2 an earlier run read.
     before: Option<[u8; 3]>,
     is_known: bool,
-    // The address of double word 15, if the header of the table was read and gives at least 15 double words.
+    // The address of double word 15 that is still to be read. `None` before the table's header was read, if the table
+    // lacks this double word, and after the double word was read.
     word_15: Option<u32>,
     history: History,
 }

@@ -174,7 +174,8 @@ impl<B: Bus + Drop> CheckedStatus<B> {
     ghost use Rattle.nor_buses.specs.Checked.{check_fault_of, has_begun, history_of, inner_state, known_of, locks_of};
     ghost use Rattle.nor_buses.specs.Checked.{written_of};
 
-    // Reads status 2 twice. If both replies are equal, the byte is known from now on.
+    // Reads status 2 twice, and the ID after each read. Stops if the replies differ, or an ID differs from the known
+    // one. Otherwise records the byte in `known`.
     #[tactic(auto, using(crate::proofs::StatusRead::second_read))]
     fn read_second(&mut self) -> Result<u8, Stopped>
         ensures history { history_of self.new ≡ history_of self.old }

@@ -56,8 +56,8 @@ impl SystemReason {
         }
     }
 
-    /// Returns the reason of this error of a call that creates or writes a file. Such a call needs the directory, but
-    /// no file.
+    /// Returns the reason of this error of a call that creates or writes a file. If something isn't found, it is the
+    /// directory, since the call creates the file.
     pub fn of_making(error: &io::Error) -> SystemReason {
         match SystemReason::of_reading(error) {
             SystemReason::Missing => SystemReason::NoDirectory,

@@ -21,10 +21,11 @@ use nor_session::Refusal;
 use std::io;
 use std::io::{BufWriter, ErrorKind};
 
-/// The number of bytes read from an image: one more than the largest chip has, so that a longer image is detected.
+/// The greatest number of bytes read from an image: one more than the largest chip has, so that a longer image is
+/// detected.
 pub const MOST_IMAGE_BYTES: u64 = 16_777_217;
 
-/// The number of bytes read from a journal: one more than a journal of the largest chip has, so that a longer file is
+/// The greatest number of bytes read from a journal: one more than the longest journal has, so that a longer file is
 /// detected.
 pub const MOST_JOURNAL_BYTES: u64 = 16_793_662;
 

@@ -144,7 +144,7 @@ pub struct LogFile<F> {
 }
 
 impl<F: OpenFile> LogFile<F> {
-    // Truncates the file, if it wasn't truncated yet.
+    // Truncates the file if it still has to be truncated (`is_old`).
     fn empty(&mut self) -> io::Result<()> {
         if self.is_old {
             self.file.set_len(0)?;

@@ -62,7 +62,8 @@ framed_rejected start asked waits history out f = record {
   whole = f.whole;
 }
 
--- The write enable that waited was asked for.
+-- If `IsFramed` holds, and the port was then asked to send the waiting write enable, if any (`AsksLead`), then
+-- `IsFramed` holds, and no write enable waits.
 pub framed_flushed : (start old new : List (List ℕ)) (waits : Bool) (history : List Exchange)
     → IsFramed start old waits history → AsksLead waits old new → IsFramed start new false history
 framed_flushed start old new true history f asks = record {

@@ -272,7 +272,8 @@ pub record SessionAlways (request : Request) (image : List ℕ) (old new : BusSt
 -- The promises of a session on a well-behaved bus.
 pub record SessionHonest (request : Request) (image : List ℕ) (old new : BusState)
     (result : Result Report Refusal) : Type 0 where
-  -- After errors 1 to 11 bytes and non-volatile status bits are as they were before the session.
+  -- After an error from 1 to 11, the chip's bytes and non-volatile status bits are as they were before the session. No
+  -- wait times out, and a punctual bus stops only if no transaction is left.
   pub honest_errors : IfErr result (HonestErrors (most_of 4096) (λ refusal. refusal_number refusal ≤ 11) old new)
   pub counted : IfOk result (λ report. Spent report.transactions old new)
   -- The session read the touched sectors back and compared them, so this holds even for a chip that isn't genuine.

@@ -67,8 +67,8 @@ fn restore_again(needed: u64, sent: u64) -> u64 {
     if sent < 11 { needed } else { 8 }
 }
 
-// The number of restores, of which the first needs `needed` transactions. The first two are stopped after `first` and
-// `second`.
+// The number of restores that run until one succeeds, if the first needs `needed` transactions. The first two are
+// allowed `first` and `second` transactions, and a third isn't stopped.
 fn restores_under(needed: u64, first: u64, second: u64) -> u32 {
     if first >= needed {
         1

@@ -94,10 +94,11 @@ impl Runs {
         }
     }
 
-    /// Runs the session on a new chip, with the allowance `allowed`. Asserts that the session ends if and only if this
-    /// is at least `ends_at`, and that the vault is sealed if and only if it is at least `sealed_at`.
+    /// Runs the session on a new chip, with the allowance `allowed`. Asserts that the session ends if and only if
+    /// `allowed` is at least `ends_at`, and that the vault is sealed if and only if `allowed` is at least `sealed_at`.
     ///
-    /// If the session ends, the chip must be idle with a clear write enable latch, which operations clear.
+    /// If the session ends, also asserts that the chip is idle, and that the write enable latch is clear, because each
+    /// operation clears it.
     pub fn cut(&self, rt: &impl Abort, allowed: u64) -> Cut {
         let mut bus = self.row.bus(rt, self.alloc, self.start);
         bus.allow(allowed);

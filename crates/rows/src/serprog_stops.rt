@@ -31,7 +31,8 @@ fn open(rt: &impl Abort, port: SimPort) -> SerprogBus<SimPort> {
     SerprogBus::new(link, programmer)
 }
 
-// After the handshake, `calls` calls succeed. Of a frame that fails the chip receives the first `cut` bytes.
+// After the handshake, `calls` calls of the port succeed. If sending a frame fails, the chip receives the first `cut`
+// bytes of the frame's transaction.
 fn bus_to(
     rt: &impl Abort,
     alloc: Global,

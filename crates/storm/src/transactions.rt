@@ -94,7 +94,7 @@ fn scan_saved(lines: &mut Lines, chip: &Chip, saved: &[Sector]) {
     read_touched(lines, saved);
 }
 
-/// Returns the lines of a probe, which are the same for any name.
+/// Returns the trace lines of a probe. The chip name that the caller requires doesn't change them.
 pub fn probe(alloc: Global, chip: &Chip) -> Result<Lines, Fault> {
     let mut lines = Lines::new(alloc, chip);
     find(&mut lines, chip);
