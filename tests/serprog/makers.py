@@ -110,6 +110,33 @@ def comes_back_from_qpi(start):
     bench.check_chip(old)
 
 
+def takes_no_level_for_a_unique_id(start):
+    """A chip ignores 4Bh, and the line keeps the last level that was driven. Then the journal has no unique ID.
+
+    A restore accepts the journal, whatever level the line has then.
+    """
+    old, new = chip_images(FEW)
+    bench = start(data=old, unique=bytes(range(8)))
+    bench.write("new", new)
+    transfer, levels = bench.chip.transfer, []
+
+    def keep(out, replies):
+        if out[:1] == b"\x4b":
+            return bytes(levels[-1:] * replies)
+        reply = transfer(out, replies)
+        levels.extend([0xFF * (reply[-1] & 1)] if reply else [])
+        return reply
+
+    bench.chip.transfer = keep
+    got = bench.run("-w", "new", "--journal", "j")
+    check(f"exit status, {got.err}", got.status, 0)
+    check("levels before 4Bh", 0xFF in levels and 0 in levels, True)
+    bench.check_file("j", reference.journal("TINY64", old, FEW))
+    got = bench.run("--restore", "j")
+    check(f"exit status of the restore, {got.err}", got.status, 0)
+    bench.check_chip(old)
+
+
 def changes_no_lock(start):
     """A change of SRP0 or of the protected range is refused before anything is written: 01h has two bytes there."""
     bench, old, _ = connect(start, 0b010)
@@ -155,5 +182,5 @@ def asks_each_row(start):
         check(f"35h was sent to {part}", asked(bench), 2)
 
 
-CASES = [asks_each_row, never_enters_qpi, comes_back_from_qpi, changes_no_lock, reads_named_status_2,
-         restores_older_journals]
+CASES = [asks_each_row, never_enters_qpi, comes_back_from_qpi, takes_no_level_for_a_unique_id, changes_no_lock,
+         reads_named_status_2, restores_older_journals]
