@@ -11,6 +11,11 @@ _flashnor_chips=(W25Q64FV W25Q128FV)
 # The further chips, which only flashnor-serprog knows by their ID.
 _flashnor_further_chips=(W25Q32FV W25Q32FW W25Q64FW W25Q128FW W25Q32JV-M W25Q64JV-M W25Q128JV-M)
 
+# Other names of chips with the ID of one of these, which flashnor-serprog also takes.
+_flashnor_other_names=(W25Q32BV W25Q32CV W25Q32DV W25Q32JV W25Q32JV-Q W25Q32.V W25Q64BV W25Q64CV W25Q64JV W25Q64JV-Q
+    W25Q64JV-.Q W25Q64BV/W25Q64CV/W25Q64FV W25Q128BV W25Q128JV W25Q128JV-Q W25Q128.V W25Q32DW W25Q32JW-Q W25Q32.W
+    W25Q64DW W25Q64JW-Q W25Q64.W W25Q128JW-Q W25Q128.W W25Q64JV-.M W25Q128.V..M)
+
 # Stores the words of the line up to the cursor in the array `words`, the one that is being typed last. Words are
 # separated only by spaces, as the shell separates them. Bash also splits the words that it passes at ':' and '='.
 _flashnor_words() {
@@ -267,7 +272,10 @@ _flashnor_serprog() {
     _flashnor_letter "$before"
     case $letter in
         -p) _flashnor_serprog_programmer "$word" ;;
-        -c) _flashnor_answer "$word" "${_flashnor_chips[@]}" "${_flashnor_further_chips[@]}" SFDP ;;
+        -c)
+            _flashnor_answer "$word" "${_flashnor_chips[@]}" "${_flashnor_further_chips[@]}" \
+                "${_flashnor_other_names[@]}" SFDP
+            ;;
         -w | -v | -l | --restore | --check-journal | --fmap-file | --ifd-file) _flashnor_files "$word" "" -f ;;
         -o | -r | --journal | --backup | --extract-image) _flashnor_files "$word" "" -d ;;
         --progress) _flashnor_answer "$word" auto plain none ;;

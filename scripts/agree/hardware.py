@@ -63,8 +63,8 @@ def take_options(page):
          completion={name for name in names if "there" in offered[name]})
 
 
-def take_chips(page):
-    """Compares the rows that apply to real chips, and the names for `-c`."""
+def take_chips(_):
+    """Compares the rows that apply to real chips, and the names for `-c`, which `-L` lists."""
     text = code("nor_probe/src/table.rt")
     texts = dict(re.findall(r'ChipName::(\w+) => "([^"]+)"', text))
     table = [(texts[name], number.replace(", 0x", " "), int(size.replace("_", "")))
@@ -74,9 +74,13 @@ def take_chips(page):
     block = re.search(r"(?s)const WITH_STATUS2: .*?\n\];", code("flashnor_serprog/src/connect.rt"))
     known = re.findall(r"\[0x(\w\w), 0x(\w\w), 0x(\w\w)\]", block[0] if block else "")
     same("chips with status 2", sources={number for _, number, _ in table}, connect={" ".join(it) for it in known})
-    shown = [part.text for part in page if "Require the name" in part.text]
-    same("names for -c for hardware", sources={"SFDP", *(name for name, _, _ in table)},
-         manual=re.findall(r"W25Q[-\w]+|SFDP", shown[0] if shown else ""), completion=completed("-c ", NAME))
+    others = code("nor_args/src/given/other_names.rt").partition("fn is_name_of")[2].split("ChipName::")[1:]
+    names = [(texts[it.partition(" ")[0]], name) for it in others for name in re.findall(r'text == "(.*?)"', it)]
+    same("names for -c for hardware", sources={"SFDP", *(row[0] for row in table), *(name for _, name in names)},
+         completion=completed("-c ", NAME))
+    listed = re.findall(r"(?m)^(W25Q\S+) .*\n((?:    .*\n)*)", code("flashnor_serprog/src/chip_list.rt"))
+    same("other names of the rows", sources=names,
+         list=[(row, name) for row, lines in listed for name in re.findall(r"W25Q[^\s,]+", lines)])
 
 
 def take_keys(page):

@@ -35,6 +35,11 @@ PLANTS = {
         "crates/flashnor_serprog/src/connect.rt", r"    \[0xEF, 0x60, 0x17\],\n", "", "connect hasn't"),
     "a chip that the completion lacks": (
         COMPLETION, r" W25Q32JV-M", "", "sources has 'W25Q32JV-M', completion hasn't"),
+    "another name that the list lacks": (
+        "crates/flashnor_serprog/src/chip_list.rt", r"W25Q32CV, ", "", "('W25Q32FV', 'W25Q32CV')', list hasn't"),
+    "another name in the list of another row": (
+        "crates/flashnor_serprog/src/chip_list.rt", r"or W25Q32DW", "or W25Q64BV, W25Q32DW",
+        "('W25Q32FW', 'W25Q64BV')', sources hasn't"),
     "a key that the completion lacks": (
         COMPLETION, "for key in dev spispeed cs", "for key in dev spispeed", "help has 'cs', completion hasn't"),
     "a key that the parser lacks": (

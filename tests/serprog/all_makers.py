@@ -6,8 +6,10 @@ programmer float to another level in the restore than in the session, as at anot
 """
 import hashlib
 import random
+import time
 from typing import NamedTuple
 
+import reference
 from bench import check, check_data
 from chips import ALL
 from models import Model, action_of
@@ -22,6 +24,10 @@ RESTORE_STOPS = (("power", (1, 0)), ("kill", (4, 0)))
 IN_REGIONS = "-w", "new", "-N", "-l", "layout", "-i", "low", "-i", "middle", "-i", "high", "--journal"
 # Each reply byte of a line that nobody drives.
 LEVELS = 0xFF, 0x00
+# How long a run may take that is refused, in seconds, on a busy machine.
+SOON = 20
+# What is sent to a chip that seems to be missing after it was asked ten times: what ends QPI mode and continuous reads.
+ASKED, LEAVING = [b"\x9f", b"\x05"] * 10, [b"\xff", b"\xff\xff"]
 
 
 class Refused(NamedTuple):
@@ -38,14 +44,18 @@ NO_SECTORS = Refused(("Error 2: unknown chip, SFDP fault 8.",), (*CHANGES, BACKU
 PROTECTED = Refused(("Chip fault 1: status 1 of this chip is ",), CHANGES)
 
 
-def unknown(fault):
-    return Refused((f"Error 2: unknown chip, SFDP fault {fault}.",), (*CHANGES, BACKUP, *READINGS, ("--wp-status",)))
+def unknown(fault, *hints):
+    jobs = (*CHANGES, BACKUP, *READINGS, ("--wp-status",))
+    return Refused((f"Error 2: unknown chip, SFDP fault {fault}.", *hints), jobs)
 
 
-# The chips that are refused. All others are written. 32 MiB; no SFDP; 256 KiB sectors; 4 KiB sectors at one end.
+# The chips that are refused. All others are written. 32 MiB; no SFDP; 256 KiB sectors; 4 KiB sectors at one end; no
+# status 1.
+NO_STATUS = unknown(1, reference.NO_STATUS[1])
 REFUSED = {
     "W25Q256JV": unknown(7), "MX25L6405D": unknown(1), "S25FL128S-256": unknown(8),
     "S25FL128S": NO_SECTORS, "S25FL128S-top": NO_SECTORS, "S25FL128S-old": NO_SECTORS,
+    "AT45DB081E": NO_STATUS, "MX35LF1GE4AB": NO_STATUS,
 }
 # The chips whose blocks are all locked after each power-up, and the bit of the third register that shows it.
 LOCKED, OWN_LOCKS = ("SST26VF064B",), 0x04
@@ -207,7 +217,9 @@ def is_protected(play):
 def is_refused(play, refused):
     """The refused jobs send only reads, and create no journal. The others read the chip."""
     for words in refused.jobs:
+        began = time.monotonic()
         got = play.run(*words)
+        check(f"the end of {words} within seconds", time.monotonic() - began < SOON, True)
         begins = tuple(line[: len(wanted)] for wanted, line in zip(refused.err, got.err))
         check(f"the refusal of {words}", (begins, got.out, got.status), (refused.err, [], 1))
         play.only_reads(words)
@@ -275,17 +287,57 @@ def refuses(start, it):
 
 
 def is_in_qpi(start, it):
-    """refused within seconds while it is in QPI mode, at either level of the floating line"""
+    """refused within seconds while it is in QPI mode that FFh doesn't end, at either level of the floating line"""
     for level in LEVELS:
+        stays_lost(start, it, level)
+
+
+def is_in_qpi_at_00(start, it):
+    """refused within seconds while it is in QPI mode and the floating line is low, so that it can't receive FFh"""
+    stays_lost(start, it, 0x00)
+
+
+def stays_lost(start, it, level):
+    """Each job on a chip in QPI mode is refused. What the chip may take for another byte than FFh isn't sent."""
+    play = Play(start, it)
+    play.chip.floating, play.chip.is_in_qpi = level, True
+    for words in (), CHANGES[0], BACKUP:
+        got = play.bench.run(*words)
+        check(f"the refusal of {words}", (got.err, got.out, got.status), (reference.NO_CHIP, [], 1))
+        play.only_reads(words)
+        check("FFh was sent", LEAVING[0] in sent_to(play), level == 0xFF)
+        play.bench.check_absent("j")
+    check("in QPI", play.chip.is_in_qpi, True)
+    play.check_chip(play.old)
+
+
+def sent_to(play):
+    """Returns what the last run sent, after the transaction that wakes the chip."""
+    return [out for out, _ in play.bench.server.log[1:]]
+
+
+def leaves_qpi(start, it):
+    """found while it is in QPI mode, which FFh ends. Later runs don't send FFh"""
+    play = Play(start, it)
+    play.chip.is_in_qpi = True
+    got = play.bench.run()
+    check(f"exit status, {got.err}", got.status, 0)
+    check("what was sent first", sent_to(play)[:23], [*ASKED, *LEAVING, b"\x9f"])
+    check("FFh was sent later", LEAVING[0] in sent_to(play)[22:], False)
+    play.chip.ignored.clear()
+    identifies(play)
+    check("FFh was sent", LEAVING[0] in sent_to(play), False)
+
+
+def ends_continuous_reads(start, it):
+    """found while it is in a continuous read with two or four lines, in which a blank chip returns only FFh"""
+    for lines in 2, 4:
         play = Play(start, it)
-        play.chip.floating, play.chip.is_in_qpi = level, True
-        for words in (), CHANGES[0], BACKUP:
-            got = play.bench.run(*words)
-            check(f"the refusal of {words}", (got.err[:1], got.out, got.status), (["Error 1: no chip."], [], 1))
-            play.only_reads(words)
-            play.bench.check_absent("j")
-        check("in QPI", play.chip.is_in_qpi, True)
-        play.check_chip(play.old)
+        play.chip.data[:], play.chip.lines = b"\xff" * it.size, lines
+        got = play.bench.run()
+        check(f"the run with {lines} lines, {got.err}", (got.status, play.chip.lines), (0, 0))
+        # With four lines, the transaction that wakes the chip ends the read.
+        check("FFh was sent", LEAVING[0] in sent_to(play), lines == 2)
 
 
 def has_status(start, it):
@@ -314,7 +366,12 @@ def cases():
         if it.name not in REFUSED and not {0x35, 0x4B} <= set(it.opcodes):
             yield case_of(moves, it)
     yield from (case_of(has_own_locks, ALL[name]) for name in ("W25Q128JV", *LOCKED))
-    yield case_of(is_in_qpi, ALL["MX25L12835F"])
+    yield from (case_of(is_in_qpi, ALL[name]) for name in ("MX25L12835F", "IS25LP128", "MT25QL128"))
+    for it in (it for it in ALL.values() if 0xFF in it.leaves_qpi):
+        yield case_of(is_in_qpi_at_00, it)
+        if it.name not in LOCKED:
+            yield case_of(leaves_qpi, it)
+    yield case_of(ends_continuous_reads, ALL["W25Q64FV"])
     yield from (case_of(protects, ALL[name]) for name in ROWS)
     yield from (case_of(has_status, ALL[name]) for name in STATUS)
 

@@ -40,6 +40,16 @@ FURTHER = {
         ("W25Q32JV-M", "ef7016", 1 << 22, 10.0), ("W25Q64JV-M", "ef7017", 1 << 23, 20.0),
         ("W25Q128JV-M", "ef7018", 1 << 24, 40.0))}
 
+# Other names of chips with the ID of a row (datasheets, Manufacturer and Device Identification). Those with a point and
+# the longest one are flashrom's (1.3.0, `flashrom -L`).
+NAMES = {
+    "W25Q32FV": ("W25Q32BV", "W25Q32CV", "W25Q32DV", "W25Q32JV", "W25Q32JV-Q", "W25Q32.V"),
+    "W25Q64FV": ("W25Q64BV", "W25Q64CV", "W25Q64JV", "W25Q64JV-Q", "W25Q64JV-.Q", "W25Q64BV/W25Q64CV/W25Q64FV"),
+    "W25Q128FV": ("W25Q128BV", "W25Q128JV", "W25Q128JV-Q", "W25Q128.V"),
+    "W25Q32FW": ("W25Q32DW", "W25Q32JW-Q", "W25Q32.W"), "W25Q64FW": ("W25Q64DW", "W25Q64JW-Q", "W25Q64.W"),
+    "W25Q128FW": ("W25Q128JW-Q", "W25Q128.W"), "W25Q64JV-M": ("W25Q64JV-.M",), "W25Q128JV-M": ("W25Q128.V..M",),
+}
+
 PARTS = {
     "W25Q64FV": Part(bytes.fromhex("ef4017"), 1 << 23, True, True, 20.0),
     "W25Q128FV": Part(bytes.fromhex("ef4018"), 1 << 24, True, True, 40.0),

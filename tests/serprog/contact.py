@@ -151,7 +151,10 @@ def lose(start, work):
 
 
 def finds_no_contact(start):
-    """Without contact every reply is FFh. That is error 1 before a file is created, after ten reads of ID and status."""
+    """Without contact every reply is FFh. That is error 1 before a file is created, after ten reads of ID and status.
+
+    Then FFh and FFh FFh are sent, which end QPI mode and continuous reads, and the ID is read once more.
+    """
     old, new = chip_images(FEW)
     for words, absent in (((), ()), (("-r", "out"), ("out",)), (("--backup", "j"), ("j",)), (("--wp-status",), ()),
                           (("-w", "new", "--journal", "j"), ("j", "j.sectors")), (("--wp-enable",), ())):
@@ -159,25 +162,40 @@ def finds_no_contact(start):
         bench.write("new", new)
         bench.server.traits.lost = (1, END, 0xFF)
         bench.expect(*words, err=reference.NO_CHIP)
-        check("transactions", [out for out, _ in bench.server.log[1:]], [b"\x9f", b"\x05"] * 10)
+        check("transactions", [out for out, _ in bench.server.log[1:]],
+              [b"\x9f", b"\x05"] * 10 + [b"\xff", b"\xff\xff", b"\x9f"])
         for name in absent:
             bench.check_absent(name)
 
 
 def waits_for_a_late_contact(start):
-    """A chip that answers before the tenth time is found. One that is busy isn't missing, however long that takes."""
-    for last in 1, 2, 3, 4, 19, 20:
+    """A chip that answers before the last time is found. One that is busy isn't missing, however long that takes."""
+    for last in 1, 2, 3, 4, 19, 20, 21, 23:
         bench = start()
         bench.server.traits.lost = (1, last, 0xFF)
         bench.expect(out=[reference.found("TINY64")])
     bench = start()
-    bench.server.traits.lost = (1, 21, 0xFF)
+    bench.server.traits.lost = (1, 24, 0xFF)
     bench.expect(err=reference.NO_CHIP)
     bench = start()
     bench.chip.until = time.monotonic() + 3
     bench.server.traits.lost = (1, 1, 0xFF)
     bench.expect(out=[reference.found("TINY64")])
     check("is busy", bench.chip.is_busy(), False)
+
+
+def waits_for_a_late_status(start):
+    """A chip that has SFDP is waited for, even if its status 1 is FFh for longer than 1.5 seconds. Another one isn't."""
+    bench = start()
+    transfer, until, unknown = bench.chip.transfer, time.monotonic() + 4, [b"\x05", b"\xab"]
+    bench.chip.transfer = lambda out, replies: (
+        b"\xff" * replies if out[:1] in unknown and time.monotonic() < until else transfer(out, replies))
+    bench.expect(out=[reference.found("TINY64")])
+    check("status 1 was late", time.monotonic() > until, True)
+    until = time.monotonic() + 60
+    unknown.append(b"\x5a")
+    bench.expect(err=reference.NO_STATUS)
+    check("transactions", [out for out, _ in bench.server.log[1:]], [b"\x9f", b"\x05"] * 10 + [b"\x5a\0\0\0\0"])
 
 
 def loses_a_write(start):
@@ -222,6 +240,6 @@ def loses_an_unlock(start):
     lose(start, bits.unlock())
 
 
-CASES = [finds_no_contact, waits_for_a_late_contact, loses_a_write, loses_an_erase, loses_a_read, loses_a_backup,
-         loses_a_restore, loses_a_change_of_range,
-         loses_a_restore_of_the_range, loses_an_unlock]
+CASES = [finds_no_contact, waits_for_a_late_contact, waits_for_a_late_status, loses_a_write, loses_an_erase,
+         loses_a_read, loses_a_backup, loses_a_restore, loses_a_change_of_range, loses_a_restore_of_the_range,
+         loses_an_unlock]

@@ -7,7 +7,7 @@ from a journal whose session read a status 2 other than 00h.
 """
 import reference
 from bench import check
-from chip import PARTS, Chip, sfdp
+from chip import PARTS, SECTOR, Chip, sfdp
 from losses import FEW, chip_images
 
 SECOND = b"\x35"
@@ -31,15 +31,19 @@ def table(size, requirements):
 
 
 class MakersChip(Chip):
-    """TINY64, with an SFDP table of its own. If `enters_qpi`, it ignores each command after 35h."""
+    """TINY64, with an SFDP table of its own. If `enters_qpi`, it ignores each command after 35h, or until FFh."""
 
-    def __init__(self, requirements, enters_qpi=True, **chosen):
+    def __init__(self, requirements, enters_qpi=True, leaves_by_ff=False, **chosen):
         super().__init__("TINY64", **chosen)
         self.table, self.enters_qpi, self.in_qpi = table(self.size, requirements), enters_qpi, False
+        self.leaves_by_ff = leaves_by_ff
 
     def transfer(self, out, replies):
         if self.enters_qpi and out[:1] == SECOND:
             self.in_qpi = True
+        if self.leaves_by_ff and out[:1] == b"\xff":
+            self.in_qpi = False
+            return b"\xff" * replies
         return b"\xff" * replies if self.in_qpi else super().transfer(out, replies)
 
     def read(self, opcode, out, replies):
@@ -81,6 +85,56 @@ def never_enters_qpi(start):
         check("35h in the restore", asked(bench), 0)
         bench.check_chip(old)
         check("the chip is in QPI mode", bench.chip.in_qpi, False)
+
+
+def comes_back_from_qpi(start):
+    """A chip in QPI mode that leaves it by FFh is backed up, written and restored, also after a kill."""
+    bench, old, new = connect(start, None, leaves_by_ff=True)
+
+    def run(words, status, events=None):
+        bench.chip.in_qpi = True
+        got = bench.run(*words, events=events)
+        check(f"exit status of {words}, {got.err}", got.status, status)
+        return [out for out, _ in bench.server.log]
+
+    run(("--backup", "b"), 0)
+    bench.check_file("b", reference.journal("TINY64", old, range(len(old) // SECTOR)))
+    sent = run(("-w", "new", "--journal", "j"), 0)
+    bench.check_chip(new)
+    run(("--restore", "j"), 0)
+    bench.check_chip(old)
+    program = next(at for at, out in enumerate(sent, 1) if out[:1] == b"\x02")
+    run(("-w", "new", "--journal", "k"), -9, {program: "kill"})
+    bench.plug()
+    run(("--restore", "k", "-N"), 0)
+    bench.check_chip(old)
+
+
+def takes_no_level_for_a_unique_id(start):
+    """A chip ignores 4Bh, and the line keeps the last level that was driven. Then the journal has no unique ID.
+
+    A restore accepts the journal, whatever level the line has then.
+    """
+    old, new = chip_images(FEW)
+    bench = start(data=old, unique=bytes(range(8)))
+    bench.write("new", new)
+    transfer, levels = bench.chip.transfer, []
+
+    def keep(out, replies):
+        if out[:1] == b"\x4b":
+            return bytes(levels[-1:] * replies)
+        reply = transfer(out, replies)
+        levels.extend([0xFF * (reply[-1] & 1)] if reply else [])
+        return reply
+
+    bench.chip.transfer = keep
+    got = bench.run("-w", "new", "--journal", "j")
+    check(f"exit status, {got.err}", got.status, 0)
+    check("levels before 4Bh", 0xFF in levels and 0 in levels, True)
+    bench.check_file("j", reference.journal("TINY64", old, FEW))
+    got = bench.run("--restore", "j")
+    check(f"exit status of the restore, {got.err}", got.status, 0)
+    bench.check_chip(old)
 
 
 def changes_no_lock(start):
@@ -128,4 +182,5 @@ def asks_each_row(start):
         check(f"35h was sent to {part}", asked(bench), 2)
 
 
-CASES = [asks_each_row, never_enters_qpi, changes_no_lock, reads_named_status_2, restores_older_journals]
+CASES = [asks_each_row, never_enters_qpi, comes_back_from_qpi, takes_no_level_for_a_unique_id, changes_no_lock,
+         reads_named_status_2, restores_older_journals]

@@ -76,6 +76,24 @@ def stays_in_qpi(start):
         check(f"35h to {name}", (chip.transfer(b"\x35", 1), chip.is_in_qpi), (b"\xff", False))
 
 
+def reads_on(start):
+    """In a continuous read every transaction is an address. FFh ends one with four lines, and FFh FFh one with two."""
+    for lines, at, shown in (2, 0x2AAAAA, b"\xc3"), (4, 0x6EEEEE, b"\xf9"):
+        chip = erased("W25Q64FV")
+        # The second line has bits 7, 5, 3 and 1 of a byte, or bits 5 and 1. Before the data it floats.
+        chip.data[at : at + 2] = b"\xa5\x0f"
+        chip.lines = lines
+        check(f"the reply on one of {lines} lines", chip.transfer(b"\0\0"[: 4 // lines], 1), shown)
+        check("the ID", (chip.transfer(b"\0\0\0\0", 3), chip.lines), (b"\xff\xff\xff", lines))
+        send(chip, b"\xff")
+        check("lines after FFh", chip.lines, lines % 4)
+        send(chip, b"\xff\xff")
+        check("the ID after FFh FFh", chip.transfer(READ_ID, 3), chip.it.id)
+    chip.lines = 4
+    chip.lose_power()
+    check("the ID after power-up", chip.transfer(READ_ID, 3), chip.it.id)
+
+
 def erases_by_region(start):
     """4 KiB erases of S25FL128S reach its small sectors. D8h of SST26VF064B erases 8, 32 or 64 KiB."""
     for name, reached, ignored in ("S25FL128S", 0x1F000, 0x20000), ("S25FL128S-top", 0xFE0000, 0xFDF000):
@@ -142,5 +160,5 @@ def has_sfdp_of_the_standard(start):
     check("double word 2 of 64 KiB", sfdp.density(1 << 16), 0x7FFFF)
 
 
-CASES = [wraps_a_page, reads_before_and_after_a_header, stays_in_qpi, erases_by_region, writes_registers,
+CASES = [wraps_a_page, reads_before_and_after_a_header, stays_in_qpi, reads_on, erases_by_region, writes_registers,
          protects_ranges, has_sfdp_of_the_standard]

@@ -92,6 +92,8 @@ class Model:
         self.size = it.size
         self.status = bytearray(registers or it.registers)
         self.wel = self.is_asleep = self.is_in_qpi = self.is_armed = self.has_four = self.is_stuck = False
+        # The number of lines of a continuous read, 2 or 4, or 0.
+        self.lines = 0
         # The samples of status 1 that show BUSY, and what is in progress until then: the address and the bytes before a
         # program or an erase, or the registers before a status write.
         self.left, self.changing, self.writing, self.is_erase = 0, None, None, False
@@ -110,6 +112,7 @@ class Model:
         for register, bits in enumerate(self.it.power_up):
             self.status[register] |= bits
         self.wel = self.is_asleep = self.is_in_qpi = self.is_armed = self.has_four = self.is_stuck = False
+        self.lines = 0
 
     def tear(self):
         """Interrupts the operation: an erase leaves any bytes, a program or a status write some of its bits."""
@@ -134,6 +137,8 @@ class Model:
             self.polls += 1
         if self.is_in_qpi:
             return self.in_qpi(out, replies)
+        if self.lines:
+            return self.in_continuous_read(out, replies)
         action = self.it.opcodes.get(out[0]) if out else None
         was_armed, self.is_armed = self.is_armed, False
         if not action or self.is_asleep and action[0] != "wake" or self.is_busy() and out[0] not in self.it.idle:
@@ -157,6 +162,27 @@ class Model:
             self.is_in_qpi = False
         return self.ignore(out, replies)
 
+    def in_continuous_read(self, out, replies):
+        """Takes an address and mode bits, and returns data, all on two or four lines (W25Q64FV: BBh, EBh).
+
+        The first line has the bits sent (0 while the programmer receives), the second one floats until data follows,
+        and WP# and HOLD# are high. If mode bits 5 and 4 aren't 1 and 0, the next transaction begins with an opcode.
+        """
+        lines, floats = self.lines, self.floating & 1
+        sent = [byte >> at & 1 for byte in out + bytes(replies) for at in range(7, -1, -1)]
+        mode = 24 // lines + (lines == 2)
+        if len(sent) > mode and (floats, sent[mode]) != (1, 0):
+            self.lines = 0
+        address = 0
+        for bit in sent[: 24 // lines]:
+            address = address << lines | ((0b1100 | floats << 1 | bit) & ((1 << lines) - 1))
+        shown, header = [], 32 // lines + 4 * (lines == 4)
+        for clock in range(8 * len(out), len(sent)):
+            place, part = divmod(clock - header, 8 // lines)
+            byte = self.data[(address + place) % self.size]
+            shown.append(byte >> (7 - lines * part - (lines - 2)) & 1 if clock >= header else floats)
+        return bytes(sum(bit << 7 - at for at, bit in enumerate(shown[it : it + 8])) for it in range(0, len(shown), 8))
+
     def stream(self, out, replies, header, byte_at):
         """Returns what is received if bytes follow a header of this length. `byte_at` returns a number of them."""
         early = min(replies, max(0, header - len(out)))
@@ -166,10 +192,10 @@ class Model:
         """Returns the address of a transaction, of three or four bytes; the chip takes no higher bits than it needs."""
         return int.from_bytes(sent[1 : 5 if self.has_four else 4], "big") % self.size
 
-    def do_id(self, out, replies):
+    def do_id(self, out, replies, header=1):
         rest = self.it.after_id if self.it.after_id is not None else self.it.id * (replies + len(out))
         found = self.it.id + rest
-        return self.stream(out, replies, 1, lambda at, count: found[at : at + count].ljust(
+        return self.stream(out, replies, header, lambda at, count: found[at : at + count].ljust(
             count, bytes([self.floating])))
 
     def do_status(self, out, replies, register):

@@ -7,7 +7,7 @@ import random
 
 import reference
 from bench import check
-from chip import ERASES, FURTHER, PARTS, SECTOR, protected_range
+from chip import ERASES, FURTHER, NAMES, PARTS, SECTOR, protected_range
 
 SIZE = 65536
 FREE = b"\xff" * SIZE
@@ -89,15 +89,22 @@ def keeps_to_the_protocol(start):
 
 
 def names_the_chip(start):
-    """-c takes the name of the chip that is there, in upper or lower case, and another one is error 3."""
+    """-c takes each name of the chip that is there, in upper or lower case, and another one is error 3."""
     for part in "W25Q64FV", "W25Q128FV", *FURTHER:
         bench = start(part)
         for name in part, part.lower(), part.replace("Q", "q"), part[:5] + part[5:].lower():
             bench.expect("-c", name, out=[reference.found(part)])
         bench.check_frames(reference.probe(part))
-        bench.expect("--chip", "w25q", err=[
-            reference.OTHER_NAME[0], "This program knows no chip with the name of -c. The connected chip is "
-            f"{part} ({PARTS[part].id.hex()})."])
+        for name in NAMES.get(part, ()):
+            bench.expect("-c", name, out=[reference.found(part)])
+            bench.expect("-c", name.lower(), out=[reference.found(part)])
+        there = f"The connected chip is {part} ({PARTS[part].id.hex()})."
+        other = next(it for it in NAMES if it != part)
+        for name in NAMES[other]:
+            bench.expect("-c", name, err=[reference.OTHER_NAME[0], f"-c names {other}. {there}"])
+        for name in "w25q", "W25Q64DV", "W25Q64BVX", "25Q64BV", "W25Q64BV/W25Q64CV", "W25Q32JV-.M", "W25Q16JV":
+            bench.expect("--chip", name, err=[
+                reference.OTHER_NAME[0], f"This program knows no chip with the name of -c. {there}"])
     bench = start()
     for name in "SFDP", "sfdp", "Sfdp":
         bench.expect("-c", name, out=[reference.found("TINY64")])

@@ -55,7 +55,10 @@ UNSEALED = [
     "If the terminal showed the progress of that session, but not SEALED, the chip was not changed. Otherwise look for "
     "another copy of the journal, and don't write or erase anything."]
 # The lines after errors.
-NO_CHIP = ["Error 1: no chip.", "Check contacts, supply and wiring, and that cs= selects this chip."]
+NO_CHIP = ["Error 1: no chip.", "Check contacts, supply and wiring, and that cs= selects this chip. A chip in QPI mode "
+           "looks the same: disconnect it from power."]
+NO_STATUS = ["Error 2: unknown chip, SFDP fault 1.", "It replies an ID, but only FFh for status 1, so it isn't SPI NOR "
+             "flash (but SPI NAND or DataFlash), or a contact is bad."]
 # The line after error 4 if regions are given.
 WHOLE_IMAGE = "Give an image of the whole chip. -i NAME:FILE gives the bytes of a region."
 # What follows the two unique IDs after error 20.

@@ -1,6 +1,6 @@
 """Cases of what people type: files with the name `-`, arguments that a terminal doesn't show, flashrom's options."""
 from bench import check
-from chip import PARTS
+from chip import NAMES, PARTS
 from maps import with_descriptor, with_fmap
 from options import FREE, SIZE
 import reference
@@ -92,12 +92,20 @@ def gives_tips(start):
     bench.expect("-c", "a", "-c", "b", err=usage("error: the argument '--chip <NAME>' cannot be used multiple times"))
 
 
+def other_names(row):
+    """Returns the lines with the other names for a row. The longest name has a line of its own."""
+    names = NAMES.get(row, ())
+    lines = [", ".join(it for it in names if "/" not in it)] * bool(names) + [it for it in names if "/" in it]
+    starts = "    or ", "    "
+    return [f"{begin}{line}{',' * (line != lines[-1])}" for begin, line in zip(starts, lines)]
+
+
 def lists_the_chips(start):
-    """-L prints the chips that are known by their ID, with or without -p, and sends nothing."""
+    """-L prints the chips that are known by their ID, with their names, with or without -p, and sends nothing."""
     bench = start()
     rows = {it.id.hex(): f"{name:11} {it.id.hex()}  {it.size >> 20:2} MiB  {SUPPLY[name[-2:]]}"
             for name, it in PARTS.items() if it.has_row}
-    wanted = [rows[it] for it in sorted(rows)]
+    wanted = [line for it in sorted(rows) for line in (rows[it], *other_names(rows[it].split()[0]))]
     wanted.append("SFDP        any other chip whose SFDP offers erases of 4 KiB, from 64 KiB to 16 MiB")
     for words in ("-L",), ("--list-supported",), ("-L", "-c", "SFDP"):
         got = bench.finish(bench.start_words([bench.program, *words]))

@@ -8,7 +8,7 @@ ghost use Rattle.nor_buses.specs.SameChip.{checked_by};
 ghost use Rattle.nor_buses.specs.Twice.{expected_of, history_of, twice_of};
 ghost use Rattle.flashnor_serprog.specs.Connected.{IsUnused, device_of, expected_by};
 
-use crate::contact::is_missing;
+use crate::contact::{Contact, look_for_chip};
 use crate::port::{DevicePort, PortFault};
 use crate::progress::{Shown, StatusWrite, Terminal};
 use crate::setting::Setting;
@@ -20,6 +20,7 @@ use nor_buses::{
 use nor_chip::Bus;
 use nor_console::{Fault, SystemReason};
 use nor_files::LockFile;
+use nor_probe::SfdpFault;
 use nor_serprog::{AnyProgrammer, BatchingBus, Command, Failure, HandshakeFault, Link};
 use nor_session::Refusal;
 use std::alloc::Global;
@@ -83,7 +84,7 @@ const WITH_STATUS2: [[u8; 3]; 9] = [
 ];
 
 /// Connects to the programmer that `-p` describes. Returns usage fault 10 if memory runs out, error 1 if no chip
-/// answers, or the fault of `connect` with the name of the device.
+/// answers, error 2 for a device that has an ID but no status, or the fault of `connect` with the name of the device.
 pub fn connect_by<'a, 'b>(
     rt: &'b HostRuntime,
     terminal: Terminal<'b>,
@@ -110,6 +111,7 @@ pub fn connect_by<'a, 'b>(
             terminal.end_line();
             Err(match unconnected {
                 Unconnected::NoChip => Trouble::Fault(Fault::Refused(Refusal::NoChip)),
+                Unconnected::NoStatus => Trouble::Fault(Fault::Refused(NO_STATUS)),
                 Unconnected::Programmer(fault) => Trouble::Programmer {
                     fault,
                     device: setting.device,
@@ -134,7 +136,12 @@ enum Unconnected {
     Programmer(ProgrammerFault),
     // No chip answers.
     NoChip,
+    // A device has an ID, but neither status 1 nor SFDP.
+    NoStatus,
 }
+
+// The error for a device without status 1, whose SFDP has another signature.
+const NO_STATUS: Refusal = Refusal::UnknownChip(SfdpFault::Signature);
 
 impl From<ProgrammerFault> for Unconnected {
     ghost use Rattle.flashnor_serprog.specs.declared.connect.Unconnected.TheVariants as unconnected;
@@ -147,10 +154,10 @@ impl From<ProgrammerFault> for Unconnected {
 }
 
 // Opens and locks the device, identifies the programmer, sets its clock if `spispeed=` is given, and sets its chip
-// select if `cs=` is given. Then wakes the chip; only if it doesn't answer, reads its ID and its status (`is_missing`).
-// Sends no other transaction. If progress is shown, prints before the first exchange with the programmer what to do if
-// no reply ever arrives. Returns a programmer fault from 1 to 12 if one of these steps fails: fault 12 if the port
-// changes bytes that are sent. Returns `NoChip` if no chip answers.
+// select if `cs=` is given. Then wakes the chip; only if it doesn't answer, looks for it (`look_for_chip`). Sends no
+// other transaction. If progress is shown, prints before the first exchange with the programmer what to do if no reply
+// ever arrives. Returns a programmer fault from 1 to 12 if one of these steps fails: fault 12 if the port changes bytes
+// that are sent. Returns the errors of `expect_chip`.
 //
 // The returned bus has carried out no transaction yet, and belongs to this device. The contract says nothing about the
 // frames that were sent before the bus existed.
@@ -184,9 +191,7 @@ fn connect<'a>(
             .map_err(ProgrammerFault::Handshake)?;
     }
     let woken = wake(&mut link, &programmer)?;
-    if is_missing(rt, &mut link, &woken).map_err(|failure| of_failure(failure))? {
-        return Err(Unconnected::NoChip);
-    }
+    expect_chip(rt, &mut link, &woken)?;
     let longest_read = programmer.longest_read();
     let paced = Paced::new(BatchingBus::over(link, programmer), rt);
     let watched = Watched::new(paced);
@@ -312,6 +317,19 @@ fn wake(
         return Err(ProgrammerFault::ChangesBytes);
     }
     Ok(reply)
+}
+
+// Returns `NoChip` if no chip answers, and `NoStatus` if a device has an ID, but neither status 1 nor SFDP.
+fn expect_chip(
+    rt: &HostRuntime,
+    link: &mut Link<DevicePort>,
+    woken: &[u8],
+) -> Result<(), Unconnected> {
+    match look_for_chip(rt, link, woken).map_err(|failure| of_failure(failure))? {
+        Contact::Present => Ok(()),
+        Contact::Missing => Err(Unconnected::NoChip),
+        Contact::NoStatus => Err(Unconnected::NoStatus),
+    }
 }
 
 fn of_failure(failure: Failure<PortFault>) -> ProgrammerFault {

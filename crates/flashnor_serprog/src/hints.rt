@@ -179,7 +179,10 @@ fn found_and_expected<'a>(
         Refusal::UnknownChip(SfdpFault::NoSector) if replies.is_uneven => {
             Some(Line::Uneven { id: replies.id? })
         }
-        Refusal::UnknownChip(_) => Some(Line::Unknown { id: replies.id? }),
+        Refusal::UnknownChip(_) => Some(match replies.id {
+            Some(id) => Line::Unknown { id },
+            None => Line::NoStatus,
+        }),
         Refusal::ImageSize { .. } if regions_of(&operation.task).is_some() => Some(Line::Image),
         Refusal::RangeNotOffered => Some(Line::Ranges),
         Refusal::NoProtection => Some(Line::UnknownProtection {
@@ -254,6 +257,8 @@ enum Line<'a> {
     Unknown {
         id: [u8; 3],
     },
+    // The device replied an ID before the first transaction of the job, but neither status 1 nor SFDP.
+    NoStatus,
     // The chip doesn't erase sectors of 4 KiB everywhere.
     Uneven {
         id: [u8; 3],
@@ -296,13 +301,18 @@ impl fmt::Display for Line<'_> {
     fn fmt<W: fmt::Write>(&self, f: &mut fmt::Formatter<W>) -> fmt::Result {
         match *self {
             Line::NoChip => f.write_str(
-                "Check contacts, supply and wiring, and that cs= selects this chip.",
+                "Check contacts, supply and wiring, and that cs= selects this chip. A chip in QPI mode looks the same: \
+                disconnect it from power.",
             ),
             Line::Unknown { id } => write!(
                 f,
                 "Its ID is {}. If another run finds another ID, check contacts, supply and wiring, or lower the clock \
                 (spispeed=).",
                 Hex(id)
+            ),
+            Line::NoStatus => f.write_str(
+                "It replies an ID, but only FFh for status 1, so it isn't SPI NOR flash (but SPI NAND or DataFlash), or \
+                a contact is bad.",
             ),
             Line::Uneven { id } => write!(
                 f,

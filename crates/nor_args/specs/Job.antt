@@ -10,6 +10,7 @@ use Rattle.nor_args.specs.Faults.{first_fault, operation_faults}
 use Rattle.nor_args.specs.Given.{Texts, gives_layout, how_many, layout_file, layout_form, operations, output_of}
 use Rattle.nor_args.specs.Given.{is_on_chip, progress_mode, srp0_of}
 use Rattle.nor_args.specs.Numbers.{range_of}
+use Rattle.nor_args.specs.OtherNames.{row_named}
 use Rattle.nor_args.specs.Programmer.{IsProgrammer}
 use Rattle.nor_args.specs.Reasons.{IsReason}
 use Rattle.nor_args.specs.Stops.{stops_of}
@@ -81,8 +82,9 @@ IsAsked given (job.Chip on_chip) = (given.list ≡ false) × IsChipJob given on_
 
 -- ---- programs for hardware
 
+-- the row that `-c` names, in upper or lower case, by its own name or by that of another chip with its ID
 abbrev pub name_in_any_case : Text → ChipName
-name_in_any_case text = name_of (map to_ascii_uppercase text)
+name_in_any_case text = row_named (map to_ascii_uppercase text)
 
 -- Holds if the options ask for this operation and have none of the faults 4 to 9.
 pub record IsOperation (given : Texts) (operation : Operation) : Type 0 where

@@ -9,5 +9,6 @@ pub mod Given
 pub mod Faults
 pub mod Reasons
 -- The job that the arguments ask for.
+pub mod OtherNames
 pub mod Job
 pub mod Words

@@ -34,6 +34,7 @@ mod faults;
 mod flags;
 mod layouts;
 mod names;
+mod other_names;
 mod reasons;
 
 pub use names::{chip_named, joined_names};

@@ -20,6 +20,7 @@
 //! - `given/flags.rt`: whether a flag is set
 //! - `given/layouts.rt`: the layout that the options give
 //! - `given/names.rt`: the values of all `-i`, as one text, and the chip that `-c` names in either case
+//! - `given/other_names.rt`: the names of chips that have the ID of a row
 //! - `given/reasons.rt`: the reason of each fault that the options have
 //! - `reasons.rt`: the types of reasons
 //! - `escapes.rt`: the characters that are escaped when they are printed

@@ -21,8 +21,8 @@ abbrev pub buffer_in : {P C : Type 0} {over : Ghosts P C} → Batch P C over →
 buffer_in batch = batch.buffer
 
 -- The programmer of the port, with the chip as it is after the write enable that waits.
-abbrev pub device_in : {P C : Type 0} {over : Ghosts P C} → Batch P C over → Device
-device_in {over = over} batch = enabled_device batch.waits (over.state batch.link.port).device
+abbrev pub device_at : {P C : Type 0} {over : Ghosts P C} → Batch P C over → Device
+device_at {over = over} batch = enabled_device batch.waits (over.state batch.link.port).device
 
 -- Holds if the link is settled, and over a well-behaved port the programmer's serial buffer holds `least` bytes.
 pub record IsSettledFor {P C : Type 0} (least : ℕ) (port : P → PortState) (link : Link P C) : Type 0 where

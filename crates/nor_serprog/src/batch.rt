@@ -40,7 +40,7 @@ pub(crate) struct Batch<P: Port + Drop> {
 }
 
 impl<P: Port + Drop> Batch<P> {
-    ghost use Rattle.nor_serprog.specs.Batch.{batch_link, waits_in, buffer_in, device_in, IsSettledBatch};
+    ghost use Rattle.nor_serprog.specs.Batch.{batch_link, waits_in, buffer_in, device_at, IsSettledBatch};
 
     /// Returns a batch over a link whose programmer was identified. Nothing waits.
     pub(crate) fn new(link: Link<P>, programmer: &AnyProgrammer) -> Batch<P>
@@ -70,7 +70,7 @@ impl<P: Port + Drop> Batch<P> {
     /// does not fit into one frame, or reads more than the programmer can; then nothing was sent, and the write enable
     /// still waits. After any other error nothing waits.
     ///
-    /// Over a well-behaved port, the chip with the write enable that waits (`device_in`) made one step, or this step
+    /// Over a well-behaved port, the chip with the write enable that waits (`device_at`) made one step, or this step
     /// was cut.
     pub(crate) fn transact(&mut self, out: &[u8], reply: &mut [u8]) -> Result<(), Failure<P::Cause>>
         ensures silent { is_in_step (batch_link self.old) ≡ false → self.new ≡ self.old }
@@ -96,9 +96,9 @@ impl<P: Port + Drop> Batch<P> {
             ≡ (P.state (port_of (batch_link self.old))).honest }
         ensures settled { IsSettledBatch self.old → IsSettledBatch self.new }
         ensures carried { IsSettledBatch self.old → (P.state (port_of (batch_link self.old))).honest ≡ true
-            → OnOk result (StepsOnce out.now reply.new (device_in self.old) (device_in self.new)) }
+            → OnOk result (StepsOnce out.now reply.new (device_at self.old) (device_at self.new)) }
         ensures cut { IsSettledBatch self.old → (P.state (port_of (batch_link self.old))).honest ≡ true
-            → OnErr result (IsCut out.now (device_in self.old) (device_in self.new)) }
+            → OnErr result (IsCut out.now (device_at self.old) (device_at self.new)) }
     {
         if self.link.sync() != Sync::InStep || reply.len() > self.longest_read as usize {
             return Err(self.link.rejection());
@@ -134,9 +134,9 @@ impl<P: Port + Drop> Batch<P> {
         ensures buffer { buffer_in self.new ≡ buffer_in self.old }
         ensures settled { IsSettledBatch self.old → IsSettledBatch self.new }
         ensures carried { IsSettledBatch self.old → (P.state (port_of (batch_link self.old))).honest ≡ true
-            → OnOk result (SameChipOf (device_in self.old) (device_in self.new)) }
+            → OnOk result (SameChipOf (device_at self.old) (device_at self.new)) }
         ensures cut { IsSettledBatch self.old → (P.state (port_of (batch_link self.old))).honest ≡ true
-            → OnErr result ((out : List ℕ) → IsCut out (device_in self.old) (device_in self.new)) }
+            → OnErr result ((out : List ℕ) → IsCut out (device_at self.old) (device_at self.new)) }
     {
         if !self.waits {
             return Ok(());
@@ -176,9 +176,9 @@ impl<P: Port + Drop> Batch<P> {
         ensures settled { IsSettledBatch self.old → IsSettledBatch self.new }
         ensures carried { (reply : List ℕ) → length reply ≡ 0 → IsSettledBatch self.old
             → (P.state (port_of (batch_link self.old))).honest ≡ true
-            → OnOk result (StepsOnce (0x06 ∷ []) reply (device_in self.old) (device_in self.new)) }
+            → OnOk result (StepsOnce (0x06 ∷ []) reply (device_at self.old) (device_at self.new)) }
         ensures cut { IsSettledBatch self.old → (P.state (port_of (batch_link self.old))).honest ≡ true
-            → OnErr result ((out : List ℕ) → IsCut out (device_in self.old) (device_in self.new)) }
+            → OnErr result ((out : List ℕ) → IsCut out (device_at self.old) (device_at self.new)) }
     {
         self.flush()?;
         self.waits = true;

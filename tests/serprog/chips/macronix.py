@@ -43,4 +43,8 @@ CHIPS = (
     # A chip of before JESD216.
     one("MX25L6405D", "c22017", M8, 0x16, {0x5A: None, 0x15: None, 0x66: None, 0x99: None, 0x01: ("write", (0,)),
                                           0x52: None, 0x20: ("erase", 4096)}, b""),
+    # SPI NAND: a dummy byte precedes the ID, and 0Fh reads the status. It has neither 05h nor SFDP. Its data, of which
+    # here is 1 MiB, is read by pages, which no case does.
+    Description("MX35LF1GE4AB", "Macronix", bytes.fromhex("c212"), M8 // 8, b"", {0x9F: ("id", 2)},
+                ("Command Set", "Read ID", "Get Feature")),
 )

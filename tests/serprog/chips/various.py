@@ -38,6 +38,10 @@ CHIPS = (
     Description("AT25SF128A", "Adesto", bytes.fromhex("1f8901"), M16, later(M16, QE_BY_31),
                 {**ALIKE, **STATUS_3, **sleeps(0x17), 0x31: ("write", (1,))},
                 ("Status Registers", "Command Listing", "SFDP"), unique=bytes(range(0xB1, 0xC1)), **ALIKE_CHIP),
+    # DataFlash: D7h reads its status, and it has neither 05h nor SFDP. ABh has no reply.
+    Description("AT45DB081E", "Adesto", bytes.fromhex("1f2500"), M8 // 8, b"",
+                {0x03: ("data",), 0x0B: ("data", 5), 0x9F: ("id",), 0xD7: ("status", 1)},
+                ("Status Register Read", "Manufacturer and Device ID Read", "Command Tables"), registers=(0, 0xA4, 0)),
     # Status: BUSY RES SEC WPLD WSP WSE WEL BUSY. 35h reads the configuration register. 4 KiB erases reach everything,
     # but D8h erases 8, 32 or 64 KiB, by the address: its SFDP has three erase types of D8h, and a sector map. Blocks
     # are locked after power-up, until 98h; here the third register shows that. 38h enters QPI, and ABh is ignored.

@@ -1,9 +1,10 @@
-//! What a program for hardware takes in further forms: regions in several options, and a chip's name in any case.
+//! What a program for hardware takes in further forms: regions in several options, and further names of a chip.
 ghost use Rattle.std.specs.Prelude.{◌≡◌, IfOk, codes, option_map, string_bytes};
 ghost use Rattle.clap.specs.Words.{found_of, rows_of};
 ghost use Rattle.nor_args.specs.Given.{joined_in, text_in};
 ghost use Rattle.nor_args.specs.Job.{name_in_any_case};
 
+use crate::given::other_names::row_named;
 use clap::ArgMatches;
 use nor_probe::ChipName;
 use std::alloc::{AllocError, Global};
@@ -19,13 +20,13 @@ pub fn joined_names(alloc: Global, matches: &ArgMatches<'_>) -> Result<Option<St
     }
 }
 
-/// Returns the name of the chip that `-c` gives in upper or lower case, or `None` without `-c`.
+/// Returns the row that `-c` names in upper or lower case (`row_named`), or `None` without `-c`.
 pub fn chip_named(alloc: Global, matches: &ArgMatches<'_>) -> Result<Option<ChipName>, AllocError>
     ensures { IfOk result (λ named. named
         ≡ option_map name_in_any_case (text_in (rows_of (found_of matches.now)) (codes "chip"))) }
 {
     match matches.get_str("chip") {
-        Some(text) => Ok(Some(ChipName::of(&text.to_ascii_uppercase(alloc)?))),
+        Some(text) => Ok(Some(row_named(&text.to_ascii_uppercase(alloc)?))),
         None => Ok(None),
     }
 }

@@ -1,6 +1,6 @@
 use Rattle.std.proofs.Common.{◌≡◌, ◌∙◌, ◌≤◌, ◌+◌, ◌++◌, rules, true, false, length}
 use Rattle.nor_serprog.specs.Asked.{enable_frame}
-use Rattle.nor_serprog.specs.Batch.{device_in}
+use Rattle.nor_serprog.specs.Batch.{device_at}
 use Rattle.nor_serprog.specs.Frame.{operation_frame, IsFrame, replies_in}
 use Rattle.nor_serprog.specs.Link.{is_in_step}
 use Rattle.nor_serprog.proofs.Exchanges.{on_err}
@@ -9,11 +9,11 @@ use Rattle.nor_serprog.proofs.Batched.{in_step_if, sends_alone, sends_pair, sett
 use Rattle.nor_serprog.proofs.batch.Batch.transact.Goals as goal
 
 pub returns-then-ne-clause-cut : goal.returns-then-ne-clause-cut
-returns-then-ne-clause-cut g c settled honest = nothing_cut c.args.out.now (device_in c.args.self.now)
+returns-then-ne-clause-cut g c settled honest = nothing_cut c.args.out.now (device_at c.args.self.now)
 
 pub returns-in_err-frame-clause-cut : goal.returns-in_err-frame-clause-cut
 returns-in_err-frame-clause-cut g c settled honest =
-    on_err _ _ (nothing_cut c.args.out.now (device_in c.args.self.now))
+    on_err _ _ (nothing_cut c.args.out.now (device_at c.args.self.now))
 
 pub returns-then-len-from-clause-settled : goal.returns-then-len-from-clause-settled
 returns-then-len-from-clause-settled g c settled =
@@ -98,7 +98,7 @@ returns-clause-carried g c settled honest =
     let alone : c.deref-2.result.now ≡ c.in_ok-frame.frame.items = search rules in
     let mid = c.flush.ensures.settled settled in
     let same = c.flush.ensures.nature ∙ honest in
-    carried_later c.exchange_batch-2.result c.flush.new.self.waits c.args.out.now (device_in c.args.self.now)
+    carried_later c.exchange_batch-2.result c.flush.new.self.waits c.args.out.now (device_at c.args.self.now)
     (g.P.Port.state c.flush.new.self.link.port) (g.P.Port.state c.exchange_batch-2.new.self.port)
     c.exchange_batch-2.new.reply c.flush.ensures.empty (c.in_ok-flush.ensures.carried settled honest)
     (c.exchange_batch-2.ensures.exchanged same (mid.settled.idle same mid_in_step) c.args.out.now
@@ -115,7 +115,7 @@ returns-clause-cut g c settled honest =
     let alone : c.deref-2.result.now ≡ c.in_ok-frame.frame.items = search rules in
     let mid = c.flush.ensures.settled settled in
     let same = c.flush.ensures.nature ∙ honest in
-    cut_later c.exchange_batch-2.result c.flush.new.self.waits c.args.out.now (device_in c.args.self.now)
+    cut_later c.exchange_batch-2.result c.flush.new.self.waits c.args.out.now (device_at c.args.self.now)
     (g.P.Port.state c.flush.new.self.link.port) (g.P.Port.state c.exchange_batch-2.new.self.port)
     c.flush.ensures.empty (c.in_ok-flush.ensures.carried settled honest)
     (c.exchange_batch-2.ensures.interrupted same (mid.settled.idle same mid_in_step) mid_in_step c.args.out.now
