@@ -81,7 +81,7 @@ pub record IsRehearsed (request : Request) (image stops : List ℕ) (chip : Chip
   pub accepted : rehearsal.sealed ≡ true → IsAccepted request image chip
   pub saves : rehearsal.sealed ≡ true
       → JournalSaves (header_of chip) chip.bytes (is_touched chip.bytes (wanted request image chip)) vault.bytes
-  -- After a seal, restores ran with the further stops until one ended.
+  -- After a seal, the number of restores fits the stops after the first (`AreRestores`).
   pub restores : rehearsal.sealed ≡ true
       → AreRestores (sector_count (is_touched chip.bytes (wanted request image chip))) (drop 1 stops) rehearsal.restores
 

@@ -118,7 +118,8 @@ AreReported true programmer unwritten view =
     IsReportedOf programmer.image unwritten.image view × IsReportedOf programmer.status unwritten.status view
 AreReported false programmer unwritten view = (unwritten.image ≡ None) × (unwritten.status ≡ None)
 
--- Holds if `amid`, the files after the trace was created, differs from `old` only in the trace.
+-- Holds if each known file without a borrowed vault or log is the same in `amid` (the files after the trace was
+-- created) as in `old`, except the trace.
 pub record IsViewBut (trace : Option (Bor Text)) (old amid : View) : Type 0 where
   pub nature : amid.nature ≡ old.nature
   pub stays : (name : Name) → IsNot old.nature trace name → IsKnownFile name old

@@ -54,7 +54,7 @@ pub record RestoresFrom {programmer : Programmer} {start : FilesState} (file : T
   pub restores : Restores file on_chip.task
   pub answers : AnswersJob mid new (job.Chip on_chip) unwritten returned
 
--- Holds if each later run opens the original chip, even if the host crashes before that run.
+-- Holds if each chip that a later run may open is the original chip, even if the host crashes before that run.
 abbrev pub LeavesOriginal : {programmer : Programmer} {start : FilesState} → Opened programmer start → FilesState
     → Type 0
 LeavesOriginal first files = LeavesOnly first (λ opened. IsSame first.bus.chip opened.chip) files

@@ -55,7 +55,8 @@ sending changes erases programs status_writes = record {
   status_writes = status_writes;
 }
 
--- The limits of all changes together: at most one erase and sixteen page programs for each sector.
+-- The limits of all changes together: as many erases as raised sectors, 16 times as many page programs as touched
+-- sectors, and `status_writes` status writes.
 abbrev pub most_sent : Changes → Limits
 most_sent changes =
     sending changes (sector_count (raised_in changes)) (16 * sector_count (touched_in changes)) (status_writes changes)

@@ -1,4 +1,4 @@
-//! The texts of `clap`'s errors that contain an argument: with the argument escaped, and with a tip.
+//! Rewords errors of `clap`: escapes the arguments in their texts, and replaces clap's tip for an unknown argument.
 ghost use Rattle.std.specs.Prelude.{◌≡◌, IfOk};
 ghost use Rattle.clap.specs.Words.{kind_of};
 

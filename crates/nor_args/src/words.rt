@@ -21,7 +21,7 @@ pub enum UsageFault {
     /// 1: `clap` rejects the arguments, or they ask for the help. In a program for hardware also: they ask for the
     /// version. The error has the text to print.
     Words(WordsError),
-    /// 2: both `-p` and `-L` are missing. For a program for hardware: both `-p` and `--check-journal` are missing.
+    /// 2: both `-p` and `-L` are missing. For a program for hardware: `-p`, `-L` and `--check-journal` are missing.
     NoProgrammer,
     /// 3: the value of `-p` doesn't describe a programmer.
     Programmer,

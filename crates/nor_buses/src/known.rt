@@ -11,8 +11,8 @@ const WRITE_STATUS: u8 = 0x01;
 /// The reason why a `CheckedStatus` stopped although the bus inside did not.
 #[derive(Clone, Copy, Debug, PartialEq, Eq)]
 pub enum CheckFault {
-    /// Two reads of the same status register (05h or 35h) had different replies: also a poll that showed a ready chip
-    /// and a second one that showed BUSY, or two different reply bytes of one poll that both showed a ready chip.
+    /// Two reads of one status register (05h or 35h) had different replies. Examples: one poll showed a ready chip and
+    /// the next one BUSY, or two reply bytes of one poll differ although both show a ready chip.
     Differs,
     /// A status write was not sent, because it could change a bit that this bus keeps, and some of these bits can be
     /// set only once. Status 1 or 2 was not read yet, such a bit differs from the one that was read, BUSY, WEL or SUS

@@ -240,8 +240,8 @@ fn is_same(before: Option<[u8; 3]>, id: [u8; 3]) -> bool
     }
 }
 
-// Returns the address of double word 15, if the header of the first parameter table is `header`, and the table has this
-// double word (JESD216B, parameter headers).
+// Returns the address of double word 15 of the table that `header`, the first parameter header, describes. Returns
+// `None` if this isn't a basic table of major revision 1 with at least 15 double words (JESD216B, parameter headers).
 pub(crate) fn word_15_in(header: &[u8]) -> Option<u32> {
     match header {
         [0, _, 1, words, low, middle, high, _] if *words >= WORDS => {

@@ -57,8 +57,8 @@ impl AnyProgrammer {
     ///
     /// Returns `Lacks` if the programmer lacks the command; nothing is sent then, because the programmer would treat
     /// the number as a command. Returns a `Failure` if the exchange failed, which is `Refused` if there is no such chip
-    /// select. Over a well-behaved port to an idle programmer, other errors occur only if fewer than three calls were
-    /// left.
+    /// select. If the link is in step, over a well-behaved port to an idle programmer, other errors occur only if fewer
+    /// than three calls were left.
     pub fn select_chip<P: Port + Drop>(
         &self,
         link: &mut Link<P>,

@@ -227,7 +227,8 @@ pub record IsPreparedRestore (choice : Choice) (journal : Content) (old new : Bu
 -- ---- the restore after its preparation
 
 -- Holds for a choice of sectors that is sufficient for a restore: each saved sector in which a byte differs is touched,
--- and each one in which a bit must go from 0 to 1 is raised.
+-- and each one in which a bit must go from 0 to 1 is raised. Only saved sectors are touched, only touched sectors are
+-- raised, and no more sectors are read than are saved.
 pub record IsSoundChoice (choice : Choice) : Type 0 where
   pub saved : (journal : Content) (content : ℕ → ℕ) (s : ℕ) → choice.touched journal content s ≡ true
       → is_saved journal s ≡ true

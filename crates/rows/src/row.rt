@@ -100,7 +100,8 @@ pub enum Row {
     AByteBelowTheGuardIsProgrammed,
     /// Programs the first byte of the protected range. The protection bits are cleared first, and set again at the end.
     AGuardedByteIsProgrammed,
-    /// Changes every byte of a TINY64 without the erase types of 32 and 64 KiB: 15 erases, and programs of all pages.
+    /// Changes every byte of a TINY64 without the erase types of 32 and 64 KiB. The last sector is blank before, so
+    /// there are 15 erases, and programs of all pages.
     EachPageIsProgrammed,
     /// Erases sectors 8 to 39 of a chip of 256 KiB, with three erases of 32, 64 and 32 KiB.
     ThirtyTwoSectorsAreErased,

@@ -222,7 +222,8 @@ fn refusals_change_nothing(rt: HostRuntime) {
     assert_same(&rt, bus.port().chip(), &before, 1);
 }
 
-// The power fails at a cut after opcode and address, or after all of a frame. Interrupted bytes become 00h or FFh.
+// The power fails at a stop, after the opcode and the address or after the whole transaction. The bytes of the page or
+// erase block in progress become 00h or FFh.
 #[test]
 fn each_cut_of_the_port_may_cost_the_power(rt: HostRuntime) {
     for (row, start, length) in SESSIONS {

@@ -8,7 +8,7 @@ use std::num::ParseIntError;
 /// The reason why a case failed.
 #[derive(Clone, Copy)]
 pub enum Fault {
-    /// The line can't be parsed, or a value in it isn't allowed.
+    /// The line can't be parsed, a value in it isn't allowed, or the case has no steps.
     Unread,
     Differs,
     /// The bus stopped a transaction that it must carry out.
