@@ -135,8 +135,8 @@ def needs_an_answer(start):
     """A programmer that never replies is programmer fault 4. It receives one NOP, and nothing more."""
     bench = start(is_silent=True, timeout=SOON)
     refuse(bench, "the programmer is silent. Check its cable. It may wait for the rest of a command of an interrupted "
-           "run: disconnect the programmer from power for a second, connect it again, and set up the port: "
-           f"{STTY}", number=4)
+           "run, and each run may complete a part of this command: before the next run, disconnect the programmer from "
+           f"power for a second, connect it again, and set up the port: {STTY}", number=4)
     check("bytes that were sent", bytes(bench.server.received), b"\0")
 
 

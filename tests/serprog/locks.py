@@ -156,15 +156,21 @@ def changes_a_locked_chip(start):
 
 
 def says_which_lock_differs(start):
-    """The line after error 17 says what to do if only SRP0 differs, or only SRP1, which a power cycle clears."""
+    """The line after error 17 says what to do if only SRP0 differs, or only SRP1, which a power cycle clears.
+
+    In all other cases it says that an image can be written.
+    """
     data = b"\xff" * LARGE
     for saved, found, its, advice in (
             (b"\x80\0", b"\0\0", "80 00 SRP0. Status of the chip: 00 00.", reference.SET_SRP0),
             (b"\0\0", b"\x84\0", "00 00. Status of the chip: 84 00 BP0 SRP0.", reference.CLEAR_SRP0),
             (b"\0\0", b"\0\x01", "00 00. Status of the chip: 00 01 SRP1.", reference.CLEAR_SRP1),
-            (b"\0\x01", b"\0\0", "00 01 SRP1. Status of the chip: 00 00.", ""),
-            (b"\0\0", b"\x80\x01", "00 00. Status of the chip: 80 01 SRP0 SRP1.", ""),
-            (b"\0\0", b"\x80\x02", "00 00. Status of the chip: 80 02 SRP0 QE.", "")):
+            (b"\0\x01", b"\0\0", "00 01 SRP1. Status of the chip: 00 00.", reference.WRITE_IMAGE),
+            (b"\0\0", b"\0\x02", "00 00. Status of the chip: 00 02 QE.", reference.WRITE_IMAGE),
+            (b"\x18\0", b"\x2c\x0c", "18 00 BP1 BP2. Status of the chip: 2c 0c BP0 BP1 TB reserved LB1.",
+             reference.WRITE_IMAGE),
+            (b"\0\0", b"\x80\x01", "00 00. Status of the chip: 80 01 SRP0 SRP1.", reference.WRITE_IMAGE),
+            (b"\0\0", b"\x80\x02", "00 00. Status of the chip: 80 02 SRP0 QE.", reference.WRITE_IMAGE)):
         bench = bench_with(start, found, data=data)
         bench.write("j", reference.journal(PART, data, [0], saved))
         bench.expect("--restore", "j", "-N", err=[

@@ -90,7 +90,7 @@ def changes_nothing_with_wrong_data(start):
         set_flags(bench, received=flag)
         got = bench.run("--restore", "j")
         address = next(at for at in range(len(old)) if at // 4096 in FEW and old[at] == lost)
-        bench.compare(got, [], [*reference.not_stored(address), line])
+        bench.compare(got, [], [*reference.not_stored(address, "--restore"), line])
         bench.check_chip(old)
 
 

@@ -68,6 +68,8 @@ OTHER_UNIT = "The journal is another board's, or the chip was replaced: find thi
 SET_SRP0, CLEAR_SRP0 = (f" {do} SRP0 (--wp-{option}), and restore again."
                         for do, option in (("Set", "enable"), ("Clear", "disable")))
 CLEAR_SRP1 = " A power cycle clears SRP1: disconnect the chip from power, and restore again."
+WRITE_IMAGE = (" If the journal is this board's, write an image from before the session instead (-w, with a new journal): "
+               "-w doesn't compare these bits, and leaves them as they are. See RECOVERY.")
 NOT_OFFERED = ["Error 8: range not offered.", "--wp-list lists the ranges that this chip can protect."]
 # The line after error 9, and the end of that after error 10, by whether SRP0 and SRP1 are set.
 LOCKED = {
@@ -146,11 +148,21 @@ def unknown_chip(chip_id):
             "clock (spispeed=)."]
 
 
-def not_stored(address, journal="j"):
+# What the line after error 14 says before and after the command that restores the chip.
+DIFFERENCE = {
+    "-w": (", and compare the chip with the image (-v). If -v finds another address or none, the journal may be misread, "
+           "too: first save the chip (--backup left.journal).", ""),
+    "-E": (". The journal may be misread, too: first save the chip (--backup left.journal).", ""),
+    "--restore": (".", " If error 14 occurs again, disconnect all power from the chip, and restore with --quick."),
+}
+
+
+def not_stored(address, operation="-w", journal="j"):
     """Returns the lines of a change or a restore whose first wrong byte is at this address."""
+    first, last = DIFFERENCE[operation]
     return [f"Error 14: bytes differ at 0x{address:06x}.",
-            "The chip did not store all bytes, or they were misread: lower the clock (spispeed=). Then restore the chip "
-            f"with --restore {journal}."]
+            f"The chip did not store all bytes, or they were misread: lower the clock (spispeed=){first} Then restore "
+            f"the chip with --restore {journal}.{last}"]
 
 
 # The length of a journal without sectors: its header, and the end mark with the digest.

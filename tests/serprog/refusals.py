@@ -134,7 +134,7 @@ def restores_no_other(start):
             "Unique ID in the journal: 0000000000000000. Unique ID of the chip: d1d2d3d4d5d6d7d8. " + reference.OTHER_UNIT])
         bench.expect("--restore", "status", *words, err=[
             "Error 17: status differs from the journal's.",
-            "Status in the journal: 80 00 SRP0. Status of the chip: 00 00."])
+            "Status in the journal: 80 00 SRP0. Status of the chip: 00 00." + reference.WRITE_IMAGE])
     bench.check_chip(new)
 
 

@@ -9,7 +9,7 @@ import re
 import reference
 from bench import check
 from losses import session_wire
-from manual import TESTS
+from manual import TOP
 from options import ALL, images
 
 # How often a restore is repeated before the test gives up.
@@ -18,7 +18,7 @@ MOST_RESTORES = 4
 
 def table():
     """Returns the rows of the table "When to restore": what a session printed, and whether to restore."""
-    page = (TESTS.parent / "man/flashnor-serprog.8").read_text(encoding="utf-8")
+    page = (TOP / "man/flashnor-serprog.8").read_text(encoding="utf-8")
     part = re.search(r"(?ms)^\.SS When to restore$.*?^_$\n(.*?)^\.TE$", page)[1]
     part = re.sub(r"T\{\n(.*?)\nT\}", lambda it: it[1].replace("\n", " "), part, flags=re.S)
     return [line.replace(r"\(dq", '"').replace(r"\-", "-").split("\t") for line in part.splitlines()]

@@ -95,7 +95,7 @@ def compares_after_error_14(start):
                              f"0x{first_difference(new, changed, sorted(set(ALL) - set(numbers))):06x} from what was "
                              "read before this restore.")
             else:
-                lines = reference.not_stored(first_difference(changed, old, numbers))
+                lines = reference.not_stored(first_difference(changed, old, numbers), "--restore")
             begins(f"{opcode:02x}h {words}", got, lines)
             check("lines", len(got.err), len(lines))
             bench.server.traits.wrong_address = ()

@@ -40,8 +40,9 @@ def strays(numbers):
 def differs(numbers):
     """Returns the line of a restore after which these sectors aren't as they were before the session."""
     return (f"Chip fault 5: the journal was restored, but the chip differs from before the session in {places(numbers)}. "
-            "The journal doesn't save this. Did you accept another session since? Otherwise a disturbed address on the "
-            "wire has probably changed it: restore it from a backup.")
+            "The journal doesn't save this. If a later session that you accepted or the running board (NVRAM, UEFI "
+            "variables) has written there, it is right: don't restore it. Otherwise a disturbed address on the wire has "
+            "probably changed it: restore it from a backup.")
 
 
 def disturbed(start, seed, wrong, numbers=CHANGED):

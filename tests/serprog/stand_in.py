@@ -84,11 +84,20 @@ def status_text(status):
 
 
 def lock_advice(saved, found):
-    """Returns what to do if outside the protection bits only SRP0 differs, or only SRP1, which a power cycle clears."""
+    """Returns what to do if outside the protection bits only SRP0 differs, or only SRP1, which a power cycle clears.
+
+    In all other cases an image can be written.
+    """
     differs = [(one ^ other) & bits for one, other, bits in zip(saved, found, (SRP0, 0x3F))]
     if differs == [SRP0, 0]:
         return reference.SET_SRP0 if saved[0] & SRP0 else reference.CLEAR_SRP0
-    return reference.CLEAR_SRP1 if differs == [0, SRP1] and found[1] & SRP1 and not found[0] & SRP0 else ""
+    is_srp1 = differs == [0, SRP1] and found[1] & SRP1 and not found[0] & SRP0
+    return reference.CLEAR_SRP1 if is_srp1 else reference.WRITE_IMAGE
+
+
+def other_advice(saved, found):
+    """Returns what to do on a chip without a row, whose bits 2 to 5 of status 1 may protect sectors."""
+    return "" if (saved[0] ^ found[0]) & 0x3C else reference.WRITE_IMAGE
 
 
 class Job:
@@ -316,7 +325,7 @@ class Job:
             saved, found = status_text(whole[19:21]), status_text(status)
             raise Fault("Error 17: status differs from the journal's.",
                         f"Status in the journal: {saved}. Status of the chip: {found}."
-                        + (lock_advice(whole[19:21], status) if fixed else ""))
+                        + (lock_advice if fixed else other_advice)(whole[19:21], status))
         saved, records = [], whole[25:-36]
         target = bytearray(b"\xff" * self.size)
         for at in range(0, len(records), SECTOR + 4):
@@ -353,7 +362,9 @@ class Job:
             got = self.link.transfer(out, length)
             if got != target[at : at + length] and MISTAKE != "verifies anything":
                 first = next(i for i in range(length) if got[i] != target[at + i])
-                raise Fault(*reference.not_stored(at + first, self.given.get("--restore", self.given.get("--journal"))))
+                operation = next(it for it in reference.DIFFERENCE if it in self.given)
+                journal = self.given.get("--restore", self.given.get("--journal"))
+                raise Fault(*reference.not_stored(at + first, operation, journal))
 
     def protection(self):
         """--wp-status, --wp-list and --wp-range."""

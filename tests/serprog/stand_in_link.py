@@ -233,7 +233,8 @@ class Link:
         set_up = f"and set up the port: {STTY.format(self.path)}"
         for begin, number, advice in (
             ("the programmer is silent", 4, "Check its cable. It may wait for the rest of a command of an interrupted "
-             f"run: disconnect the programmer from power for a second, connect it again, {set_up}"),
+             "run, and each run may complete a part of this command: before the next run, disconnect the programmer "
+             f"from power for a second, connect it again, {set_up}"),
             ("the port failed", 10, f"Connect the programmer again, {set_up}"),
             ("the programmer refused", 11, FIRMWARE.format(self.path).removeprefix(". ")),
             ("", 5, f"Disconnect the programmer from power, connect it again, {set_up}"),

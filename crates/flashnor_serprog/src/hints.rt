@@ -9,7 +9,7 @@ use crate::lock_bits::{Lock, SRP0, SRP1};
 use crate::region_files::regions_of;
 use crate::replies::Replies;
 use crate::stop_line::Left;
-use nor_args::{Change, Operation, Regions, Task};
+use nor_args::{Change, Operation, Regions, Task, Wanted};
 use nor_console::{Escaped, Fault, FileFault, SystemReason};
 use nor_journal::Journal;
 use nor_model::Status;
@@ -191,7 +191,10 @@ fn found_and_expected<'a>(
         Refusal::StatusLocked => Some(Line::Locked(Lock::of(replies.status))),
         Refusal::Timeout { .. } => Some(Line::Busy { left }),
         Refusal::Mismatch { .. } => match left {
-            Left::Changed { .. } => Some(Line::NotStored { left }),
+            Left::Changed { .. } => {
+                let [first, last] = advice_on_difference(&operation.task);
+                Some(Line::NotStored { first, left, last })
+            }
             _ => None,
         },
         Refusal::OtherName => Some(Line::Name {
@@ -225,13 +228,40 @@ fn found_and_expected<'a>(
 // Bits 2 to 6 of status 1, which protect sectors on nearly every chip.
 const PROTECTION: u8 = 0x7C;
 
+// Returns what the line after error 14 says before and after the command that restores the chip.
+fn advice_on_difference(task: &Task<'_>) -> [&'static str; 2] {
+    match task {
+        Task::Restore { .. } => [".", IF_AGAIN],
+        Task::Change(
+            Change {
+                wanted: Wanted::Write { .. },
+                ..
+            },
+        ) => [COMPARE_FIRST, ""],
+        _ => [SAVE_FIRST, ""],
+    }
+}
+
+const COMPARE_FIRST: &str =
+    ", and compare the chip with the image (-v). If -v finds another address or none, the journal may be misread, \
+    too: first save the chip (--backup left.journal).";
+
+const SAVE_FIRST: &str =
+    ". The journal may be misread, too: first save the chip (--backup left.journal).";
+
+const IF_AGAIN: &str =
+    " If error 14 occurs again, disconnect all power from the chip, and restore with --quick.";
+
 // Returns what to do before another restore, if outside the protection bits the journal and the chip, whose status is
 // `found`, differ only in SRP0, or only in SRP1, which a power cycle clears if SRP0 is clear. A restore writes the
-// protection bits itself. Returns an empty text in all other cases, and for a chip without a row, which may be
-// protected by other bits.
+// protection bits itself. Otherwise, and for a chip without a row, returns the advice to write an image. Returns an
+// empty text if bits 2 to 5 of status 1 differ on a chip without a row, because these bits may protect sectors.
 fn lock_advice(saved: &Saved, found: [u8; 2]) -> &'static str {
     if part_for(true, saved.id).is_none() {
-        return "";
+        return match (saved.status[0] ^ found[0]) & 0x3C {
+            0 => WRITE_IMAGE,
+            _ => "",
+        };
     }
     let [one, two] = Status::of(saved.status).fixed().bytes();
     let [found_one, found_two] = Status::of(found).fixed().bytes();
@@ -241,9 +271,13 @@ fn lock_advice(saved: &Saved, found: [u8; 2]) -> &'static str {
         (0, SRP1) if one == 0 && two & SRP1 == 0 => {
             " A power cycle clears SRP1: disconnect the chip from power, and restore again."
         }
-        _ => "",
+        _ => WRITE_IMAGE,
     }
 }
+
+const WRITE_IMAGE: &str =
+    " If the journal is this board's, write an image from before the session instead (-w, with a new journal): -w \
+    doesn't compare these bits, and leaves them as they are. See RECOVERY.";
 
 /// True for a change with `--unlock`.
 pub fn unlocks(task: &Task<'_>) -> bool {
@@ -275,7 +309,9 @@ enum Line<'a> {
         left: Left<'a>,
     },
     NotStored {
+        first: &'static str,
         left: Left<'a>,
+        last: &'static str,
     },
     Name {
         named: ChipName,
@@ -342,9 +378,9 @@ impl fmt::Display for Line<'_> {
                 f,
                 "The chip stayed busy. Check contacts and supply: a chip without contact looks busy.{left}"
             ),
-            Line::NotStored { left } => write!(
+            Line::NotStored { first, left, last } => write!(
                 f,
-                "The chip did not store all bytes, or they were misread: lower the clock (spispeed=).{left}"
+                "The chip did not store all bytes, or they were misread: lower the clock (spispeed=){first}{left}{last}"
             ),
             Line::Name {
                 named: ChipName::Other,

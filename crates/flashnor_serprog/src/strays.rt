@@ -208,8 +208,9 @@ impl fmt::Display for ChangedText {
         write!(
             f,
             "Chip fault 5: the journal was restored, but the chip differs from before the session in {}. The journal \
-            doesn't save this. Did you accept another session since? Otherwise a disturbed address on the wire has \
-            probably changed it: restore it from a backup.",
+            doesn't save this. If a later session that you accepted or the running board (NVRAM, UEFI variables) has \
+            written there, it is right: don't restore it. Otherwise a disturbed address on the wire has probably \
+            changed it: restore it from a backup.",
             Places(self.0)
         )
     }

@@ -261,8 +261,9 @@ fn number_of(fault: &HandshakeFault<PortFault>) -> u8 {
 fn help_for(fault: &HandshakeFault<PortFault>) -> Remedy {
     match fault {
         HandshakeFault::Failure(Failure::Port(PortFault::Silent)) => Remedy::DoAndSetUp(
-            "Check its cable. It may wait for the rest of a command of an interrupted run: disconnect the \
-            programmer from power for a second, connect it again, and set up the port:",
+            "Check its cable. It may wait for the rest of a command of an interrupted run, and each run may complete \
+            a part of this command: before the next run, disconnect the programmer from power for a second, connect \
+            it again, and set up the port:",
         ),
         HandshakeFault::Failure(Failure::Port(PortFault::System(_))) => {
             Remedy::DoAndSetUp("Connect the programmer again, and set up the port:")
