@@ -1,8 +1,14 @@
--- Lemmas on the files of a run that extracts an image.
-use Rattle.std.proofs.Common.{◌≡◌, subst, sym, true}
-use Rattle.nor_files.specs.Files.{AreApart, AreUntouched, FilesState, Name, OthersStay, View, is_lawful}
+-- Lemmas on the files of a run that changes only one of them.
+use Rattle.std.proofs.Common.{◌≡◌, ap, subst, sym, true}
+use Rattle.nor_files.specs.Files.{AreApart, AreUntouched, FilesState, KeepsFile, Name, OthersStay, View, is_lawful}
 use Rattle.nor_console.proofs.Lent.{stays_on}
-use Rattle.flashnor_serprog.proofs.LogMade.{untouched_keeps}
+
+pub untouched_keeps : {old new : FilesState} (name : Name) → AreUntouched old new → KeepsFile name old new
+untouched_keeps name same = record {
+  out = ap (λ (view : View). view.out name) same.view;
+  seen = ap (λ (view : View). view.seen name) same.view;
+  leaves = same.leaves name;
+}
 
 pub others_same : (name : Name) (old new : FilesState) → AreUntouched old new → OthersStay name old new
 others_same name old new same other apart = untouched_keeps other same

@@ -25,7 +25,8 @@ use Rattle.flashnor_serprog.specs.Jobs.{DoesTask, FailsChange, FailsComparison, 
 use Rattle.flashnor_serprog.specs.Following.{FailsToFollow}
 use Rattle.flashnor_serprog.specs.Jobs.{FailsToFill, FailsToTarget, HasChangedAndCompared, HasChangedBy}
 use Rattle.flashnor_serprog.specs.Jobs.{HasNotCompared, HasRunChange, HasTarget, IsBufferOf, IsProtected}
-use Rattle.flashnor_serprog.specs.Jobs.{IsRefusedAsProtected, changes_bytes, is_compared, ranges_of}
+use Rattle.flashnor_serprog.specs.Jobs.{IsRefusedAsProtected, ranges_of}
+use Rattle.flashnor_serprog.specs.Tasks.{changes_bytes, is_compared}
 use Rattle.flashnor_serprog.specs.Restoring.{FailsRestore}
 use Rattle.flashnor_serprog.specs.declared.chip_faults.JobFault.{JobFault}
 use Rattle.flashnor_serprog.specs.declared.chip_faults.JobFault.TheVariants as ended

@@ -8,7 +8,7 @@ use Rattle.nor_console.specs.declared.answers.Answer.TheVariants as answer
 use Rattle.nor_args.specs.declared.job.Operation.{Operation}
 use Rattle.nor_console.specs.declared.answers.Answer.{Answer}
 use Rattle.flashnor_serprog.specs.Further.{further_of}
-use Rattle.flashnor_serprog.specs.Run.{AreJobLines, AreLinesBy, AreNameLines}
+use Rattle.flashnor_serprog.specs.Ending.{AreJobLines, AreLinesBy, AreNameLines}
 
 pub name_printed : (found : Found) (a b : Option (List ℕ)) → Appends a b (name_line found.name)
     → Prints (AreNameLines (answer.Found found)) a b

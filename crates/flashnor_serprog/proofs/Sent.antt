@@ -28,11 +28,12 @@ use Rattle.nor_console.specs.declared.messages.Fault.TheVariants as end
 use Rattle.flashnor_serprog.specs.Following.{FailsToFollow, FailsToMerge, IsFollowed, IsWholeTarget}
 use Rattle.flashnor_serprog.specs.Jobs.{DoesTask, FailsBefore, FailsComparison, FailsPerform, FailsToChange}
 use Rattle.flashnor_serprog.specs.Jobs.{FailsToFill, FailsToTarget, HasChangedBy, HasReadBy, HasRunChange, HasTarget}
-use Rattle.flashnor_serprog.specs.Jobs.{IsBufferOf, is_compared}
+use Rattle.flashnor_serprog.specs.Jobs.{IsBufferOf}
+use Rattle.flashnor_serprog.specs.Tasks.{is_compared}
 use Rattle.nor_jobs.specs.Finding.{IsNamedFirst}
 use Rattle.nor_jobs.specs.Restoring.{HasRestoredNamed}
 use Rattle.nor_jobs.specs.Sources.{asked_bytes}
-use Rattle.flashnor_serprog.specs.Run.{EndsJob, IsEndedAs}
+use Rattle.flashnor_serprog.specs.Jobs.{EndsJob, IsEndedAs}
 use Rattle.flashnor_serprog.specs.declared.chip_faults.JobFault.{JobFault}
 use Rattle.flashnor_serprog.specs.declared.chip_faults.JobFault.TheVariants as ended
 use Rattle.flashnor_serprog.specs.Rest.{FailsRest, FollowsRestore, is_followed}

@@ -14,8 +14,8 @@ use Rattle.nor_console.specs.declared.messages.Fault.TheVariants as end
 use Rattle.nor_jobs.specs.Restoring.{IsNoJournal}
 use Rattle.flashnor_serprog.specs.Journals.{IsSealed, IsSealedIn}
 use Rattle.flashnor_serprog.specs.declared.images.NotWhole.{NotWhole}
-use Rattle.flashnor_serprog.specs.declared.trouble.Trouble.{Trouble}
-use Rattle.flashnor_serprog.specs.declared.trouble.Trouble.TheVariants as trouble
+use Rattle.flashnor_serprog.specs.declared.early_ends.EarlyEnd.{EarlyEnd}
+use Rattle.flashnor_serprog.specs.declared.early_ends.EarlyEnd.TheVariants as early
 
 unfoldable pub first_sectors : Content → (n : ℕ) → List ℕ
 first_sectors journal zero = []
@@ -40,9 +40,9 @@ pub record IsNotWholeIn (journal : Content) (name : Bor Text) (fault : NotWhole)
   pub inside : sector < journal.size / 4096
   pub lacks : is_saved journal sector ≡ false
 
-abbrev pub FailsWhole : Content → (name : Bor Text) → Trouble → Type 0
-FailsWhole journal name (trouble.Fault fault) = fault ≡ end.Refused Memory
-FailsWhole journal name (trouble.NotWhole fault) = IsNotWholeIn journal name fault
+abbrev pub FailsWhole : Content → (name : Bor Text) → EarlyEnd → Type 0
+FailsWhole journal name (early.Fault fault) = fault ≡ end.Refused Memory
+FailsWhole journal name (early.NotWhole fault) = IsNotWholeIn journal name fault
 FailsWhole journal name _ = ⊥
 
 -- true if the bytes begin as a journal of any format does
@@ -63,16 +63,16 @@ IsUnpackedBy true bytes image = IsUnpackedImage bytes image
 abbrev pub IsUnpacked : (bytes image : List ℕ) → Type 0
 IsUnpacked bytes image = IsUnpackedBy (begins_as_journal bytes) bytes image
 
-abbrev pub FailsInJournal : (bytes : List ℕ) → (name : Bor Text) → Trouble → Type 0
+abbrev pub FailsInJournal : (bytes : List ℕ) → (name : Bor Text) → EarlyEnd → Type 0
 FailsInJournal bytes name fault =
     (journal : Content) × IsContent journal × (bytes ≡ text journal) × FailsWhole journal name fault
 
-abbrev pub FailsAsJournal : (bytes : List ℕ) → Trouble → Type 0
-FailsAsJournal bytes (trouble.Fault fault) = IsNoJournal bytes fault
+abbrev pub FailsAsJournal : (bytes : List ℕ) → EarlyEnd → Type 0
+FailsAsJournal bytes (early.Fault fault) = IsNoJournal bytes fault
 FailsAsJournal bytes _ = ⊥
 
 -- Holds if `bytes` are no journal (error 15), or a journal that has no image.
-abbrev pub FailsToUnpack : (bytes : List ℕ) → (name : Bor Text) → Trouble → Type 0
+abbrev pub FailsToUnpack : (bytes : List ℕ) → (name : Bor Text) → EarlyEnd → Type 0
 FailsToUnpack bytes name fault = FailsAsJournal bytes fault ⊎ FailsInJournal bytes name fault
 
 -- ---- another device
@@ -96,7 +96,7 @@ AreAdapted replaced (task.Verify file regions) old new = IsUnpacked old new
 AreAdapted true (task.Restore journal) old new = IsForAnyDevice old new
 AreAdapted replaced _ old new = new ≡ old
 
-abbrev pub FailsToAdapt : (replaced : Bool) → Task → (bytes : List ℕ) → Trouble → Type 0
+abbrev pub FailsToAdapt : (replaced : Bool) → Task → (bytes : List ℕ) → EarlyEnd → Type 0
 FailsToAdapt replaced (task.Verify file regions) bytes fault = FailsToUnpack bytes file fault
 FailsToAdapt true (task.Restore journal) bytes fault = FailsToUnpack bytes journal fault
 FailsToAdapt replaced _ bytes fault = ⊥

@@ -1,5 +1,5 @@
 -- What a job does to the chip over any bus: its call to the engine, the result, and the faults before and after it.
-use Rattle.std.specs.Prelude.{◌≡◌, ◌&&◌, ◌⊎◌, ℕ, Bool, true, false, List, Option, Result, Ok}
+use Rattle.std.specs.Prelude.{◌≡◌, ◌&&◌, ◌⊎◌, ℕ, Bool, true, false, List, Option, Result, Ok, Err}
 use Rattle.std.specs.Prelude.{bit_and, nat_eq, not}
 use Rattle.nor_model.specs.Bus.{BusState}
 use Rattle.nor_files.specs.Files.{FilesState, View}
@@ -27,6 +27,7 @@ use Rattle.nor_console.specs.declared.answers.Answer.{Answer}
 use Rattle.nor_console.specs.declared.messages.Fault.{Fault}
 use Rattle.nor_console.specs.declared.messages.Fault.TheVariants as end
 use Rattle.flashnor_serprog.specs.Following.{FailsToFollow, FailsToMerge, IsFollowed, IsWholeTarget, ranges_if}
+use Rattle.flashnor_serprog.specs.Tasks.{changes_bytes, is_compared}
 use Rattle.nor_jobs.specs.Finding.{FailsToFind, HasIdentified, HasLookedUp, ReportsFound, ReportsSize}
 use Rattle.nor_jobs.specs.Sources.{asked_bytes}
 use Rattle.flashnor_serprog.specs.Restoring.{FailsRestore, HasRestored}
@@ -127,14 +128,6 @@ abbrev pub FailsToFill : Option ChipName → Wanted → (ranges : Option (List S
     → (old new : BusState) → JobFault → Type 0
 FailsToFill named (wanted.Range start len) ranges bytes old new fault = ⊥
 FailsToFill named target ranges bytes old new fault = FailsToTarget named target ranges bytes old new fault
-
-abbrev pub changes_bytes : Wanted → Bool
-changes_bytes (wanted.Range start len) = false
-changes_bytes _ = true
-
--- true for a write or an erase without `-n` and `-N`: the whole chip is compared after it
-abbrev pub is_compared : Operation → Change → Bool
-is_compared operation change = changes_bytes change.wanted && (change.verify && operation.verifies_all)
 
 -- the ranges of a change if it is compared; the chip is then read before, for its bytes outside these ranges
 abbrev pub ranges_of : Operation → Change → Option (List Span) → Option (List Span)
@@ -255,3 +248,18 @@ FailsPerform operation (task.Restore journal) ranges bytes before after old new 
 FailsPerform operation job ranges bytes before after old new (ended.Fault fault) =
     FailsBefore operation.named job bytes before old new fault
 FailsPerform operation job ranges bytes before after old new _ = ⊥
+
+-- Holds if a job ended with this result of its call to the engine, or with a fault before or after the call.
+abbrev pub EndsJob : Operation → (ranges : Option (List Span)) → (bytes : List ℕ) → (before : View)
+    → (after : FilesState) → (old new : BusState) → Result Answer JobFault → Type 0
+EndsJob operation ranges bytes before after old new (Ok found) =
+    DoesTask operation operation.task ranges bytes before after old new (Ok found)
+EndsJob operation ranges bytes before after old new (Err (ended.Fault (end.Refused refusal))) =
+    DoesTask operation operation.task ranges bytes before after old new (Err refusal)
+    ⊎ FailsPerform operation operation.task ranges bytes before after old new (ended.Fault (end.Refused refusal))
+EndsJob operation ranges bytes before after old new (Err fault) =
+    FailsPerform operation operation.task ranges bytes before after old new fault
+
+abbrev pub IsEndedAs : Result Answer Refusal → Result Answer JobFault → Type 0
+IsEndedAs (Ok found) result = result ≡ Ok found
+IsEndedAs (Err refusal) result = result ≡ Err (ended.Fault (end.Refused refusal))

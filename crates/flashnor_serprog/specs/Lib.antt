@@ -19,3 +19,9 @@ pub mod StatusLocks
 pub mod ChipLayouts
 pub mod Estimates
 pub mod Notes
+pub mod Ending
+pub mod Logged
+pub mod Shown
+pub mod Strays
+pub mod Tasks
+pub mod Troubles

@@ -1,31 +1,13 @@
--- The log of a run (`-o`): its file has no second role, and creating it changes no other file.
-use Rattle.std.specs.Prelude.{◌≡◌, ◌⊎◌, ℕ, List, [], Option, None, Some, codes, true}
+-- The log of a run (`-o`): which file may be one, and that creating it changes no other file.
+use Rattle.std.specs.Prelude.{◌≡◌, ℕ, List, [], Option, None, Some, codes, true}
 use Rattle.std.specs.Borrow.{Bor}
-use Rattle.nor_files.specs.Files.{AreApart, AreUntouched, FilesState, Name, Nature, OthersStay, View, is_lawful}
+use Rattle.nor_files.specs.Files.{AreApart, AreUntouched, FilesState, Name, OthersStay, View, is_lawful}
 use Rattle.nor_args.specs.Text.{Text}
-use Rattle.nor_args.specs.declared.job.Task.{Task}
-use Rattle.nor_console.specs.Roles.{FailsApart, FailsUnprinted}
-use Rattle.nor_console.specs.Stored.{AreTwo, IsRead}
-use Rattle.nor_console.specs.Tasks.{named_by}
+use Rattle.nor_console.specs.Stored.{IsRead}
 use Rattle.nor_console.specs.declared.messages.Fault.{Fault}
 use Rattle.nor_console.specs.declared.causes.Cause.TheVariants as causes
 use Rattle.nor_console.specs.declared.messages.Fault.TheVariants as end
 use Rattle.nor_console.specs.declared.messages.FileFault.TheVariants as file
-
--- Holds if the name of the log is apart from the device and from each file of the job.
-pub record HasOwnLog (nature : Nature) (device : Bor Text) (job : Task) (log : Option (Bor Text)) : Type 0 where
-  pub device_log : AreTwo nature (Some device) log
-  pub layout_log : AreTwo nature (named_by job).layout log
-  pub wanted_log : AreTwo nature (named_by job).wanted log
-  pub output_log : AreTwo nature (named_by job).output log
-  pub journal_log : AreTwo nature (named_by job).journal log
-
-abbrev pub FailsLogRole : Nature → Bor Text → Task → Option (Bor Text) → Fault → Type 0
-FailsLogRole nature device job log fault = FailsApart nature (Some device) log fault
-    ⊎ (FailsApart nature (named_by job).layout log fault
-    ⊎ (FailsApart nature (named_by job).wanted log fault
-    ⊎ (FailsApart nature (named_by job).output log fault
-    ⊎ (FailsApart nature (named_by job).journal log fault ⊎ FailsUnprinted nature log fault))))
 
 -- Holds for the first 23 bytes of a file that isn't empty and doesn't begin as a log.
 pub record BeginsNoLog (start : List ℕ) : Type 0 where

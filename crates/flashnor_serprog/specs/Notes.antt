@@ -1,12 +1,7 @@
--- What the notes of a run say about the sectors of the chip.
-use Rattle.std.specs.Prelude.{◌<◌, ℕ, ⊤, Option, Some}
-use Rattle.nor_sums.specs.Sums.{Agree, entry_of}
+-- The notes of a run, as contracts see them.
+use Rattle.nor_sums.specs.declared.sums.Sums.{Sums}
 use Rattle.flashnor_serprog.specs.declared.notes.Notes.{Notes}
-use Rattle.flashnor_serprog.specs.declared.sums_file.Before.{Before}
-use Rattle.flashnor_serprog.specs.declared.sums_file.Before.TheVariants as before
 
--- Holds if each sector whose sum before the session is known has the same sum after the restore.
-abbrev pub IsAsBefore : Before → Option Notes → Type 0
-IsAsBefore (before.Known sums) (Some notes) = (s : ℕ) → s < 4096
-    → Agree (entry_of sums.entries.items s) (entry_of notes.after.entries.items s)
-IsAsBefore _ _ = ⊤
+-- the sums of the comparison after a restore
+abbrev pub after_of : Notes → Sums
+after_of notes = notes.after

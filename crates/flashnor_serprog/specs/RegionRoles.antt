@@ -23,8 +23,8 @@ use Rattle.nor_console.specs.declared.roles.Named.{Named}
 use Rattle.flashnor_serprog.specs.declared.region_faults.RegionFault.{RegionFault}
 use Rattle.flashnor_serprog.specs.declared.region_faults.RegionFault.TheVariants as wrong
 use Rattle.flashnor_serprog.specs.declared.region_files.RegionFile.{RegionFile}
-use Rattle.flashnor_serprog.specs.declared.trouble.Trouble.{Trouble}
-use Rattle.flashnor_serprog.specs.declared.trouble.Trouble.TheVariants as trouble
+use Rattle.flashnor_serprog.specs.declared.early_ends.EarlyEnd.{EarlyEnd}
+use Rattle.flashnor_serprog.specs.declared.early_ends.EarlyEnd.TheVariants as early
 
 -- ---- names
 
@@ -136,9 +136,9 @@ FailsOldFiles view _ files fault = ⊥
 -- ---- all checks
 
 -- Holds if the checks of the regions' files may fail with this fault.
-abbrev pub FailsRegionFiles : View → Bor Text → Task → (log : Option (Bor Text)) → List RegionFile → Trouble → Type 0
-FailsRegionFiles view device job log files (trouble.Region fault) =
+abbrev pub FailsRegionFiles : View → Bor Text → Task → (log : Option (Bor Text)) → List RegionFile → EarlyEnd → Type 0
+FailsRegionFiles view device job log files (early.Region fault) =
     FailsNames job files fault ⊎ IsNotReadBack view.nature (named_by job).output files fault
-FailsRegionFiles view device job log files (trouble.Fault fault) =
+FailsRegionFiles view device job log files (early.Fault fault) =
     FailsRegionRoles view.nature device job log files fault ⊎ FailsOldFiles view job files fault
 FailsRegionFiles view device job log files _ = ⊥

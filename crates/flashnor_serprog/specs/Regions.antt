@@ -17,8 +17,8 @@ use Rattle.nor_console.specs.declared.messages.Fault.{Fault}
 use Rattle.nor_console.specs.declared.messages.Fault.TheVariants as end
 use Rattle.flashnor_serprog.specs.declared.region_faults.RegionFault.TheVariants as wrong
 use Rattle.flashnor_serprog.specs.declared.region_files.RegionFile.{RegionFile}
-use Rattle.flashnor_serprog.specs.declared.trouble.Trouble.{Trouble}
-use Rattle.flashnor_serprog.specs.declared.trouble.Trouble.TheVariants as trouble
+use Rattle.flashnor_serprog.specs.declared.early_ends.EarlyEnd.{EarlyEnd}
+use Rattle.flashnor_serprog.specs.declared.early_ends.EarlyEnd.TheVariants as early
 
 -- ---- the value of `-i`
 
@@ -114,13 +114,13 @@ pub record EndsBefore (region : RegionFile) (image : Bor Text) (len : ℕ) (name
   pub ends : region.span.first ≤ region.span.last + 1 → len < region.span.last + 1
 
 -- Holds if replacing the bytes of a region in an image of `len` bytes may fail with this fault.
-abbrev pub FailsToReplaceOne : View → Bor Text → RegionFile → (len : ℕ) → Trouble → Type 0
-FailsToReplaceOne view image region len (trouble.Fault fault) = IsReadingFault view region.file.now 16777217 fault
-FailsToReplaceOne view image region len (trouble.Region (wrong.Length name found wanted)) =
+abbrev pub FailsToReplaceOne : View → Bor Text → RegionFile → (len : ℕ) → EarlyEnd → Type 0
+FailsToReplaceOne view image region len (early.Fault fault) = IsReadingFault view region.file.now 16777217 fault
+FailsToReplaceOne view image region len (early.Region (wrong.Length name found wanted)) =
     HasOtherLength view region name found wanted
-FailsToReplaceOne view image region len (trouble.Region (wrong.Short name of)) =
+FailsToReplaceOne view image region len (early.Region (wrong.Short name of)) =
     EndsBefore region image len name of
 FailsToReplaceOne view image region len _ = ⊥
 
-abbrev pub FailsToReplace : View → Bor Text → List RegionFile → (len : ℕ) → Trouble → Type 0
+abbrev pub FailsToReplace : View → Bor Text → List RegionFile → (len : ℕ) → EarlyEnd → Type 0
 FailsToReplace view image files len fault = Any (λ region. FailsToReplaceOne view image region len fault) files

@@ -1,14 +1,17 @@
 -- The files of a job: their roles, and the contents that are read before the programmer is used.
-use Rattle.std.specs.Prelude.{◌≡◌, ◌⊎◌, ℕ, Bool, List, [], Option, None, Some, length, option_map, ⊤}
+use Rattle.std.specs.Prelude.{◌≡◌, ◌⊎◌, ◌&&◌, ℕ, Bool, true, false, List, [], Option, None, Some, length, option_map, ⊤}
 use Rattle.std.specs.Borrow.{Bor}
 use Rattle.nor_files.specs.Files.{Nature, View}
 use Rattle.nor_files.specs.Files.Failure.{There}
 use Rattle.nor_args.specs.Text.{Text}
+use Rattle.nor_args.specs.declared.job.Operation.{Operation}
 use Rattle.nor_args.specs.declared.job.JournalUse.{JournalUse}
 use Rattle.nor_args.specs.declared.job.JournalUse.TheVariants as uses
 use Rattle.nor_args.specs.declared.job.Task.{Task}
 use Rattle.nor_args.specs.declared.job.Task.TheVariants as task
 use Rattle.nor_args.specs.declared.job.Regions.{Regions}
+use Rattle.nor_args.specs.declared.job.Wanted.{Wanted}
+use Rattle.nor_args.specs.declared.job.Wanted.TheVariants as wanted
 use Rattle.nor_layout.specs.declared.ranges.Span.{Span}
 use Rattle.nor_jobs.specs.Sources.{FailsImage, IsImage, IsInvalid}
 use Rattle.nor_console.specs.Files.{IsReadingFault, IsSharingFault}
@@ -21,9 +24,10 @@ use Rattle.nor_console.specs.declared.messages.Fault.TheVariants as end
 use Rattle.nor_console.specs.declared.messages.FileFault.TheVariants as file
 use Rattle.flashnor_serprog.specs.Images.{AreAdapted, FailsToAdapt}
 use Rattle.flashnor_serprog.specs.Regions.{AreFilesIn, AreReplaced, FailsToReplace, names_in, regions_of, with_names}
+use Rattle.flashnor_serprog.specs.Tasks.{is_compared}
 use Rattle.flashnor_serprog.specs.declared.region_files.RegionFile.{RegionFile}
-use Rattle.flashnor_serprog.specs.declared.trouble.Trouble.{Trouble}
-use Rattle.flashnor_serprog.specs.declared.trouble.Trouble.TheVariants as trouble
+use Rattle.flashnor_serprog.specs.declared.early_ends.EarlyEnd.{EarlyEnd}
+use Rattle.flashnor_serprog.specs.declared.early_ends.EarlyEnd.TheVariants as early
 
 -- ---- roles
 
@@ -55,6 +59,21 @@ abbrev pub FailsRoles : Nature → Bor Text → Task → Fault → Type 0
 FailsRoles nature device job fault = FailsDevice nature device job fault
     ⊎ (FailsFiles nature job fault
     ⊎ (FailsUnprinted nature (named_by job).output fault ⊎ FailsUnprinted nature (named_by job).journal fault))
+
+-- Holds if the name of the log is apart from the device and from each file of the job.
+pub record HasOwnLog (nature : Nature) (device : Bor Text) (job : Task) (log : Option (Bor Text)) : Type 0 where
+  pub device_log : AreTwo nature (Some device) log
+  pub layout_log : AreTwo nature (named_by job).layout log
+  pub wanted_log : AreTwo nature (named_by job).wanted log
+  pub output_log : AreTwo nature (named_by job).output log
+  pub journal_log : AreTwo nature (named_by job).journal log
+
+abbrev pub FailsLogRole : Nature → Bor Text → Task → Option (Bor Text) → Fault → Type 0
+FailsLogRole nature device job log fault = FailsApart nature (Some device) log fault
+    ⊎ (FailsApart nature (named_by job).layout log fault
+    ⊎ (FailsApart nature (named_by job).wanted log fault
+    ⊎ (FailsApart nature (named_by job).output log fault
+    ⊎ (FailsApart nature (named_by job).journal log fault ⊎ FailsUnprinted nature log fault))))
 
 -- ---- sources
 
@@ -100,22 +119,22 @@ pub record ArePreparedBytes (view : View) (is_replaced : Bool) (job : Task) (fil
   pub used : AreUsed view is_replaced job whole
   pub replaced : AreReplacedIn view (named_by job).wanted files whole bytes
 
-abbrev pub FailsToReplaceIn : View → (replaced : Bool) → (image : Option (Bor Text)) → Task → List RegionFile → Trouble
+abbrev pub FailsToReplaceIn : View → (replaced : Bool) → (image : Option (Bor Text)) → Task → List RegionFile → EarlyEnd
     → Type 0
 FailsToReplaceIn view replaced None job files fault = ⊥
 FailsToReplaceIn view replaced (Some image) job files fault =
     (whole : List ℕ) × AreUsed view replaced job whole × FailsToReplace view image files (length whole) fault
 
-abbrev pub FailsToUse : View → (replaced : Bool) → Task → Trouble → Type 0
+abbrev pub FailsToUse : View → (replaced : Bool) → Task → EarlyEnd → Type 0
 FailsToUse view replaced job fault =
     (found : List ℕ) × AreBytes view job found × FailsToAdapt replaced job found fault
 
-abbrev pub FailsToReadOrCheck : View → Task → Trouble → Type 0
-FailsToReadOrCheck view job (trouble.Fault fault) = FailsToReadBytes view job fault ⊎ FailsCheck view job fault
+abbrev pub FailsToReadOrCheck : View → Task → EarlyEnd → Type 0
+FailsToReadOrCheck view job (early.Fault fault) = FailsToReadBytes view job fault ⊎ FailsCheck view job fault
 FailsToReadOrCheck view job fault = ⊥
 
 -- Holds if reading, checking and adapting the files of a task may fail with this fault.
-abbrev pub FailsToPrepare : View → (replaced : Bool) → Task → List RegionFile → Trouble → Type 0
+abbrev pub FailsToPrepare : View → (replaced : Bool) → Task → List RegionFile → EarlyEnd → Type 0
 FailsToPrepare view replaced job files fault = FailsToReadOrCheck view job fault
     ⊎ (FailsToUse view replaced job fault ⊎ FailsToReplaceIn view replaced (named_by job).wanted job files fault)
 
@@ -135,3 +154,20 @@ pub record AreJobRegions (view : View) (shown : Option (List ℕ)) (job : Task) 
   pub plain : ArePlainNames (regions_of job) names.now
   pub included : AreRangesOf view shown (named_regions names job) ranges
   pub files_in : AreFilesIn view shown (regions_of job) files
+
+-- ---- the image that a bus may expect
+
+abbrev pub writes_image : Wanted → Bool
+writes_image (wanted.Write image) = true
+writes_image _ = false
+
+-- true for `-v`, and for `-w` without `-n` and `-N`: the job ends with a comparison of the chip with an image
+abbrev pub ends_with_image : Operation → Task → Bool
+ends_with_image operation (task.Verify file regions) = true
+ends_with_image operation (task.Change change) = is_compared operation change && writes_image change.wanted
+ends_with_image operation _ = false
+
+-- Holds if the bus expects no image, or the job ends with its image. So `-r`, `--backup` and `--restore` read twice.
+abbrev pub MayExpectImage : Operation → (bytes : List ℕ) → Option (List ℕ) → Type 0
+MayExpectImage operation bytes None = ⊤
+MayExpectImage operation bytes (Some image) = (ends_with_image operation operation.task ≡ true) × (image ≡ bytes)

@@ -17,9 +17,9 @@ use nor_buses::{
     CheckedStatus, KeptQuad, KnownStatus2, OtherMakers, Paced, ReadAhead, ReadTwice, SameChip,
     SplittingBus, Watched,
 };
-use nor_chip::Bus;
 use nor_console::{Fault, SystemReason};
 use nor_files::LockFile;
+use nor_model::Bus;
 use nor_serprog::{AnyProgrammer, BatchingBus, Command, Failure, HandshakeFault, Link};
 use nor_session::Refusal;
 use std::alloc::Global;

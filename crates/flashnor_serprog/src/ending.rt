@@ -1,51 +1,19 @@
-//! The end of a run: prints an answer or a fault, and returns the exit status.
-ghost use Rattle.std.specs.Prelude.{◌≡◌, ◌≤◌, IsOk, OnOk, Some, false};
+//! The end of a run that succeeded: prints its answer, and returns the exit status.
+ghost use Rattle.std.specs.Prelude.{◌≡◌, ◌≤◌, OnOk, Some, false};
 ghost use Rattle.std.specs.Io.KnownBytes.{Appends};
 ghost use Rattle.nor_console.specs.AnswerLines.{name_line};
 ghost use Rattle.nor_console.specs.Printing.{Prints};
 ghost use Rattle.nor_console.specs.AnswerLines.{protected_line};
-ghost use Rattle.flashnor_serprog.specs.Run.{AreJobLines, AreLinesBy, AreNameLines};
+ghost use Rattle.flashnor_serprog.specs.Ending.{AreJobLines, AreLinesBy, AreNameLines};
 ghost use Rattle.flashnor_serprog.specs.Further.{further_line, further_of, lock_words, status_bytes_line};
 ghost use Rattle.flashnor_serprog.specs.Further.{unverified_line};
 
-use crate::file_hints::reason_hint;
+use crate::exit_status::status_of;
 use nor_args::{Change, Operation, Task, Wanted};
-use nor_console::{Answer, Fault, SystemReason, lost_output, print_answer, print_fault};
+use nor_console::{Answer, print_answer};
 use nor_probe::ChipName;
 use std::io;
 use std::io::Write;
-
-/// Prints a fault, and returns the exit status, which is 1.
-pub fn end_badly<E: Write>(errors: &mut E, fault: &Fault<'_>) -> u8
-    ensures { result ≡ 1 }
-{
-    print_fault(errors, fault);
-    1
-}
-
-/// Returns exit status 0 if printing to standard output succeeded. Otherwise prints file fault 2, with the system's
-/// reason if there is one of its own, and returns 1.
-pub fn status_of<E: Write>(printed: io::Result<()>, errors: &mut E) -> u8
-    ensures few { result ≤ 1 }
-    ensures printed { result ≡ 0 → IsOk printed }
-    ensures quiet { IsOk printed → E.contents errors.new ≡ E.contents errors.old }
-{
-    match printed {
-        Ok(()) => 0,
-        Err(error) => {
-            let status = end_badly(errors, &lost_output());
-            print_reason(errors, SystemReason::of_making(&error));
-            status
-        }
-    }
-}
-
-// Prints what to do about a file that can't be written for this reason, if the reason is known.
-fn print_reason<E: Write>(errors: &mut E, reason: SystemReason) {
-    if !matches!(reason, SystemReason::Other) {
-        let _ = writeln!(errors, "{}", reason_hint(reason));
-    }
-}
 
 /// A line that follows the lines of an answer.
 #[derive(Clone, Copy, Drop)]

@@ -3,12 +3,12 @@ ghost use Rattle.std.specs.Prelude.{◌≡◌, ◌≤◌, IfOk, true};
 ghost use Rattle.nor_files.specs.Files.{OthersStay, is_lawful};
 ghost use Rattle.flashnor_serprog.specs.Images.{IsExtracted};
 
-use crate::ending::status_of;
-use crate::hints::print_hint;
+use crate::early_ends::EarlyEnd;
+use crate::exit_status::status_of;
+use crate::file_hints::print_hint;
 use crate::images::whole_image;
 use crate::journals::{Description, description_of, print_description};
 use crate::region_copies::write_file;
-use crate::trouble::Trouble;
 use nor_console::{Escaped, apart, read_journal, unprinted};
 use nor_files::Store;
 use nor_jobs::journal_in;
@@ -36,9 +36,9 @@ pub fn extract_image<R: Store, O: Write, E: Write>(
             let printed = print_extracted(output, name, image, &description);
             status_of(printed, errors)
         }
-        Err(trouble) => {
-            let _ = writeln!(errors, "{trouble}");
-            if let Trouble::Fault(fault) = &trouble {
+        Err(early) => {
+            let _ = writeln!(errors, "{early}");
+            if let EarlyEnd::Fault(fault) = &early {
                 print_hint(errors, fault);
             }
             1
@@ -53,7 +53,7 @@ fn extract<'a, R: Store>(
     files: &mut R,
     name: &'a str,
     image: &'a str,
-) -> Result<Description, Trouble<'a>>
+) -> Result<Description, EarlyEnd<'a>>
     ensures others { is_lawful (R.state files.old).view ≡ true
         → OthersStay image.now (R.state files.old) (R.state files.new) }
     ensures ok { IfOk result (λ description. IsExtracted (R.state files.old).view name.now

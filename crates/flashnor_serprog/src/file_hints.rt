@@ -1,9 +1,28 @@
-//! The line that follows the line of a file fault, and of an error of a file that is being written.
+//! The line that follows the line of a file fault or of error 15, and of an error of a file that is being written.
 
-use nor_console::{Cause, FileFault, SystemReason};
+use crate::journals::advice;
+use nor_console::{Cause, Fault, FileFault, SystemReason};
+use nor_session::Refusal;
+use std::io::Write;
 
-/// Returns the text that follows a file fault with this cause, if there is one.
-pub fn file_fault_hint(fault: FileFault, cause: Cause) -> Option<&'static str> {
+/// Prints the line that follows the line of a fault, if there is one that needs no more than the fault.
+pub fn print_hint<E: Write>(errors: &mut E, fault: &Fault<'_>) {
+    if let Some(text) = hint_for(fault) {
+        let _ = writeln!(errors, "{text}");
+    }
+}
+
+// Returns the text that follows a fault, if there is one that needs no more than the fault.
+fn hint_for(fault: &Fault<'_>) -> Option<&'static str> {
+    match fault {
+        Fault::File { fault, cause, .. } => file_fault_hint(*fault, *cause),
+        Fault::Refused(Refusal::BadJournal(why)) => Some(advice(*why)),
+        _ => None,
+    }
+}
+
+// Returns the text that follows a file fault with this cause, if there is one.
+fn file_fault_hint(fault: FileFault, cause: Cause) -> Option<&'static str> {
     cause_hint(cause).or(file_hint(fault))
 }
 

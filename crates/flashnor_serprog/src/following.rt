@@ -9,11 +9,11 @@ ghost use Rattle.flashnor_serprog.specs.Following.{IsWholeTarget, into_memory, r
 
 use crate::chip_faults::JobFault;
 use crate::progress::Progress;
-use nor_chip::Bus;
 use nor_console::{Fault, Outcome, or_fault, verify_image};
 use nor_geometry::SECTOR_LEN;
 use nor_journal::MemVault;
 use nor_layout::{Ranges, includes_in_sector};
+use nor_model::Bus;
 use nor_probe::ChipName;
 use nor_read::read_out;
 use nor_session::{Refusal, Report};

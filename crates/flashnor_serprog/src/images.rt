@@ -1,11 +1,11 @@
 //! The image in a journal that saves the whole chip: for `--extract-image`, and for `-v` of a backup.
-ghost use Rattle.std.specs.Prelude.{◌≡◌, IfErr, IfOk, OnOk};
+ghost use Rattle.std.specs.Prelude.{◌≡◌, ◌≤◌, ◌/◌, IfErr, IfOk, OnOk};
 ghost use Rattle.flashnor_serprog.specs.Images.{FailsToUnpack, FailsWhole, IsImageIn, IsNotWholeIn, IsUnpacked, IsWhole};
 ghost use Rattle.flashnor_serprog.specs.Images.{begins_as_journal, saved_image};
 
-use crate::rest::sectors_of;
-use crate::trouble::Trouble;
+use crate::early_ends::EarlyEnd;
 use nor_console::{Escaped, Fault};
+use nor_geometry::SECTOR_LEN;
 use nor_jobs::journal_in;
 use nor_journal::Journal;
 use nor_session::Refusal;
@@ -58,20 +58,28 @@ pub fn check_whole<'a>(name: &'a str, journal: &Journal<'_>) -> Result<(), NotWh
     Ok(())
 }
 
+/// Returns the number of sectors of a chip of the journal's size.
+pub fn sectors_of(journal: &Journal<'_>) -> u32
+    ensures value { result ≡ journal.now.size / 4096 }
+    ensures few { result ≤ 4096 }
+{
+    journal.size() / SECTOR_LEN
+}
+
 /// Returns the image in the journal in the file of this name. Returns `NotWhole` if a sector isn't saved, or error 18
 /// if memory runs out.
 pub fn whole_image<'a>(
     alloc: Global,
     name: &'a str,
     journal: &Journal<'_>,
-) -> Result<Vec<u8>, Trouble<'a>>
+) -> Result<Vec<u8>, EarlyEnd<'a>>
     ensures ok { IfOk result (λ image. IsImageIn journal.now image.items) }
     ensures err { IfErr result (FailsWhole journal.now name.entry) }
 {
     check_whole(name, journal)?;
     match join_sectors(alloc, journal) {
         Ok(image) => Ok(image),
-        Err(_) => Err(Trouble::Fault(Fault::Refused(Refusal::Memory))),
+        Err(_) => Err(EarlyEnd::Fault(Fault::Refused(Refusal::Memory))),
     }
 }
 
@@ -89,7 +97,7 @@ fn join_sectors(alloc: Global, journal: &Journal<'_>) -> Result<Vec<u8>, AllocEr
 
 /// Returns the image in `bytes` from the file of this name: `bytes` or, if they begin as a journal, the image in it.
 /// Then returns error 15 if they are no journal, `NotWhole` if a sector isn't saved, and error 18 if memory runs out.
-pub fn unpacked<'a>(alloc: Global, name: &'a str, bytes: Vec<u8>) -> Result<Vec<u8>, Trouble<'a>>
+pub fn unpacked<'a>(alloc: Global, name: &'a str, bytes: Vec<u8>) -> Result<Vec<u8>, EarlyEnd<'a>>
     ensures ok { IfOk result (λ image. IsUnpacked bytes.items image.items) }
     ensures err { IfErr result (FailsToUnpack bytes.items name.entry) }
 {

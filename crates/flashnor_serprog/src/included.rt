@@ -2,8 +2,8 @@
 ghost use Rattle.std.specs.Prelude.{IfOk, option_map};
 ghost use Rattle.nor_console.specs.Requests.{AreRangesOf};
 
+use crate::early_ends::EarlyEnd;
 use crate::layout_lines::NamesLine;
-use crate::trouble::Trouble;
 use nor_args::Regions;
 use nor_console::{include_regions, read_layout};
 use nor_files::Store;
@@ -30,7 +30,7 @@ pub fn find_included<'a, R: Store>(
     rt: &R,
     regions: Option<Regions<'a>>,
     shown: Option<&[u8]>,
-) -> Result<Included<'a>, Trouble<'a>>
+) -> Result<Included<'a>, EarlyEnd<'a>>
     ensures { IfOk result (λ included. AreRangesOf (R.state rt.now).view
         (option_map (λ bytes. bytes.now) shown.entry) regions.entry included.ranges) }
 {
@@ -49,7 +49,7 @@ pub fn find_included<'a, R: Store>(
         Err(name) => {
             let file = regions.layout;
             let known = NamesLine { file, layout };
-            Err(Trouble::NoRegion { name, known })
+            Err(EarlyEnd::NoRegion { name, known })
         }
     }
 }

@@ -5,35 +5,39 @@ ghost use Rattle.nor_console.specs.Tasks.{journal_of, made_by};
 ghost use Rattle.nor_console.specs.Readings.{HasVerified};
 ghost use Rattle.nor_console.specs.Stored.{IsNot};
 ghost use Rattle.flashnor_serprog.specs.Jobs.{DoesTask, FailsChange, FailsPerform, FailsToAdmit, FailsToFill};
-ghost use Rattle.flashnor_serprog.specs.Jobs.{FailsToRead, HasChangedBy, HasReadChip, IsBufferOf, IsChangeable};
-ghost use Rattle.flashnor_serprog.specs.Jobs.{changes_bytes, is_compared, may_be_protected};
+ghost use Rattle.flashnor_serprog.specs.Jobs.{EndsJob, FailsToRead, HasChangedBy, HasReadChip, IsBufferOf};
+ghost use Rattle.flashnor_serprog.specs.Jobs.{IsChangeable, IsEndedAs};
+ghost use Rattle.flashnor_serprog.specs.Sends.{SendsOnly};
+ghost use Rattle.flashnor_serprog.specs.Jobs.{may_be_protected};
+ghost use Rattle.flashnor_serprog.specs.Tasks.{changes_bytes};
 
 use crate::backups::backup_chip;
 use crate::chip_faults::JobFault;
 use crate::following::{complete, follow, ranges_if, sectors_before_change, sectors_to_read};
-use crate::hints::Saved;
 use crate::progress::{Progress, StatusWrite, Terminal};
 use crate::restoring::restore_chip;
+use crate::tasks::{changes_bytes, is_compared};
 use nor_args::{Change, JournalUse, Operation, Reason, Task, UsageFault, Wanted};
-use nor_chip::Bus;
 use nor_console::{
-    Fault, Outcome, list_ranges, read_to_file, report_protection, request_for, session_in_file,
-    verify_image,
+    Answer, Fault, Outcome, list_ranges, read_to_file, report_protection, request_for,
+    session_in_file, verify_image,
 };
 use nor_files::Store;
 use nor_jobs::{Sources, asked_bytes, find_chip, find_first, report_size};
 use nor_layout::Ranges;
+use nor_model::Bus;
 use nor_probe::{ChipName, Found};
+use nor_session::Refusal;
 use std::alloc::{AllocError, Global};
 
-/// Performs the job that the arguments ask for, with the contents of the files that it needs. `terminal` receives the
-/// line that says what a session or restore will change. An error is a fault before the call to the engine, or in the
-/// comparison after a write, an erase or a restore. The clauses hold on every bus.
-///
-/// Except for the task's own file, each file stays as it was, if files obey the contract of `Store`. A read, backup,
-/// write or erase identifies the chip before this file is created or truncated, so the file is kept if there is no
-/// chip.
-pub fn perform<'a, R: Store, B: Progress>(
+// Performs the job that the arguments ask for, with the contents of the files that it needs. `terminal` receives the
+// line that says what a session or restore will change. An error is a fault before the call to the engine, or in the
+// comparison after a write, an erase or a restore. The clauses hold on every bus.
+//
+// Except for the task's own file, each file stays as it was, if files obey the contract of `Store`. A read, backup,
+// write or erase identifies the chip before this file is created or truncated, so the file is kept if there is no
+// chip.
+fn perform<'a, R: Store, B: Progress>(
     rt: &mut R,
     bus: &mut B,
     terminal: Terminal<'_>,
@@ -61,6 +65,33 @@ pub fn perform<'a, R: Store, B: Progress>(
         Task::FlashSize => Ok(report_size(bus, named)),
         Task::WpStatus => Ok(report_protection(bus, named)),
         Task::WpList => Ok(list_ranges(bus, named)),
+    }
+}
+
+/// Performs a job, and returns its answer or its fault.
+pub fn end_job<'a, R: Store, B: Progress>(
+    files: &mut R,
+    bus: &mut B,
+    terminal: Terminal<'_>,
+    operation: &Operation<'a>,
+    sources: Sources,
+) -> Result<Answer, JobFault<'a>>
+    ensures ends { EndsJob operation.now sources.included sources.bytes.items (R.state files.old).view
+        (R.state files.new) (B.state bus.old) (B.state bus.new) result }
+    ensures sends { SendsOnly operation.now.task sources.bytes.items (B.state bus.old) (B.state bus.new)
+        (R.state files.new) }
+{
+    let outcome = perform(files, bus, terminal, operation, sources)?;
+    end_call(outcome)
+}
+
+// Returns the result of a call as a job reports it: an error of the call is a fault of the job.
+fn end_call<'a>(outcome: Outcome) -> Result<Answer, JobFault<'a>>
+    ensures { IsEndedAs outcome result }
+{
+    match outcome {
+        Ok(answer) => Ok(answer),
+        Err(refusal) => Err(JobFault::Fault(Fault::Refused(refusal))),
     }
 }
 
@@ -160,49 +191,17 @@ fn copy_of(bytes: &[u8], alloc: Global) -> Result<Vec<u8>, AllocError>
     bytes.to_vec(alloc)
 }
 
-/// True if the whole chip is compared after this change: a write or an erase without `-n` and `-N`.
-pub fn is_compared(operation: &Operation<'_>, change: &Change<'_>) -> bool
-    ensures { result ≡ is_compared operation.now change.now }
-{
-    changes_bytes(change.wanted) && (change.verify && operation.verifies_all)
-}
-
-/// True for a session: a write, an erase or a change of protection.
-pub fn is_session(task: &Task<'_>) -> bool {
-    matches!(task, Task::Change(_))
-}
-
-/// Returns the name of the journal's file if the task is a session with one.
-pub fn journal_of<'a>(task: &Task<'a>) -> Option<&'a str> {
-    match task {
-        Task::Change(
-            Change {
-                journal_use: JournalUse::Journal { file },
-                ..
-            },
-        ) => Some(*file),
-        _ => None,
-    }
-}
-
-/// Returns whether a task may write the status; `saved` is from the journal of a restore.
-pub fn status_write_of(task: &Task<'_>, saved: Option<Saved>) -> StatusWrite {
+/// Returns whether a task may write the status; `saved` has the status bytes in the journal of a restore.
+pub fn status_write_of(task: &Task<'_>, saved: Option<[u8; 2]>) -> StatusWrite {
     match task {
         Task::Change(change) if !changes_bytes(change.wanted) => StatusWrite::OnAnyChip,
         Task::Change(change) if change.unlock => StatusWrite::IfProtected,
         Task::Restore { .. } => match saved {
-            Some(saved) => StatusWrite::Restoring(saved.status),
+            Some(saved) => StatusWrite::Restoring(saved),
             None => StatusWrite::IfProtected,
         },
         _ => StatusWrite::Never,
     }
-}
-
-/// True for a write and an erase.
-pub fn changes_bytes(wanted: Wanted<'_>) -> bool
-    ensures { result ≡ changes_bytes wanted.entry }
-{
-    !matches!(wanted, Wanted::Range { .. })
 }
 
 // Returns the target of a write or an erase, after identifying the chip, or `bytes` for a change of protection.

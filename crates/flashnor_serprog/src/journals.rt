@@ -5,8 +5,8 @@ ghost use Rattle.nor_files.specs.Files.{AreUntouched};
 ghost use Rattle.flashnor_serprog.specs.Journals.{AreEnds, Describes, FailsToDescribe, IsDescribedIn, IsSealedIn};
 ghost use Rattle.flashnor_serprog.specs.Journals.{are_blank, is_blank};
 
-use crate::ending::status_of;
-use crate::hints::print_hint;
+use crate::exit_status::status_of;
+use crate::file_hints::print_hint;
 use crate::quoted::Quoted;
 use nor_console::{Escaped, Fault, print_fault, read_journal};
 use nor_files::Store;

@@ -4,6 +4,7 @@
 //! - `run.rt`: a run of the program
 //! - `preparing.rt`: checks and reads the files of a job, and identifies the programmer
 //! - `ending.rt`: the end of a run: prints an answer or a fault
+//! - `exit_status.rt`: the exit status after results or a fault were printed
 //! - `reports.rt`: what a run prints after an operation failed
 //! - `help.rt`: the text of the help that `-h` prints
 //! - `layout_lines.rt`: the lines of a fault of a layout
@@ -20,6 +21,8 @@
 //! - `region_faults.rt`: the faults of regions with files, and their lines
 //! - `roles.rt`: checks that neither the device nor a file that a job writes has a second role
 //! - `sources.rt`: reads the files that a job needs, before the programmer is used
+//! - `early_ends.rt`: the reasons why the files of a job can't be used, and their printed lines
+//! - `tasks.rt`: whether a task is a session, changes bytes or is compared
 //! - `port.rt`: a port over the device of the programmer
 //! - `progress.rt`: a bus that shows the progress of a job on standard error
 //! - `terminal.rt`: standard error: the line that is rewritten, and the other lines of the progress
@@ -46,6 +49,7 @@
 //! - `status_lock.rt`: sets and clears SRP0, for `--wp-enable` and `--wp-disable`
 //! - `lock_bits.rt`: which of the bits is set that lock the status, and what to do
 //! - `lock_job.rt`: a run of `--wp-enable` or `--wp-disable`, and what it prints
+//! - `lock_lines.rt`: what a run of `--wp-enable` or `--wp-disable` prints
 //! - `following.rt`: the target of a change, and the comparison of the whole chip with it
 //! - `status_line.rt`: the lines for replies that differ, a lost chip, a status write and a port that changes bytes
 //! - `chip_faults.rt`: the faults with which a job ends, and the lines of those that `flashnor` lacks
@@ -62,8 +66,10 @@ mod chip_list;
 mod chip_names;
 mod connect;
 mod contact;
+mod early_ends;
 mod ending;
 mod estimates;
+mod exit_status;
 mod extracting;
 mod file_hints;
 mod following;
@@ -77,6 +83,7 @@ mod journals;
 mod layout_lines;
 mod lock_bits;
 mod lock_job;
+mod lock_lines;
 mod log;
 mod notes;
 mod port;
@@ -104,6 +111,7 @@ mod steps;
 mod stop_line;
 mod strays;
 mod sums_file;
+mod tasks;
 mod terminal;
 mod trouble;
 

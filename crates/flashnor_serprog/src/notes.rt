@@ -4,10 +4,10 @@ ghost use Rattle.std.specs.Prelude.{◌≡◌, ◌+◌, ◌*◌, ◌/◌};
 
 use crate::replies::Replies;
 use crate::steps::Phase;
-use crate::sums_file::store;
 use crate::terminal::Terminal;
 use nor_console::Escaped;
-use nor_files::Disk;
+use nor_files::{Disk, Store};
+use nor_journal::Vault;
 use nor_sums::{SECTORS, SHEET_LEN, Sums, encode};
 use std::alloc::{AllocError, Global};
 use std::fmt;
@@ -26,6 +26,8 @@ pub struct Notes {
 }
 
 impl Notes {
+    ghost use Rattle.flashnor_serprog.specs.Notes.{after_of};
+
     /// Returns empty notes. If a name is given, the notes are written to the file of this name before the first
     /// modifying command (`write`). Returns an error if memory runs out.
     pub fn new(alloc: Global, name: Option<String>) -> Result<Notes, AllocError> {
@@ -74,7 +76,7 @@ impl Notes {
 
     /// Returns the sums of the comparison after a restore.
     pub fn after(&self) -> &Sums
-        ensures { result.now ≡ self.now.after }
+        ensures { result.now ≡ after_of self.now }
     {
         &self.after
     }
@@ -102,6 +104,17 @@ impl Notes {
             terminal.log().write_line(&line);
         }
     }
+}
+
+// Creates the file of this name with these bytes, and syncs it. Returns false if one of these steps fails, after which
+// the file may be missing or incomplete. Never overwrites a file.
+fn store<R: Store>(files: &mut R, name: &str, bytes: &[u8]) -> bool {
+    let Ok(mut vault) = files.vault_in_new(name) else {
+        return false;
+    };
+    let is_put = vault.put(bytes).is_ok() && vault.seal().is_ok();
+    files.return_vault(vault);
+    is_put
 }
 
 // The line before the first modifying command if the file of this name can't be written.

@@ -16,7 +16,7 @@ use crate::step_lines::{Counts, PlainLine};
 use crate::steps::{Phase, Step, Total, step_of};
 use crate::terminal::Look;
 pub use crate::terminal::Terminal;
-use nor_chip::{Bus, Stopped, is_changing};
+use nor_model::{Bus, Stopped, is_changing};
 use std::time::Instant;
 
 // Bits of status 1 and 2 (W25Q64FV datasheet, Status Registers).
@@ -108,9 +108,11 @@ pub enum StatusWrite {
 }
 
 impl<'a, B: Bus + Drop> Shown<'a, B> {
+    ghost use Rattle.flashnor_serprog.specs.Shown.{shown_bus};
+
     /// Returns a bus that shows the progress of the job on `bus`. `status_write` holds until `begin_job` replaces it.
     pub fn new(bus: B, terminal: Terminal<'a>, status_write: StatusWrite) -> Shown<'a, B>
-        ensures { result.bus ≡ bus }
+        ensures { shown_bus result ≡ bus }
     {
         Shown {
             bus,
@@ -153,7 +155,7 @@ impl<'a, B: Bus + Drop> Shown<'a, B> {
         journal: Option<String>,
         status_write: StatusWrite,
     )
-        ensures { self.new.bus ≡ self.old.bus }
+        ensures { shown_bus self.new ≡ shown_bus self.old }
     {
         self.in_session = in_session;
         self.journal = journal;

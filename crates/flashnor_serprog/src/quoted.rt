@@ -1,6 +1,4 @@
 //! Names of files in commands that you may copy.
-use crate::trouble::MODES;
-use nor_console::Escaped;
 use std::fmt;
 
 /// The name of a file as one argument for every POSIX shell: unchanged if it has only ASCII letters, digits and
@@ -47,21 +45,4 @@ fn is_plain(byte: u8) -> bool {
 fn is_printed(character: char) -> bool {
     let is_directional = matches!(character, '\u{202a}'..='\u{202e}' | '\u{2066}'..='\u{2069}');
     !character.is_control() && !is_directional
-}
-
-/// The command that sets up this device as a serial port, or a text if the device's name can't be copied.
-#[derive(Clone, Copy, Drop)]
-pub struct SetUp<'a>(pub &'a str);
-
-impl fmt::Display for SetUp<'_> {
-    fn fmt<W: fmt::Write>(&self, f: &mut fmt::Formatter<W>) -> fmt::Result {
-        match Quoted::new(self.0) {
-            Some(device) => write!(f, "stty -F {device} {MODES}"),
-            None => write!(
-                f,
-                "rename {}, whose name no command can have",
-                Escaped(self.0)
-            ),
-        }
-    }
 }

@@ -7,12 +7,14 @@ ghost use Rattle.flashnor_serprog.specs.RegionCopies.{FailsToWrite, KeepsOutput,
 
 use crate::region_files::RegionFile;
 use crate::region_roles::is_apart_from;
-use crate::reports::unwritten_by;
 use nor_args::{Operation, Task};
-use nor_console::{Cause, Fault, MOST_IMAGE_BYTES, apart, empty, read_file, unmade_by, unread};
+use nor_console::{
+    Cause, Fault, MOST_IMAGE_BYTES, SystemReason, apart, empty, read_file, unmade_by, unread,
+};
 use nor_files::Store;
 use nor_journal::Vault;
 use nor_layout::Span;
+use std::io::ErrorKind;
 
 /// True for a read that isn't a backup: only such a read writes the files of regions.
 pub fn reads_out(operation: &Operation<'_>) -> bool
@@ -114,5 +116,15 @@ fn unwritten_cause<R: Store>(rt: &R) -> Cause {
     match unwritten_by(rt) {
         Some(reason) => Cause::System(reason),
         None => Cause::Unknown,
+    }
+}
+
+/// Returns the system's reason why the last journal or output of the run can't be written. Returns `None` if all writes
+/// and syncs succeeded, or if the file was removed or replaced meanwhile.
+pub fn unwritten_by<R: Store>(files: &R) -> Option<SystemReason> {
+    let error = files.vault_error()?;
+    match error.kind() {
+        ErrorKind::NotFound => None,
+        _ => Some(SystemReason::of_making(&error)),
     }
 }

@@ -8,8 +8,8 @@ ghost use Rattle.flashnor_serprog.specs.Sources.{ArePlainNames, named_regions};
 ghost use Rattle.nor_args.specs.declared.job.Regions.{Regions};
 ghost use Rattle.flashnor_serprog.specs.Regions.{entries_of, name_in, names_in, pair_in, regions_of};
 
+use crate::early_ends::EarlyEnd;
 use crate::region_faults::RegionFault;
-use crate::trouble::Trouble;
 use nor_args::{Regions, Task};
 use nor_console::{Fault, MOST_IMAGE_BYTES, read_file, read_included};
 use nor_files::Store;
@@ -172,7 +172,7 @@ pub fn replace_regions<'a, R: Store>(
     image: &'a str,
     files: &[RegionFile<'a>],
     bytes: &mut [u8],
-) -> Result<(), Trouble<'a>>
+) -> Result<(), EarlyEnd<'a>>
     ensures ok { OnOk result (AreReplaced (R.state rt.now).view files.now bytes.old bytes.new) }
     ensures err { IfErr result (FailsToReplace (R.state rt.now).view image.entry files.now (length bytes.old)) }
 {
@@ -188,20 +188,20 @@ fn replace_region<'a, R: Store>(
     image: &'a str,
     region: &RegionFile<'a>,
     bytes: &mut [u8],
-) -> Result<(), Trouble<'a>>
+) -> Result<(), EarlyEnd<'a>>
     ensures ok { OnOk result (IsReplaced (R.state rt.now).view region.now bytes.old bytes.new) }
     ensures err { IfErr result (FailsToReplaceOne (R.state rt.now).view image.entry region.now (length bytes.old)) }
 {
     let content = read_file(rt, region.file, MOST_IMAGE_BYTES)?;
     let (first, end) = (region.span.first as usize, region.span.last as usize + 1);
     if end < first || bytes.len() < end {
-        return Err(Trouble::Region(RegionFault::Short {
+        return Err(EarlyEnd::Region(RegionFault::Short {
             image,
             region: region.name,
         }));
     }
     if content.len() != end - first {
-        return Err(Trouble::Region(RegionFault::Length {
+        return Err(EarlyEnd::Region(RegionFault::Length {
             file: region.file,
             found: content.len(),
             wanted: end - first,

@@ -9,9 +9,9 @@ ghost use Rattle.flashnor_serprog.specs.RegionRoles.{FailsDistinctIf, FailsFileR
 ghost use Rattle.flashnor_serprog.specs.RegionRoles.{FailsOldFiles, FailsRegionFiles, FailsRegionRoles, HasOneRole};
 ghost use Rattle.flashnor_serprog.specs.RegionRoles.{HaveFileRoles, IsNotReadBack, erases, is_magic};
 
+use crate::early_ends::EarlyEnd;
 use crate::region_faults::RegionFault;
 use crate::region_files::RegionFile;
-use crate::trouble::Trouble;
 use nor_args::{Change, Operation, Task, Wanted};
 use nor_console::{Cause, Fault, Named, apart, exists, named_by, reading, unprinted};
 use nor_files::Store;
@@ -24,7 +24,7 @@ pub fn check_region_files<'a, R: Store>(
     device: &'a str,
     operation: &Operation<'a>,
     files: &[RegionFile<'a>],
-) -> Result<(), Trouble<'a>>
+) -> Result<(), EarlyEnd<'a>>
     ensures names { OnOk result (AreNamed operation.now.task files.now) }
     ensures roles { OnOk result (HaveFileRoles (R.state rt.now).view.nature device.entry operation.now.task
         operation.now.log files.now) }

@@ -5,8 +5,8 @@ ghost use Rattle.sha2.specs.Sha256.{sha256};
 ghost use Rattle.flashnor_serprog.specs.Images.{AreAdapted, FailsToAdapt, FailsToUnpack, IsForAnyDevice};
 ghost use Rattle.flashnor_serprog.specs.Images.{without_unique};
 
+use crate::early_ends::EarlyEnd;
 use crate::images::{check_whole, unpacked};
-use crate::trouble::Trouble;
 use nor_args::{Operation, Task};
 use nor_console::Fault;
 use nor_jobs::journal_in;
@@ -26,7 +26,7 @@ pub fn adapted<'a>(
     task: &Task<'a>,
     is_replaced: bool,
     bytes: Vec<u8>,
-) -> Result<Vec<u8>, Trouble<'a>>
+) -> Result<Vec<u8>, EarlyEnd<'a>>
     ensures ok { IfOk result (λ new. AreAdapted is_replaced task.now bytes.items new.items) }
     ensures err { IfErr result (FailsToAdapt is_replaced task.now bytes.items) }
 {
@@ -48,7 +48,7 @@ const REPLACES: &str =
     "The backup replaces all that this chip holds, whatever the chip's unique ID is (--replaced-chip).";
 
 // Format 1 has no unique ID. A session's journal is refused, since it says nothing about the other sectors of the chip.
-fn for_any_device<'a>(alloc: Global, name: &'a str, bytes: &[u8]) -> Result<Vec<u8>, Trouble<'a>>
+fn for_any_device<'a>(alloc: Global, name: &'a str, bytes: &[u8]) -> Result<Vec<u8>, EarlyEnd<'a>>
     ensures ok { IfOk result (λ new. IsForAnyDevice bytes.now new.items) }
     ensures err { IfErr result (FailsToUnpack bytes.now name.entry) }
 {
@@ -56,7 +56,7 @@ fn for_any_device<'a>(alloc: Global, name: &'a str, bytes: &[u8]) -> Result<Vec<
     check_whole(name, &journal)?;
     match encode(alloc, &journal) {
         Ok(new) => Ok(new),
-        Err(_) => Err(Trouble::Fault(Fault::Refused(Refusal::Memory))),
+        Err(_) => Err(EarlyEnd::Fault(Fault::Refused(Refusal::Memory))),
     }
 }
 

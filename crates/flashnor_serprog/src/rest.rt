@@ -1,15 +1,16 @@
 //! The sectors that a restore's journal doesn't save: reads them before the restore, and compares them after it.
-ghost use Rattle.std.specs.Prelude.{◌≡◌, ◌≤◌, ◌<◌, ◌/◌, ◌^◌, IfErr, OnErr, OnOk, length, replicate};
+ghost use Rattle.std.specs.Prelude.{◌≡◌, ◌≤◌, ◌<◌, ◌^◌, IfErr, OnErr, OnOk, length, replicate};
 ghost use Rattle.nor_journal.specs.Saved.{is_saved};
 ghost use Rattle.flashnor_serprog.specs.Rest.{AreUnsaved, FailsRest, HasKeptRest, HasReadRest};
 ghost use Rattle.flashnor_serprog.specs.Rest.{HasStoppedInRest, is_followed};
 
+use crate::images::sectors_of;
 use crate::progress::Progress;
-use nor_chip::Stopped;
 use nor_console::Outcome;
 use nor_driver::read_sector;
 use nor_geometry::SECTOR_LEN;
 use nor_journal::Journal;
+use nor_model::Stopped;
 use nor_plan::bounds;
 use nor_session::Refusal;
 
@@ -50,14 +51,6 @@ fn next_saved(journal: &Journal<'_>, sector: u32) -> u32
         }
     }
     sector + LONGEST_RUN
-}
-
-/// Returns the number of sectors of a chip of the journal's size.
-pub fn sectors_of(journal: &Journal<'_>) -> u32
-    ensures value { result ≡ journal.now.size / 4096 }
-    ensures few { result ≤ 4096 }
-{
-    journal.size() / SECTOR_LEN
 }
 
 fn saves(journal: &Journal<'_>, sector: u32) -> bool

@@ -9,8 +9,9 @@ ghost use Rattle.flashnor_serprog.specs.Restoring.{HasReadBefore, HasRestored};
 ghost use Rattle.flashnor_serprog.specs.Restoring.{HasRestoredAndCompared, HasRestoredBy};
 
 use crate::chip_faults::JobFault;
+use crate::images::sectors_of;
 use crate::progress::{Progress, Terminal};
-use crate::rest::{compare_rest, is_followed, read_rest, sectors_of};
+use crate::rest::{compare_rest, is_followed, read_rest};
 use nor_args::Operation;
 use nor_console::{Fault, Outcome, erased};
 use nor_jobs::{find_first, journal_in, restore_named};

@@ -1,7 +1,6 @@
 //! Checks that neither the device nor a file that a run writes has a second role in it.
 ghost use Rattle.std.specs.Prelude.{IfErr, OnOk};
-ghost use Rattle.flashnor_serprog.specs.Logging.{FailsLogRole, HasOwnLog};
-ghost use Rattle.flashnor_serprog.specs.Sources.{FailsRoles, HaveOneRole};
+ghost use Rattle.flashnor_serprog.specs.Sources.{FailsLogRole, FailsRoles, HasOwnLog, HaveOneRole};
 
 use nor_args::{Operation, Task};
 use nor_console::{Fault, Named, apart, named_by, unprinted};

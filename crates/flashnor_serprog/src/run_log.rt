@@ -1,11 +1,9 @@
 //! The log of a run, for `-o`: a file that receives, line by line, what the run prints and the lines of `-V`.
-ghost use Rattle.std.specs.Prelude.{◌≡◌, ◌≤◌, IfErr, IsSomeAnd, false};
+ghost use Rattle.std.specs.Prelude.{◌≡◌, IfErr, IsSomeAnd, false};
 ghost use Rattle.nor_console.specs.Files.{IsMaking};
 ghost use Rattle.flashnor_serprog.specs.Logging.{BeginsNoLog, CreatesLog, IsExistingLog};
 
-use crate::file_hints::reason_hint;
-use crate::help::HELP;
-use nor_console::{Cause, Fault, SystemReason, create_log, exists, print_fault, unmade};
+use nor_console::{Cause, Fault, SystemReason, create_log, exists};
 use nor_files::{LogFile, Store};
 use std::cell::{Cell, RefCell};
 use std::fs::File;
@@ -14,6 +12,9 @@ use std::{fmt, io};
 
 // The first line of a log, before the version. An existing file is overwritten only if it begins with these bytes.
 const FIRST: &str = "Log of flashnor-serprog";
+
+/// The version of the program, as the first line of a log has it.
+pub const VERSION: &str = "1.0";
 
 /// A buffered writer to the file of a log.
 pub type LogWriter = BufWriter<LogFile<File>>;
@@ -61,6 +62,11 @@ impl RunLog {
     /// Returns whether the file that was opened for the log has bytes, and is no log. It was then left as it is.
     pub fn is_refused(&self) -> bool {
         self.is_refused.get()
+    }
+
+    /// Returns the system's reason why a line couldn't be written, or `None` if none was lost.
+    pub fn lost(&self) -> Option<SystemReason> {
+        self.lost.get()
     }
 
     /// Returns whether there is a file to which lines are written.
@@ -122,7 +128,7 @@ fn begin(file: &mut LogWriter, appends: bool) -> io::Result<()> {
     if appends && file.get_mut().append()? {
         writeln!(file)?;
     }
-    writeln!(file, "{FIRST} {}", HELP.version)?;
+    writeln!(file, "{FIRST} {VERSION}")?;
     file.flush()
 }
 
@@ -135,9 +141,11 @@ pub struct Logged<'a, W> {
 }
 
 impl<'a, W> Logged<'a, W> {
+    ghost use Rattle.flashnor_serprog.specs.Logged.{written_by};
+
     /// Returns a writer that writes to `inner` and to `log`.
     pub fn new(inner: W, log: &'a RunLog) -> Logged<'a, W>
-        ensures { result.inner ≡ inner }
+        ensures { written_by result ≡ inner }
     {
         Logged { inner, log }
     }
@@ -222,22 +230,5 @@ pub fn check_started<'a>(log: &RunLog, name: Option<&'a str>) -> Result<(), Faul
     match name {
         Some(name) if log.is_refused() => Err(exists(name, Cause::Unknown)),
         _ => Ok(()),
-    }
-}
-
-/// Ends a run whose exit status would be `status`. If a line of the log was lost, prints file fault 2 with the name of
-/// the log, and returns 1. Otherwise returns `status`.
-pub fn end_log<E: Write>(errors: &mut E, log: &RunLog, name: Option<&str>, status: u8) -> u8
-    ensures few { status ≤ 1 → result ≤ 1 }
-    ensures failed { result ≡ 0 → status ≡ 0 }
-{
-    match (name, log.lost.get()) {
-        (Some(name), Some(reason)) => {
-            print_fault(errors, &unmade(name));
-            let hint = reason_hint(reason);
-            let _ = writeln!(errors, "The log is incomplete, but the job went on. {hint}");
-            1
-        }
-        _ => status,
     }
 }

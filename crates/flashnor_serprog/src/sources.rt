@@ -1,13 +1,13 @@
 //! The files that a job needs, which are read and checked before the programmer is used.
 ghost use Rattle.std.specs.Prelude.{◌≡◌, IfErr, IfOk, option_map};
 ghost use Rattle.nor_files.specs.Files.{AreUntouched};
-ghost use Rattle.flashnor_serprog.specs.Connected.{MayExpectImage, ends_with_image};
-ghost use Rattle.flashnor_serprog.specs.Sources.{AreBytes, ArePreparedBytes, FailsCheck, FailsToPrepare, FailsToReadBytes};
+ghost use Rattle.flashnor_serprog.specs.Sources.{AreBytes, ArePreparedBytes, FailsCheck, FailsToPrepare};
+ghost use Rattle.flashnor_serprog.specs.Sources.{FailsToReadBytes, MayExpectImage, ends_with_image};
 
-use crate::jobs::is_compared;
+use crate::early_ends::EarlyEnd;
 use crate::region_files::{RegionFile, replace_regions};
 use crate::replacing::adapted;
-use crate::trouble::Trouble;
+use crate::tasks::is_compared;
 use nor_args::{Operation, Task, Wanted};
 use nor_console::{
     Cause, Fault, MOST_JOURNAL_BYTES, exists, journal_of, named_by, read_file, read_journal,
@@ -54,7 +54,7 @@ pub fn prepare_sources<'a, R: Store>(
     is_replaced: bool,
     included: Option<Ranges>,
     regions: &[RegionFile<'a>],
-) -> Result<Sources, Trouble<'a>>
+) -> Result<Sources, EarlyEnd<'a>>
     ensures same { AreUntouched (R.state rt.old) (R.state rt.new) }
     ensures included { IfOk result (λ sources. sources.included ≡ included) }
     ensures ok { IfOk result (λ sources.

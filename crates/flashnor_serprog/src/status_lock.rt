@@ -7,9 +7,9 @@ ghost use Rattle.flashnor_serprog.specs.StatusLocks.{FailsFound, FailsLock, HasO
 ghost use Rattle.flashnor_serprog.specs.StatusLocks.{SendsLock, WritesSrp0, bytes_with, shows_srp0, sets_srp0};
 
 use crate::chip_faults::JobFault;
-use nor_chip::{Bus, Status};
 use nor_driver::{OperationError, read_status2, wait, write_status};
 use nor_jobs::find_first;
+use nor_model::{Bus, Status};
 use nor_probe::{ChipName, Found};
 use nor_session::Refusal;
 

@@ -1,21 +1,21 @@
 //! The sectors that a run changed by accident: after a session that failed, and after a restore.
 ghost use Rattle.std.specs.Prelude.{◌≡◌, ◌≤◌};
 ghost use Rattle.nor_console.specs.Printing.{Prints};
-ghost use Rattle.flashnor_serprog.specs.Notes.{IsAsBefore};
-ghost use Rattle.flashnor_serprog.specs.Run.{AreJobLines};
+ghost use Rattle.flashnor_serprog.specs.Strays.{IsAsBefore};
+ghost use Rattle.flashnor_serprog.specs.Shown.{notes_of};
+ghost use Rattle.flashnor_serprog.specs.Ending.{AreJobLines};
 
 use crate::chip_faults::JobFault;
-use crate::connect::ChipBus;
 use crate::ending::end_well;
 use crate::notes::Notes;
-use crate::reports::report_lost_journal;
+use crate::progress::Shown;
 use crate::sums_file::{Before, UnknownLine, noting_journal, sums_name};
 use nor_args::{Operation, Task};
-use nor_chip::{Bus, Stopped};
-use nor_console::{Answer, Fault};
+use nor_console::{Answer, Fault, named_by, unmade};
 use nor_driver::read_sector;
 use nor_files::Store;
 use nor_geometry::SECTOR_LEN;
+use nor_model::{Bus, Stopped};
 use nor_session::Refusal;
 use nor_sums::{Changed, SECTORS, find_changed, sum_of};
 use std::alloc::{AllocError, Global};
@@ -26,13 +26,13 @@ use std::io::Write;
 /// modifying command and was not to change, and prints a line with those that differ. Prints nothing if none differs,
 /// or if the bus stops. After any other fault reads nothing, since the chip wasn't changed, can't be reached, or is
 /// busy.
-pub fn report_strays<'b, E: Write>(
+pub fn report_strays<'b, B: Bus + Drop, E: Write>(
     errors: &mut E,
-    bus: &mut ChipBus<'b>,
+    bus: &mut Shown<'b, B>,
     fault: &JobFault<'_>,
     operation: &Operation<'_>,
 )
-    ensures { (⟦<ChipBus<'b> as Bus>⟧.state bus.new).sent ≡ (⟦<ChipBus<'b> as Bus>⟧.state bus.old).sent }
+    ensures { (⟦<Shown<'b, B> as Bus>⟧.state bus.new).sent ≡ (⟦<Shown<'b, B> as Bus>⟧.state bus.old).sent }
 {
     if !is_examined(fault, operation) {
         return;
@@ -127,13 +127,13 @@ impl fmt::Display for Places {
 
 /// Notes the sums of the sectors that a session or a restore reads (`Notes`). Does nothing for other operations. Prints
 /// a line if memory runs out.
-pub fn begin_notes<'b, E: Write>(
+pub fn begin_notes<'b, B: Bus + Drop, E: Write>(
     errors: &mut E,
-    bus: &mut ChipBus<'b>,
+    bus: &mut Shown<'b, B>,
     operation: &Operation<'_>,
     alloc: Global,
 )
-    ensures { ⟦<ChipBus<'b> as Bus>⟧.state bus.new ≡ ⟦<ChipBus<'b> as Bus>⟧.state bus.old }
+    ensures { ⟦<Shown<'b, B> as Bus>⟧.state bus.new ≡ ⟦<Shown<'b, B> as Bus>⟧.state bus.old }
 {
     match new_notes(operation, alloc) {
         Ok(Some(notes)) => bus.begin_notes(notes),
@@ -165,11 +165,11 @@ fn new_notes(operation: &Operation<'_>, alloc: Global) -> Result<Option<Notes>, 
 /// before the session, prints chip fault 5. Otherwise prints the answer and, after a restore that could not be compared
 /// with the time before the session, a line that says so. After a session or a backup also prints file fault 2 if its
 /// journal was lost after it was sealed. Returns the exit status.
-pub fn end_compared<'b, R: Store, O: Write, E: Write>(
+pub fn end_compared<'b, R: Store, B: Bus + Drop, O: Write, E: Write>(
     output: &mut O,
     errors: &mut E,
     files: &R,
-    bus: &ChipBus<'b>,
+    bus: &Shown<'b, B>,
     answer: Answer,
     operation: &Operation<'_>,
     before: &Before,
@@ -177,7 +177,7 @@ pub fn end_compared<'b, R: Store, O: Write, E: Write>(
     ensures few { result ≤ 1 }
     ensures printed { result ≡ 0
         → Prints (AreJobLines operation.now answer) (O.contents output.old) (O.contents output.new) }
-    ensures same { result ≡ 0 → IsAsBefore before.now bus.now.notes }
+    ensures same { result ≡ 0 → IsAsBefore before.now (notes_of bus.now) }
 {
     let changed = changed_since(bus, before);
     if changed.count > 0 {
@@ -190,8 +190,8 @@ pub fn end_compared<'b, R: Store, O: Write, E: Write>(
 }
 
 // Returns the sectors whose sums after the restore aren't those before the session.
-fn changed_since(bus: &ChipBus<'_>, before: &Before) -> Changed
-    ensures { result.count ≡ 0 → IsAsBefore before.now bus.now.notes }
+fn changed_since<B>(bus: &Shown<'_, B>, before: &Before) -> Changed
+    ensures { result.count ≡ 0 → IsAsBefore before.now (notes_of bus.now) }
 {
     match (before, bus.notes()) {
         (Before::Known(sums), Some(notes)) => find_changed(sums, notes.after()),
@@ -229,5 +229,42 @@ fn report_unknown<E: Write>(errors: &mut E, before: &Before, operation: &Operati
                 why
             }
         );
+    }
+}
+
+/// Checks that the name of the journal that a session or a backup sealed still refers to its file, and that the file
+/// has its length. If not, prints file fault 2 with this name. Returns the exit status of the run: 1 if the fault was
+/// printed, and otherwise `status`.
+pub fn report_lost_journal<R: Store, E: Write>(
+    errors: &mut E,
+    files: &R,
+    operation: &Operation<'_>,
+    status: u8,
+) -> u8
+    ensures few { status ≤ 1 → result ≤ 1 }
+    ensures failed { result ≡ 0 → status ≡ 0 }
+{
+    match new_journal_of(operation) {
+        Some(name) if !files.is_kept(name) => {
+            let fault = unmade(name);
+            let _ = writeln!(errors, "{fault}");
+            let _ = writeln!(errors, "{IS_LOST}");
+            1
+        }
+        _ => status,
+    }
+}
+
+const IS_LOST: &str =
+    "After this run sealed the journal, another program removed, replaced or changed it: don't \
+    restore from a file with this name.";
+
+/// Returns the name of the journal that a session or a backup creates. `prepare` checked that there was no such file.
+pub fn new_journal_of<'a>(operation: &Operation<'a>) -> Option<&'a str> {
+    let named = named_by(&operation.task);
+    match &operation.task {
+        Task::Change(_) => named.journal,
+        _ if operation.is_backup => named.output,
+        _ => None,
     }
 }

@@ -1,12 +1,12 @@
 //! The file with the sums of the sectors before a session (in the encoding of `nor_sums`). Its name is that of the
 //! session's journal with `.sectors` after it.
 
-use crate::hints::print_hint;
-use crate::jobs::changes_bytes;
+use crate::file_hints::print_hint;
+use crate::tasks::changes_bytes;
 use nor_args::{Change, JournalUse, Operation, Task};
 use nor_console::{Cause, Escaped, exists};
 use nor_files::Store;
-use nor_journal::{Journal, Vault};
+use nor_journal::Journal;
 use nor_sums::{SHEET_LEN, Sheet, Sums, decode};
 use std::alloc::{AllocError, Global};
 use std::fmt;
@@ -51,17 +51,6 @@ pub fn is_new<R: Store, E: Write>(files: &R, operation: &Operation<'_>, errors: 
     let _ = writeln!(errors, "{fault}");
     print_hint(errors, &fault);
     false
-}
-
-/// Creates the file of this name with these bytes, and syncs it. Returns false if one of these steps fails, after which
-/// the file may be missing or incomplete. Never overwrites a file.
-pub fn store<R: Store>(files: &mut R, name: &str, bytes: &[u8]) -> bool {
-    let Ok(mut vault) = files.vault_in_new(name) else {
-        return false;
-    };
-    let is_put = vault.put(bytes).is_ok() && vault.seal().is_ok();
-    files.return_vault(vault);
-    is_put
 }
 
 /// What the file beside a restore's journal says.

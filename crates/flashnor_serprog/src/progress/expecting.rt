@@ -3,7 +3,7 @@
 use super::{Progress, Shown};
 use crate::steps::Phase;
 use nor_buses::ReadAhead;
-use nor_chip::Bus;
+use nor_model::Bus;
 
 impl<B: Bus + Drop> Progress for Shown<'_, ReadAhead<B>> {
     fn expect_reads(&mut self, sectors: usize) {

@@ -5,23 +5,25 @@ use super::Shown;
 use crate::notes::Notes;
 
 impl<B> Shown<'_, B> {
+    ghost use Rattle.flashnor_serprog.specs.Shown.{notes_of, shown_bus};
+
     /// Notes the sums of the sectors that are read from now on.
     pub fn begin_notes(&mut self, notes: Notes)
-        ensures { self.new.bus ≡ self.old.bus }
+        ensures { shown_bus self.new ≡ shown_bus self.old }
     {
         self.notes = Some(notes);
     }
 
     /// Returns the notes, if the job made any, and ends them.
     pub fn end_notes(&mut self) -> Option<Notes>
-        ensures { self.new.bus ≡ self.old.bus }
+        ensures { shown_bus self.new ≡ shown_bus self.old }
     {
         self.notes.take()
     }
 
     /// Returns the notes, if the job makes any.
     pub fn notes(&self) -> Option<&Notes>
-        ensures { option_copied result ≡ self.now.notes }
+        ensures { option_copied result ≡ notes_of self.now }
     {
         self.notes.as_ref()
     }

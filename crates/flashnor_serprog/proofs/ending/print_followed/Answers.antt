@@ -6,7 +6,7 @@ use Rattle.nor_console.specs.AnswerLines.{AreLines}
 use Rattle.nor_console.specs.Printing.{Prints}
 use Rattle.nor_console.specs.declared.answers.Answer.{Answer}
 use Rattle.flashnor_serprog.specs.Further.{further_line}
-use Rattle.flashnor_serprog.specs.Run.{AreLinesBy}
+use Rattle.flashnor_serprog.specs.Ending.{AreLinesBy}
 use Rattle.flashnor_serprog.specs.declared.ending.Further.{Further}
 use Rattle.flashnor_serprog.proofs.ending.print_followed.Goals as goal
 

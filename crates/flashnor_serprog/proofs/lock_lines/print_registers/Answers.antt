@@ -1,6 +1,6 @@
 use Rattle.std.proofs.KnownBytes.{Appends-trans}
 use Rattle.std.proofs.lemmas.Result.{on_ok_weaker}
-use Rattle.flashnor_serprog.proofs.lock_job.print_registers.Goals as goal
+use Rattle.flashnor_serprog.proofs.lock_lines.print_registers.Goals as goal
 
 pub returns-in_ok-print_status-in-Some : goal.returns-in_ok-print_status-in-Some
 returns-in_ok-print_status-in-Some g c = rw c.in-Some.is (on_ok_weaker c.print_status-in-Some.result

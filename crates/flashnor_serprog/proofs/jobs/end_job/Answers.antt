@@ -1,6 +1,6 @@
 use Rattle.std.proofs.lemmas.Result.{err_from_is_err_and}
 use Rattle.flashnor_serprog.proofs.Sent.{does_ends, ends_sends, fails_ends}
-use Rattle.flashnor_serprog.proofs.run.end_job.Goals as goal
+use Rattle.flashnor_serprog.proofs.jobs.end_job.Goals as goal
 
 pub returns-in_err-outcome-clause-ends : goal.returns-in_err-outcome-clause-ends
 returns-in_err-outcome-clause-ends g c =

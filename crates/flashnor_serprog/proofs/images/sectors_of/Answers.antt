@@ -1,6 +1,6 @@
 use Rattle.std.proofs.Common.{arith}
 use Rattle.nor_geometry.proofs.Sizes.{is_chip_size-in_blocks}
-use Rattle.flashnor_serprog.proofs.rest.sectors_of.Goals as goal
+use Rattle.flashnor_serprog.proofs.images.sectors_of.Goals as goal
 
 pub returns-clause-few : goal.returns-clause-few
 returns-clause-few c =

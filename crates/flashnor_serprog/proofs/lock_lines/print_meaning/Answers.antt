@@ -1,6 +1,6 @@
 use Rattle.std.proofs.KnownBytes.{Appends-trans}
 use Rattle.std.proofs.lemmas.Result.{on_ok_weaker}
-use Rattle.flashnor_serprog.proofs.lock_job.print_meaning.Goals as goal
+use Rattle.flashnor_serprog.proofs.lock_lines.print_meaning.Goals as goal
 
 pub returns-in_ok-print_text : goal.returns-in_ok-print_text
 returns-in_ok-print_text g c = rw c.if-srp0.true (on_ok_weaker c.print_text-then-srp0.result
