@@ -3,8 +3,8 @@ use Rattle.std.proofs.Common.{◌∙◌, None, Option, Some, ap}
 use Rattle.std.specs.Borrow.{Bor}
 use Rattle.nor_files.specs.Files.{AreUntouched, FilesState, View}
 use Rattle.nor_args.specs.Text.{Text}
-use Rattle.flashnor_serprog.specs.Logging.{CreatesLog, StayButLog}
-use Rattle.flashnor_serprog.proofs.Extracted.{untouched_keeps}
+use Rattle.board_progress.specs.Logging.{CreatesLog, StayButLog}
+use Rattle.board_files.proofs.Extracted.{untouched_keeps}
 
 pub log_unstarted : (log : Option (Bor Text)) {old new : FilesState} → AreUntouched old new → CreatesLog log old new
 log_unstarted None same = same

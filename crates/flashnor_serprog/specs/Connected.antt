@@ -8,7 +8,7 @@ use Rattle.nor_buses.specs.OtherMakers.{adapted_by}
 use Rattle.nor_buses.specs.SameChip.{checked_by}
 use Rattle.nor_buses.specs.Twice.{expected_of}
 use Rattle.nor_args.specs.Text.{Text}
-use Rattle.flashnor_serprog.specs.Shown.{shown_bus}
+use Rattle.board_progress.specs.Shown.{shown_bus}
 use Rattle.flashnor_serprog.specs.declared.connect.Connected.{Connected}
 
 abbrev pub device_of : Connected → Text

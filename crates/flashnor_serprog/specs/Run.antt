@@ -17,19 +17,19 @@ use Rattle.nor_console.specs.Printing.{AsksForVersion, IsAnswered, Prints}
 use Rattle.nor_console.specs.declared.answers.Answer.{Answer}
 use Rattle.flashnor_serprog.specs.ChipLayouts.{IsShown, form_on_chip}
 use Rattle.flashnor_serprog.specs.Connected.{IsUnused, device_of, expected_by}
-use Rattle.flashnor_serprog.specs.Ending.{AreJobLines}
-use Rattle.flashnor_serprog.specs.Images.{HasDescribed}
-use Rattle.flashnor_serprog.specs.Jobs.{EndsJob}
-use Rattle.flashnor_serprog.specs.Logging.{StayButLog}
-use Rattle.flashnor_serprog.specs.Sends.{KeepsSent, SendsOnly}
-use Rattle.flashnor_serprog.specs.StatusLocks.{HasRunLock}
+use Rattle.board_jobs.specs.Ending.{AreJobLines}
+use Rattle.board_files.specs.Images.{HasDescribed}
+use Rattle.board_jobs.specs.Jobs.{EndsJob}
+use Rattle.board_progress.specs.Logging.{StayButLog}
+use Rattle.board_jobs.specs.Sends.{KeepsSent, SendsOnly}
+use Rattle.board_jobs.specs.StatusLocks.{HasRunLock}
 use Rattle.flashnor_serprog.specs.Setting.{IsDeviceOf}
-use Rattle.flashnor_serprog.specs.RegionCopies.{AreCopied}
-use Rattle.flashnor_serprog.specs.Regions.{regions_of}
-use Rattle.flashnor_serprog.specs.RegionRoles.{AreNamed, HaveFileRoles}
-use Rattle.flashnor_serprog.specs.Sources.{AreJobRegions, ArePreparedBytes, HasOwnLog, HaveOneRole, MayExpectImage}
-use Rattle.flashnor_serprog.specs.declared.region_files.RegionFile.{RegionFile}
-use Rattle.flashnor_serprog.specs.declared.chip_faults.JobFault.{JobFault}
+use Rattle.board_files.specs.RegionCopies.{AreCopied}
+use Rattle.board_files.specs.Regions.{regions_of}
+use Rattle.board_files.specs.RegionRoles.{AreNamed, HaveFileRoles}
+use Rattle.board_files.specs.Sources.{AreJobRegions, ArePreparedBytes, HasOwnLog, HaveOneRole, MayExpectImage}
+use Rattle.board_files.specs.declared.region_files.RegionFile.{RegionFile}
+use Rattle.board_jobs.specs.declared.chip_faults.JobFault.{JobFault}
 use Rattle.flashnor_serprog.specs.declared.connect.Connected.{Connected}
 use Rattle.flashnor_serprog.specs.declared.asked.Asked.{Asked}
 use Rattle.flashnor_serprog.specs.declared.asked.Asked.TheVariants as asked

@@ -1,6 +1,6 @@
 -- The reason why a run ends early, if a file of its job can't be used.
-use Rattle.flashnor_serprog.specs.declared.early_ends.EarlyEnd.{EarlyEnd}
-use Rattle.flashnor_serprog.specs.declared.early_ends.EarlyEnd.TheVariants as early
+use Rattle.board_files.specs.declared.early_ends.EarlyEnd.{EarlyEnd}
+use Rattle.board_files.specs.declared.early_ends.EarlyEnd.TheVariants as early
 use Rattle.flashnor_serprog.specs.declared.trouble.Trouble.{Trouble}
 use Rattle.flashnor_serprog.specs.declared.trouble.Trouble.TheVariants as trouble
 

@@ -10,9 +10,9 @@ ghost use Rattle.flashnor_serprog.specs.Connected.{IsUnused, device_of, expected
 
 use crate::contact::is_missing;
 use crate::port::{DevicePort, PortFault};
-use crate::progress::{Shown, StatusWrite, Terminal};
 use crate::setting::Setting;
 use crate::trouble::{ProgrammerFault, Trouble};
+use board_progress::{Shown, StatusWrite, Terminal};
 use nor_buses::{
     CheckedStatus, KeptQuad, KnownStatus2, OtherMakers, Paced, ReadAhead, ReadTwice, SameChip,
     SplittingBus, Watched,

@@ -1,6 +1,6 @@
 //! The text of the help that `-h` prints.
 
-use crate::run_log::VERSION;
+use board_progress::VERSION;
 use nor_args::Help;
 
 /// The program's name and version, and the text of the help before and after the list of options.

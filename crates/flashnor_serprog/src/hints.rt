@@ -2,13 +2,9 @@
 //! regions are.
 
 use crate::chip_names::{ChipText, Connected, Hex};
-use crate::file_hints::{print_hint, reason_hint};
-use crate::included::Farthest;
-use crate::journals::StatusBits;
-use crate::lock_bits::{Lock, SRP0, SRP1};
-use crate::region_files::regions_of;
-use crate::replies::Replies;
 use crate::stop_line::Left;
+use board_files::{Farthest, StatusBits, print_hint, reason_hint, regions_of};
+use board_progress::{Lock, Replies, SRP0, SRP1};
 use nor_args::{Change, Operation, Regions, Task};
 use nor_console::{Escaped, Fault, FileFault, SystemReason};
 use nor_journal::Journal;

@@ -1,11 +1,10 @@
 //! A run of `--wp-enable` or `--wp-disable`: changes SRP0, prints the result, and returns the exit status.
-ghost use Rattle.flashnor_serprog.specs.StatusLocks.{HasRunLock};
+ghost use Rattle.board_jobs.specs.StatusLocks.{HasRunLock};
 
 use crate::connect::ChipBus;
-use crate::lock_lines::end_changed;
 use crate::reports::print_job_fault;
 use crate::run::{end_log, end_run};
-use crate::status_lock::set_srp0;
+use board_jobs::{end_changed, set_srp0};
 use nor_args::Operation;
 use nor_model::Bus;
 use std::io::Write;

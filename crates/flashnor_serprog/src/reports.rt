@@ -3,16 +3,13 @@
 ghost use Rattle.std.specs.Prelude.{◌≡◌, ◌≤◌, true};
 ghost use Rattle.flashnor_serprog.specs.declared.stop_line.Left.TheVariants.{Unchanged};
 
-use crate::chip_faults::JobFault;
 use crate::connect::{ChipBus, twice_in};
 use crate::hints::{Known, Saved, print_operation_hint, unlocks};
-use crate::included::Farthest;
-use crate::layout_lines::MapLines;
-use crate::progress::Terminal;
-use crate::status_line::{ChangedLine, protects};
 use crate::stop_line::{Left, StopLine};
-use crate::strays::new_journal_of;
 use crate::trouble::Trouble;
+use board_files::{Farthest, MapLines};
+use board_jobs::{JobFault, new_journal_of};
+use board_progress::{ChangedLine, Terminal, protects};
 use nor_args::{Operation, Task};
 use nor_console::{Escaped, Fault, SystemReason, named_by};
 use nor_files::Store;

@@ -4,36 +4,28 @@ ghost use Rattle.nor_files.specs.Disk.{unknown};
 ghost use Rattle.nor_args.specs.Words.{arguments_of};
 ghost use Rattle.nor_console.specs.Printing.{Prints};
 ghost use Rattle.flashnor_serprog.specs.Connected.{device_of};
-ghost use Rattle.flashnor_serprog.specs.Ending.{AreJobLines};
+ghost use Rattle.board_jobs.specs.Ending.{AreJobLines};
 ghost use Rattle.flashnor_serprog.specs.Run.{AsksForHelp, HasRun, HasRunBy, HasRunJob};
 ghost use Rattle.flashnor_serprog.specs.Run.{HasRunOperation, HasSucceeded};
-ghost use Rattle.flashnor_serprog.specs.RegionCopies.{AreCopied, KeepsOutput};
-ghost use Rattle.flashnor_serprog.specs.Regions.{regions_of};
-ghost use Rattle.flashnor_serprog.specs.Sources.{ArePlainNames};
+ghost use Rattle.board_files.specs.RegionCopies.{AreCopied, KeepsOutput};
+ghost use Rattle.board_files.specs.Regions.{regions_of};
+ghost use Rattle.board_files.specs.Sources.{ArePlainNames};
 
 use crate::asked::{Asked, read_words};
 use crate::chip_list::print_chip_list;
 use crate::connect::{ChipBus, Connected};
-use crate::ending::end_well;
-use crate::exit_status::{end_badly, status_of};
-use crate::extracting::extract_image;
-use crate::file_hints::reason_hint;
 use crate::hints::Saved;
-use crate::included::Farthest;
-use crate::jobs::{end_job, status_write_of};
-use crate::journals::check_journal;
 use crate::lock_job::run_lock;
 use crate::preparing::{Prepared, prepare};
-use crate::region_copies::{reads_out, unwritten_by, write_region_files};
-use crate::region_files::{RegionFile, plain_names};
 use crate::reports::{clear_journal, print_job_fault, print_trouble, report_changed_byte};
-use crate::run_log::RunLog;
 use crate::setting::Setting;
-use crate::strays::{begin_notes, end_compared, report_strays};
-use crate::sums_file::{is_new, read_before};
-use crate::tasks::{is_session, journal_of};
-use crate::terminal::Screen;
 use crate::trouble::Trouble;
+use board_files::{
+    Farthest, RegionFile, check_journal, end_badly, extract_image, is_new, is_session, journal_of,
+    plain_names, read_before, reads_out, reason_hint, status_of, unwritten_by, write_region_files,
+};
+use board_jobs::{begin_notes, end_compared, end_job, end_well, report_strays, status_write_of};
+use board_progress::{RunLog, Screen};
 use clap::Error as WordsError;
 use nor_args::{Operation, Task};
 use nor_console::{

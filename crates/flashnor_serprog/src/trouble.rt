@@ -1,10 +1,9 @@
 //! The reasons why a run ends early, the advice for each programmer fault, and the lines that are printed for these.
 ghost use Rattle.std.specs.Prelude.{◌≡◌};
 
-use crate::early_ends::EarlyEnd;
 use crate::port::PortFault;
-use crate::quoted::Quoted;
 use crate::setting::WrongSetting;
+use board_files::{EarlyEnd, Quoted};
 use nor_args::{Flaw, Reason, WrongArguments, split_setting};
 use nor_console::{Escaped, Fault, SystemReason, text_of_flaw};
 use nor_serprog::{Failure, HandshakeFault};
@@ -17,7 +16,7 @@ pub enum Trouble<'a> {
     Fault(Fault<'a>),
     /// The value of `-p` describes no programmer.
     Setting(WrongSetting<'a>),
-    /// A file of the job can't be used, for a reason that `flashnor` doesn't know.
+    /// The files of the job can't be used, for a reason that `flashnor` doesn't report.
     Early(EarlyEnd<'a>),
     /// The programmer at this device can't be used.
     Programmer {

@@ -1,6 +1,0 @@
--- A writer that also writes to the log of a run, as contracts see it.
-use Rattle.flashnor_serprog.specs.declared.run_log.Logged.{Logged}
-
--- the other writer
-abbrev pub written_by : {W : Type 0} → Logged W → W
-written_by logged = logged.inner
