@@ -11,6 +11,8 @@ from words import completed, in_bytes
 
 NAME = "flashnor-serprog"
 PAGE = "man/flashnor-serprog.8"
+# The crates whose lines only this program prints.
+OWN = "board_progress", "board_files", "board_jobs", "flashnor_serprog"
 # Faults of an exchange, and of a handshake, that this program can't cause: it sends no frame that is too long, reports
 # only the first failure, and reads through a bus that splits reads.
 IMPOSSIBLE = "TooLong", "OutOfStep", "CutFrame", "ReadLimit"
@@ -21,9 +23,10 @@ def code(path):
     return (CRATES / path).read_text(encoding="utf-8")
 
 
-def codes(crate):
-    """Returns the text of all sources of a crate."""
-    return "".join(path.read_text(encoding="utf-8") for path in sorted((CRATES / crate / "src").glob("**/*.rt")))
+def codes(*crates):
+    """Returns the text of all sources of these crates."""
+    return "".join(path.read_text(encoding="utf-8") for crate in crates
+                   for path in sorted((CRATES / crate / "src").glob("**/*.rt")))
 
 
 def options():
@@ -116,7 +119,7 @@ def take_names(page):
 def take_lines(page):
     """Compares the lines of errors, of programmer faults and of progress."""
     same("lines of all errors", sources=refusals(), manual={line_of(*row) for row in rows(page, "Errors").items()})
-    steps = re.findall(r'Step::\w+ => "(.*?)(?::.*?)?"', code("flashnor_serprog/src/steps.rt"))
+    steps = re.findall(r'Step::\w+ => "(.*?)(?::.*?)?"', code("board_progress/src/steps.rt"))
     output = " ".join("".join(part.text for part in page if part.section == "OUTPUT").split())
     same("steps of a job", sources=steps, manual=re.search(r"each step \((.*?)\)", output)[1].split(", "))
     trouble = code("flashnor_serprog/src/trouble.rt")
@@ -135,12 +138,12 @@ def take_numbers(page):
     trouble, lines = code("flashnor_serprog/src/trouble.rt"), code("nor_console/src/messages.rt")
     named = dict(zip(re.findall(r"(?m)^    (\w+)(?: = 1)?,$", re.search(r"(?s)enum FileFault \{(.*?)\n\}", lines)[1]),
                      rust.numbers_of_variants(tokens("nor_console/src/messages.rt"))))
-    used = set(re.findall(r"FileFault::(\w+)", codes("nor_console") + codes("flashnor_serprog")))
+    used = set(re.findall(r"FileFault::(\w+)", codes("nor_console", *OWN)))
     found = {
         "Usage": re.findall(r"(?m)^Usage fault (\d+):", code("flashnor_serprog/src/help.rt")),
         "Layout": map(str, rust.numbers_of_variants(tokens("nor_layout/src/fault.rt"))),
         "File": {str(number) for name, number in named.items() if name in used},
-        "Chip": re.findall(r"Chip fault (\d+)", codes("flashnor_serprog")),
+        "Chip": re.findall(r"Chip fault (\d+)", codes(*OWN)),
         "Programmer": re.findall(r"Fault::\w+.* => (\d+),", trouble)}
     for kind, numbers in found.items():
         numbers = same(f"{kind} faults for hardware", sources=set(numbers), manual=rows(page, f"{kind} faults"))

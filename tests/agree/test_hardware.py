@@ -10,8 +10,9 @@ import unittest
 
 TOP = pathlib.Path(__file__).resolve().parent.parent.parent
 PAGE, HELP, COMPLETION = "man/flashnor-serprog.8", "crates/flashnor_serprog/src/help.rt", "completion/flashnor.bash"
-SOURCES = "crates/flashnor_serprog crates/nor_args crates/nor_console crates/nor_layout crates/nor_probe " \
-    "crates/nor_request crates/nor_serprog scripts man docs completion"
+SOURCES = "crates/board_files crates/board_jobs crates/board_progress crates/flashnor_serprog crates/nor_args " \
+    "crates/nor_console crates/nor_layout crates/nor_probe crates/nor_request crates/nor_serprog scripts man docs " \
+    "completion"
 # The file of each plant, a pattern whose first match is replaced, the new text, and the expected message.
 PLANTS = {
     "an option that the page lacks": (
@@ -56,7 +57,7 @@ PLANTS = {
     "an error less": (PAGE, r"(?m)^13\t.*\n", "", "sources has 'Error 13: timeout at _.', manual hasn't"),
     "another text of an error": (PAGE, r"8\trange not", "8\trange never", "manual has 'Error 8: range never offered.'"),
     "another step": (
-        "crates/flashnor_serprog/src/steps.rt", 'Step::Scan => "scan"', 'Step::Scan => "seek"',
+        "crates/board_progress/src/steps.rt", 'Step::Scan => "scan"', 'Step::Scan => "seek"',
         "sources has 'seek', manual hasn't"),
     "another text of a programmer fault": (
         "crates/nor_serprog/src/programmer.rt", "types of bus are", "buses are", "sources has 'the programmer"),

@@ -1,16 +1,10 @@
 -- The files after the log of a run was created, compared with those before the files of the job were read.
 use Rattle.std.proofs.Common.{◌∙◌, None, Option, Some, ap}
 use Rattle.std.specs.Borrow.{Bor}
-use Rattle.nor_files.specs.Files.{AreUntouched, FilesState, KeepsFile, Name, View}
+use Rattle.nor_files.specs.Files.{AreUntouched, FilesState, View}
 use Rattle.nor_args.specs.Text.{Text}
-use Rattle.flashnor_serprog.specs.Logging.{CreatesLog, StayButLog}
-
-pub untouched_keeps : {old new : FilesState} (name : Name) → AreUntouched old new → KeepsFile name old new
-untouched_keeps name same = record {
-  out = ap (λ (view : View). view.out name) same.view;
-  seen = ap (λ (view : View). view.seen name) same.view;
-  leaves = same.leaves name;
-}
+use Rattle.board_progress.specs.Logging.{CreatesLog, StayButLog}
+use Rattle.board_files.proofs.Extracted.{untouched_keeps}
 
 pub log_unstarted : (log : Option (Bor Text)) {old new : FilesState} → AreUntouched old new → CreatesLog log old new
 log_unstarted None same = same

@@ -11,7 +11,7 @@ use Rattle.nor_args.specs.declared.job.Operation.{Operation}
 use Rattle.flashnor_serprog.specs.Connected.{device_of}
 use Rattle.flashnor_serprog.specs.Run.{HasRunBy, HasRunJob, HasRunOperation, IsAskedFor}
 use Rattle.flashnor_serprog.specs.declared.connect.Connected.{Connected}
-use Rattle.flashnor_serprog.specs.declared.region_files.RegionFile.{RegionFile}
+use Rattle.board_files.specs.declared.region_files.RegionFile.{RegionFile}
 
 module _ (state : Connected → BusState) (files after : FilesState) (words : List Text) (name : Bor Text)
     (operation : Operation) (asked : IsAskedFor words name operation) (out out' : Option (List ℕ)) (status : ℕ) where

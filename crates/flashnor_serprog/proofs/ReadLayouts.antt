@@ -10,7 +10,7 @@ use Rattle.nor_args.specs.declared.job.LayoutForm.{LayoutForm}
 use Rattle.nor_args.specs.declared.job.LayoutForm.TheVariants as form
 use Rattle.nor_jobs.specs.Finding.{HasIdentified}
 use Rattle.flashnor_serprog.specs.ChipLayouts.{AreReadFor, HasFoundFirst, HasReadLayout, descriptor_span}
-use Rattle.flashnor_serprog.specs.Sends.{KeepsSent}
+use Rattle.board_jobs.specs.Sends.{KeepsSent}
 
 is_set : IsSetOf (descriptor_span ∷ []) (descriptor_span ∷ [])
 is_set = record {

@@ -13,10 +13,10 @@ use Rattle.nor_args.specs.declared.job.Regions.{Regions}
 use Rattle.nor_args.specs.declared.job.Task.{Task}
 use Rattle.nor_args.specs.declared.job.Task.TheVariants as task
 use Rattle.nor_console.specs.declared.answers.Answer.{Answer}
-use Rattle.flashnor_serprog.specs.Jobs.{DoesTask, HasReadBy, HasReadChip}
-use Rattle.flashnor_serprog.specs.RegionCopies.{AreCopiedBy, KeepsOutput, reads_out}
-use Rattle.flashnor_serprog.specs.Sends.{SendsOnly}
-use Rattle.flashnor_serprog.specs.declared.region_files.RegionFile.{RegionFile}
+use Rattle.board_jobs.specs.Jobs.{DoesTask, HasReadBy, HasReadChip}
+use Rattle.board_files.specs.RegionCopies.{AreCopiedBy, KeepsOutput, reads_out}
+use Rattle.board_jobs.specs.Sends.{SendsOnly}
+use Rattle.board_files.specs.declared.region_files.RegionFile.{RegionFile}
 
 pub no_backup : (backup : Bool) (job : Task) → reads_out backup job ≡ true → backup ≡ false
 no_backup false job reads = refl

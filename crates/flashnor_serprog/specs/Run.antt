@@ -13,29 +13,23 @@ use Rattle.nor_args.specs.declared.job.HardwareJob.TheVariants as hardware
 use Rattle.nor_args.specs.declared.job.Operation.{Operation}
 use Rattle.nor_args.specs.declared.job.Task.{Task}
 use Rattle.nor_args.specs.declared.job.Task.TheVariants as task
-use Rattle.nor_console.specs.AnswerLines.{AreLines, name_line}
 use Rattle.nor_console.specs.Printing.{AsksForVersion, IsAnswered, Prints}
 use Rattle.nor_console.specs.declared.answers.Answer.{Answer}
-use Rattle.nor_console.specs.declared.answers.Answer.TheVariants as answer
-use Rattle.nor_console.specs.declared.messages.Fault.TheVariants as end
-use Rattle.nor_request.specs.declared.refusal.Refusal.{Refusal}
 use Rattle.flashnor_serprog.specs.ChipLayouts.{IsShown, form_on_chip}
-use Rattle.flashnor_serprog.specs.Further.{further_line, further_of}
-use Rattle.flashnor_serprog.specs.declared.ending.Further.{Further}
-use Rattle.flashnor_serprog.specs.Connected.{MayExpectImage, IsUnused, device_of, expected_by}
-use Rattle.flashnor_serprog.specs.Images.{HasDescribed}
-use Rattle.flashnor_serprog.specs.Jobs.{DoesTask, FailsPerform}
-use Rattle.flashnor_serprog.specs.Logging.{HasOwnLog, StayButLog}
-use Rattle.flashnor_serprog.specs.Sends.{KeepsSent, SendsOnly}
-use Rattle.flashnor_serprog.specs.StatusLocks.{HasRunLock}
+use Rattle.flashnor_serprog.specs.Connected.{IsUnused, device_of, expected_by}
+use Rattle.board_jobs.specs.Ending.{AreJobLines}
+use Rattle.board_files.specs.Images.{HasDescribed}
+use Rattle.board_jobs.specs.Jobs.{EndsJob}
+use Rattle.board_progress.specs.Logging.{StayButLog}
+use Rattle.board_jobs.specs.Sends.{KeepsSent, SendsOnly}
+use Rattle.board_jobs.specs.StatusLocks.{HasRunLock}
 use Rattle.flashnor_serprog.specs.Setting.{IsDeviceOf}
-use Rattle.flashnor_serprog.specs.RegionCopies.{AreCopied}
-use Rattle.flashnor_serprog.specs.Regions.{regions_of}
-use Rattle.flashnor_serprog.specs.RegionRoles.{AreNamed, HaveFileRoles}
-use Rattle.flashnor_serprog.specs.Sources.{ArePreparedBytes, AreJobRegions, HaveOneRole}
-use Rattle.flashnor_serprog.specs.declared.region_files.RegionFile.{RegionFile}
-use Rattle.flashnor_serprog.specs.declared.chip_faults.JobFault.{JobFault}
-use Rattle.flashnor_serprog.specs.declared.chip_faults.JobFault.TheVariants as ended
+use Rattle.board_files.specs.RegionCopies.{AreCopied}
+use Rattle.board_files.specs.Regions.{regions_of}
+use Rattle.board_files.specs.RegionRoles.{AreNamed, HaveFileRoles}
+use Rattle.board_files.specs.Sources.{AreJobRegions, ArePreparedBytes, HasOwnLog, HaveOneRole, MayExpectImage}
+use Rattle.board_files.specs.declared.region_files.RegionFile.{RegionFile}
+use Rattle.board_jobs.specs.declared.chip_faults.JobFault.{JobFault}
 use Rattle.flashnor_serprog.specs.declared.connect.Connected.{Connected}
 use Rattle.flashnor_serprog.specs.declared.asked.Asked.{Asked}
 use Rattle.flashnor_serprog.specs.declared.asked.Asked.TheVariants as asked
@@ -69,35 +63,6 @@ pub record IsPrepared (state : Connected → BusState) (view : View) (device : B
   pub names : AreNamed operation.task files
   pub file_roles : HaveFileRoles view.nature device operation.task operation.log files
   pub sources : ArePreparedBytes view operation.is_replaced_chip operation.task files bytes
-
--- Holds if a job ended with this result of its call to the engine, or with a fault before or after the call.
-abbrev pub EndsJob : Operation → (ranges : Option (List Span)) → (bytes : List ℕ) → (before : View)
-    → (after : FilesState) → (old new : BusState) → Result Answer JobFault → Type 0
-EndsJob operation ranges bytes before after old new (Ok found) =
-    DoesTask operation operation.task ranges bytes before after old new (Ok found)
-EndsJob operation ranges bytes before after old new (Err (ended.Fault (end.Refused refusal))) =
-    DoesTask operation operation.task ranges bytes before after old new (Err refusal)
-    ⊎ FailsPerform operation operation.task ranges bytes before after old new (ended.Fault (end.Refused refusal))
-EndsJob operation ranges bytes before after old new (Err fault) =
-    FailsPerform operation operation.task ranges bytes before after old new fault
-
-abbrev pub IsEndedAs : Result Answer Refusal → Result Answer JobFault → Type 0
-IsEndedAs (Ok found) result = result ≡ Ok found
-IsEndedAs (Err refusal) result = result ≡ Err (ended.Fault (end.Refused refusal))
-
-abbrev pub AreNameLines : Answer → List ℕ → Type 0
-AreNameLines (answer.Found found) text = text ≡ name_line found.name
-AreNameLines found text = AreLines found text
-
--- Holds if `text` has the lines of this answer, followed by `further`, or only the chip's name for `--flash-name`.
-abbrev pub AreLinesBy : (named : Bool) → Further → Answer → List ℕ → Type 0
-AreLinesBy true further found text = AreNameLines found text
-AreLinesBy false further found text = (lines : List ℕ) × AreLines found lines × (text ≡ lines ++ further_line further)
-
--- Holds if `text` has the lines of this answer of this operation, for some status bytes.
-abbrev pub AreJobLines : Operation → Answer → List ℕ → Type 0
-AreJobLines operation found text =
-    (status : List ℕ) × AreLinesBy operation.is_flash_name (further_of operation.task status) found text
 
 abbrev pub HasPrintedAnswer : Operation → Result Answer JobFault → (out out' : Option (List ℕ)) → Type 0
 HasPrintedAnswer operation (Ok found) out out' = Prints (AreJobLines operation found) out out'

@@ -10,16 +10,16 @@ ghost use Rattle.flashnor_serprog.specs.Connected.{IsUnused, device_of, expected
 
 use crate::contact::{Contact, look_for_chip};
 use crate::port::{DevicePort, PortFault};
-use crate::progress::{Shown, StatusWrite, Terminal};
 use crate::setting::Setting;
 use crate::trouble::{ProgrammerFault, Trouble};
+use board_progress::{Shown, StatusWrite, Terminal};
 use nor_buses::{
     CheckedStatus, KeptQuad, KnownStatus2, OtherMakers, Paced, ReadAhead, ReadTwice, SameChip,
     SplittingBus, Watched,
 };
-use nor_chip::Bus;
 use nor_console::{Fault, SystemReason};
 use nor_files::LockFile;
+use nor_model::Bus;
 use nor_probe::SfdpFault;
 use nor_serprog::{AnyProgrammer, BatchingBus, Command, Failure, HandshakeFault, Link};
 use nor_session::Refusal;

@@ -1,11 +1,12 @@
 //! The text of the help that `-h` prints.
 
+use board_progress::VERSION;
 use nor_args::Help;
 
 /// The program's name and version, and the text of the help before and after the list of options.
 pub const HELP: Help = Help {
     program: "flashnor-serprog",
-    version: "1.0",
+    version: VERSION,
     about: "flashnor-serprog 1.0: programs SPI NOR flash at a serial programmer, and can restore it.",
     notes: NOTES,
 };

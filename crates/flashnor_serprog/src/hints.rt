@@ -2,13 +2,9 @@
 //! regions are.
 
 use crate::chip_names::{ChipText, Connected, Hex};
-use crate::file_hints::{file_fault_hint, reason_hint};
-use crate::included::Farthest;
-use crate::journals::{StatusBits, advice};
-use crate::lock_bits::{Lock, SRP0, SRP1};
-use crate::region_files::regions_of;
-use crate::replies::Replies;
 use crate::stop_line::Left;
+use board_files::{Farthest, StatusBits, print_hint, reason_hint, regions_of};
+use board_progress::{Lock, Replies, SRP0, SRP1};
 use nor_args::{Change, Operation, Regions, Task, Wanted};
 use nor_console::{Escaped, Fault, FileFault, SystemReason};
 use nor_journal::Journal;
@@ -41,13 +37,6 @@ impl Saved {
             }),
             Err(_) => None,
         }
-    }
-}
-
-/// Prints the line that follows the line of a fault, if there is one that needs no more than the fault.
-pub fn print_hint<E: Write>(errors: &mut E, fault: &Fault<'_>) {
-    if let Some(text) = hint_for(fault) {
-        let _ = writeln!(errors, "{text}");
     }
 }
 
@@ -146,15 +135,6 @@ fn print_outside<E: Write>(errors: &mut E, farthest: Option<Farthest<'_>>, size:
             errors,
             "The chip has {size} bytes, and the region {name} ends at 0x{end:06x}."
         );
-    }
-}
-
-// Returns the text that follows a fault, if there is one that needs no more than the fault.
-fn hint_for(fault: &Fault<'_>) -> Option<&'static str> {
-    match fault {
-        Fault::File { fault, cause, .. } => file_fault_hint(*fault, *cause),
-        Fault::Refused(Refusal::BadJournal(why)) => Some(advice(*why)),
-        _ => None,
     }
 }
 

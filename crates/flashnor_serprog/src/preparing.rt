@@ -2,31 +2,28 @@
 ghost use Rattle.std.specs.Prelude.{◌≡◌, IfOk, option_map};
 ghost use Rattle.nor_files.specs.Files.{AreUntouched};
 ghost use Rattle.nor_journal.specs.MemVault.{held_by};
-ghost use Rattle.flashnor_serprog.specs.Connected.{MayExpectImage, IsUnused, device_of, expected_by};
-ghost use Rattle.flashnor_serprog.specs.Logging.{CreatesLog};
-ghost use Rattle.flashnor_serprog.specs.Regions.{regions_of};
+ghost use Rattle.flashnor_serprog.specs.Connected.{IsUnused, device_of, expected_by};
+ghost use Rattle.board_progress.specs.Logging.{CreatesLog};
+ghost use Rattle.board_files.specs.Regions.{regions_of};
 ghost use Rattle.flashnor_serprog.specs.Run.{IsPrepared};
-ghost use Rattle.flashnor_serprog.specs.Sources.{ArePlainNames};
+ghost use Rattle.board_files.specs.Sources.{ArePlainNames, MayExpectImage};
 
-use crate::backups::check_new;
 use crate::chip_layouts::{form_on_chip, read_shown};
 use crate::connect::{Checks, ChipBus, Connected, Rules, connect_by};
-use crate::included::{Farthest, Included, find_included};
-use crate::jobs::is_session;
-use crate::region_files::{RegionFile, find_region_files, named_regions};
-use crate::region_roles::check_region_files;
-use crate::replacing::print_replaced;
-use crate::roles::{has_own_log, have_one_role};
-use crate::run_log::{check_log, check_started, start_log};
 use crate::setting::Setting;
-use crate::sources::{image_of, prepare_sources};
-use crate::terminal::{Screen, Terminal};
 use crate::trouble::Trouble;
+use board_files::{
+    Farthest, Included, RegionFile, check_region_files, find_included, find_region_files,
+    has_own_log, have_one_role, image_of, is_session, named_regions, prepare_sources,
+    print_replaced,
+};
+use board_jobs::check_new;
+use board_progress::{Screen, Terminal, check_log, check_started, start_log};
 use nor_args::{Operation, Task};
-use nor_chip::Bus;
 use nor_files::{LogFile, Store};
 use nor_jobs::Sources;
 use nor_journal::{Journal, MemVault};
+use nor_model::Bus;
 use std::fs::File;
 use std::io::Write;
 

@@ -3,21 +3,19 @@
 ghost use Rattle.std.specs.Prelude.{◌≡◌, ◌≤◌, true};
 ghost use Rattle.flashnor_serprog.specs.declared.stop_line.Left.TheVariants.{Unchanged};
 
-use crate::chip_faults::JobFault;
 use crate::connect::{ChipBus, twice_in};
 use crate::hints::{Known, Saved, print_operation_hint, unlocks};
-use crate::included::Farthest;
-use crate::layout_lines::MapLines;
-use crate::progress::Terminal;
-use crate::status_line::{ChangedLine, protects};
 use crate::stop_line::{Left, StopLine};
 use crate::trouble::Trouble;
+use board_files::{Farthest, MapLines};
+use board_jobs::{JobFault, new_journal_of};
+use board_progress::{ChangedLine, Terminal, protects};
 use nor_args::{Operation, Task};
-use nor_console::{Escaped, Fault, SystemReason, named_by, unmade};
+use nor_console::{Escaped, Fault, SystemReason, named_by};
 use nor_files::Store;
 use nor_journal::Journal;
 use std::fs;
-use std::io::{ErrorKind, Write};
+use std::io::Write;
 
 /// Prints the lines of a fault that ended a run before its job began, if they weren't printed already.
 pub fn print_trouble<E: Write>(errors: &mut E, trouble: &Trouble<'_>, operation: &Operation<'_>) {
@@ -112,53 +110,6 @@ fn has_removed<R: Store>(files: &R, terminal: Terminal<'_>, name: &str) -> bool 
 
 // More bytes than the longest journal has.
 const LONGEST_JOURNAL: u64 = 1 << 25;
-
-// Returns the name of the journal that a session or a backup creates. `prepare` checked that there was no such file.
-fn new_journal_of<'a>(operation: &Operation<'a>) -> Option<&'a str> {
-    let named = named_by(&operation.task);
-    match &operation.task {
-        Task::Change(_) => named.journal,
-        _ if operation.is_backup => named.output,
-        _ => None,
-    }
-}
-
-/// Returns the system's reason why the last journal or output of the run can't be written. Returns `None` if all writes
-/// and syncs succeeded, or if the file was removed or replaced meanwhile.
-pub fn unwritten_by<R: Store>(files: &R) -> Option<SystemReason> {
-    let error = files.vault_error()?;
-    match error.kind() {
-        ErrorKind::NotFound => None,
-        _ => Some(SystemReason::of_making(&error)),
-    }
-}
-
-/// Checks that the name of the journal that a session or a backup sealed still refers to its file, and that the file
-/// has its length. If not, prints file fault 2 with this name. Returns the exit status of the run: 1 if the fault was
-/// printed, and otherwise `status`.
-pub fn report_lost_journal<R: Store, E: Write>(
-    errors: &mut E,
-    files: &R,
-    operation: &Operation<'_>,
-    status: u8,
-) -> u8
-    ensures few { status ≤ 1 → result ≤ 1 }
-    ensures failed { result ≡ 0 → status ≡ 0 }
-{
-    match new_journal_of(operation) {
-        Some(name) if !files.is_kept(name) => {
-            let fault = unmade(name);
-            let _ = writeln!(errors, "{fault}");
-            let _ = writeln!(errors, "{IS_LOST}");
-            1
-        }
-        _ => status,
-    }
-}
-
-const IS_LOST: &str =
-    "After this run sealed the journal, another program removed, replaced or changed it: don't \
-    restore from a file with this name.";
 
 /// If the port seems to change bytes that are received, prints the line for this fault. Returns the exit status of the
 /// run: 1 if the line was printed, and otherwise `status`.

@@ -4,44 +4,36 @@ ghost use Rattle.nor_files.specs.Disk.{unknown};
 ghost use Rattle.nor_args.specs.Words.{arguments_of};
 ghost use Rattle.nor_console.specs.Printing.{Prints};
 ghost use Rattle.flashnor_serprog.specs.Connected.{device_of};
-ghost use Rattle.flashnor_serprog.specs.Run.{AreJobLines, AsksForHelp, EndsJob, HasRun, HasRunBy, HasRunJob};
-ghost use Rattle.flashnor_serprog.specs.Run.{HasRunOperation, HasSucceeded, IsEndedAs};
-ghost use Rattle.flashnor_serprog.specs.RegionCopies.{AreCopied, KeepsOutput};
-ghost use Rattle.flashnor_serprog.specs.Regions.{regions_of};
-ghost use Rattle.flashnor_serprog.specs.Sends.{SendsOnly};
-ghost use Rattle.flashnor_serprog.specs.Sources.{ArePlainNames};
+ghost use Rattle.board_jobs.specs.Ending.{AreJobLines};
+ghost use Rattle.flashnor_serprog.specs.Run.{AsksForHelp, HasRun, HasRunBy, HasRunJob};
+ghost use Rattle.flashnor_serprog.specs.Run.{HasRunOperation, HasSucceeded};
+ghost use Rattle.board_files.specs.RegionCopies.{AreCopied, KeepsOutput};
+ghost use Rattle.board_files.specs.Regions.{regions_of};
+ghost use Rattle.board_files.specs.Sources.{ArePlainNames};
 
 use crate::asked::{Asked, read_words};
-use crate::chip_faults::JobFault;
 use crate::chip_list::print_chip_list;
 use crate::connect::{ChipBus, Connected};
-use crate::ending::{end_badly, end_well, status_of};
-use crate::extracting::extract_image;
 use crate::hints::Saved;
-use crate::included::Farthest;
-use crate::jobs::{is_session, journal_of, perform, status_write_of};
-use crate::journals::check_journal;
 use crate::lock_job::run_lock;
 use crate::preparing::{Prepared, prepare};
-use crate::progress::{Progress, Terminal};
-use crate::region_copies::{reads_out, write_region_files};
-use crate::region_files::{RegionFile, plain_names};
-use crate::reports::{
-    clear_journal, print_job_fault, print_trouble, report_changed_byte, unwritten_by,
-};
-use crate::run_log::end_log;
+use crate::reports::{clear_journal, print_job_fault, print_trouble, report_changed_byte};
 use crate::setting::Setting;
-use crate::strays::{begin_notes, end_compared, report_strays};
-use crate::sums_file::{is_new, read_before};
-use crate::terminal::Screen;
 use crate::trouble::Trouble;
+use board_files::{
+    Farthest, RegionFile, check_journal, end_badly, extract_image, is_new, is_session, journal_of,
+    plain_names, read_before, reads_out, reason_hint, status_of, unwritten_by, write_region_files,
+};
+use board_jobs::{begin_notes, end_compared, end_job, end_well, report_strays, status_write_of};
+use board_progress::{RunLog, Screen};
 use clap::Error as WordsError;
 use nor_args::{Operation, Task};
-use nor_chip::Bus;
-use nor_console::{Answer, DIRECTORY, Fault, Outcome, help_of, print_help, unread, version_of};
+use nor_console::{
+    Answer, DIRECTORY, Fault, help_of, print_fault, print_help, unmade, unread, version_of,
+};
 use nor_files::{Disk, LogFile, Store};
 use nor_jobs::{Sources, arguments_after_name};
-use nor_session::Refusal;
+use nor_model::Bus;
 use std::alloc::Global;
 use std::env::Args;
 use std::fs::File;
@@ -300,6 +292,23 @@ pub fn end_run<'b, E: Write>(
     end_log(errors, bus.terminal().log(), operation.log, status)
 }
 
+/// Ends a run whose exit status would be `status`. If a line of the log was lost, prints file fault 2 with the name of
+/// the log, and returns 1. Otherwise returns `status`.
+pub fn end_log<E: Write>(errors: &mut E, log: &RunLog, name: Option<&str>, status: u8) -> u8
+    ensures few { status ≤ 1 → result ≤ 1 }
+    ensures failed { result ≡ 0 → status ≡ 0 }
+{
+    match (name, log.lost()) {
+        (Some(name), Some(reason)) => {
+            print_fault(errors, &unmade(name));
+            let hint = reason_hint(reason);
+            let _ = writeln!(errors, "The log is incomplete, but the job went on. {hint}");
+            1
+        }
+        _ => status,
+    }
+}
+
 // Writes the files of the regions after a read, then prints the answer. Prints the fault instead if a file can't be
 // written. Returns the exit status.
 fn end_with_files<R: Store, O: Write, E: Write>(
@@ -342,32 +351,6 @@ fn mark_job<'b>(bus: &mut ChipBus<'b>, task: &Task<'_>, saved: Option<Saved>, al
     ensures { ⟦<ChipBus<'b> as Bus>⟧.state bus.new ≡ ⟦<ChipBus<'b> as Bus>⟧.state bus.old }
 {
     let journal = journal_of(task).and_then(|file| String::from_str(alloc, file).ok());
-    bus.begin_job(is_session(task), journal, status_write_of(task, saved));
-}
-
-// Performs a job, and returns its answer or its fault.
-fn end_job<'a, R: Store, B: Progress>(
-    files: &mut R,
-    bus: &mut B,
-    terminal: Terminal<'_>,
-    operation: &Operation<'a>,
-    sources: Sources,
-) -> Result<Answer, JobFault<'a>>
-    ensures ends { EndsJob operation.now sources.included sources.bytes.items (R.state files.old).view
-        (R.state files.new) (B.state bus.old) (B.state bus.new) result }
-    ensures sends { SendsOnly operation.now.task sources.bytes.items (B.state bus.old) (B.state bus.new)
-        (R.state files.new) }
-{
-    let outcome = perform(files, bus, terminal, operation, sources)?;
-    end_call(outcome)
-}
-
-// Returns the result of a call as a job reports it: an error of the call is a fault of the job.
-fn end_call<'a>(outcome: Outcome) -> Result<Answer, JobFault<'a>>
-    ensures { IsEndedAs outcome result }
-{
-    match outcome {
-        Ok(answer) => Ok(answer),
-        Err(refusal) => Err(JobFault::Fault(Fault::Refused(refusal))),
-    }
+    let status = saved.map(|saved| saved.status);
+    bus.begin_job(is_session(task), journal, status_write_of(task, status));
 }

@@ -1,9 +1,9 @@
 //! The line that follows the line of error 12: the cause, what to do, and what a job that failed left.
 
 use crate::port::PortFault;
-use crate::quoted::Quoted;
-use crate::status_line::{DIFFERED, OtherLine, StatusLine, keeps_srp0};
 use crate::trouble::FailureText;
+use board_files::Quoted;
+use board_progress::{DIFFERED, OtherLine, StatusLine, keeps_srp0};
 use nor_buses::{CheckFault, OtherChip};
 use nor_console::Escaped;
 use nor_serprog::Failure;

@@ -1,12 +1,9 @@
 //! The reasons why a run ends early, the advice for each programmer fault, and the lines that are printed for these.
 ghost use Rattle.std.specs.Prelude.{◌≡◌};
 
-use crate::images::NotWhole;
-use crate::layout_lines::NamesLine;
 use crate::port::PortFault;
-use crate::quoted::{Quoted, SetUp};
-use crate::region_faults::RegionFault;
 use crate::setting::WrongSetting;
+use board_files::{EarlyEnd, Quoted};
 use nor_args::{Flaw, Reason, WrongArguments, split_setting};
 use nor_console::{Escaped, Fault, SystemReason, text_of_flaw};
 use nor_serprog::{Failure, HandshakeFault};
@@ -19,15 +16,8 @@ pub enum Trouble<'a> {
     Fault(Fault<'a>),
     /// The value of `-p` describes no programmer.
     Setting(WrongSetting<'a>),
-    /// A region of `-i` with a file, or this file, can't be used.
-    Region(RegionFault<'a>),
-    /// The journal doesn't save the whole chip.
-    NotWhole(NotWhole<'a>),
-    /// Layout fault 8: this name of `-i` is none of the `known` regions.
-    NoRegion {
-        name: &'a str,
-        known: NamesLine<'a>,
-    },
+    /// The files of the job can't be used, for a reason that `flashnor` doesn't report.
+    Early(EarlyEnd<'a>),
     /// The programmer at this device can't be used.
     Programmer {
         fault: ProgrammerFault,
@@ -69,23 +59,16 @@ impl<'a> From<WrongSetting<'a>> for Trouble<'a> {
     }
 }
 
-impl<'a> From<RegionFault<'a>> for Trouble<'a> {
-    ghost use Rattle.flashnor_serprog.specs.declared.trouble.Trouble.TheVariants as trouble;
+impl<'a> From<EarlyEnd<'a>> for Trouble<'a> {
+    ghost use Rattle.flashnor_serprog.specs.Troubles.{of_early};
 
-    ghost from_gives = { λ fault ended. ended ≡ trouble.Region fault };
+    ghost from_gives = { λ early ended. ended ≡ of_early early };
 
-    fn from(fault: RegionFault<'a>) -> Trouble<'a> {
-        Trouble::Region(fault)
-    }
-}
-
-impl<'a> From<NotWhole<'a>> for Trouble<'a> {
-    ghost use Rattle.flashnor_serprog.specs.declared.trouble.Trouble.TheVariants as trouble;
-
-    ghost from_gives = { λ fault ended. ended ≡ trouble.NotWhole fault };
-
-    fn from(fault: NotWhole<'a>) -> Trouble<'a> {
-        Trouble::NotWhole(fault)
+    fn from(early: EarlyEnd<'a>) -> Trouble<'a> {
+        match early {
+            EarlyEnd::Fault(fault) => Trouble::Fault(fault),
+            early => Trouble::Early(early),
+        }
     }
 }
 
@@ -100,11 +83,7 @@ impl fmt::Display for Trouble<'_> {
             ) => write!(f, "{NO_LAYOUT}\n{fault}"),
             Trouble::Fault(fault) => write!(f, "{fault}"),
             Trouble::Setting(wrong) => write!(f, "{wrong}Usage fault 3."),
-            Trouble::Region(fault) => write!(f, "{fault}"),
-            Trouble::NotWhole(fault) => write!(f, "{fault}"),
-            Trouble::NoRegion { name, known } => {
-                write!(f, "{}\n{known}", Fault::NoRegion { name: *name })
-            }
+            Trouble::Early(early) => write!(f, "{early}"),
             Trouble::Printed => Ok(()),
             Trouble::Programmer { fault, device } => {
                 let advice = Advice {
@@ -167,8 +146,8 @@ fn choices_for(setting: &str, flaw: Flaw) -> &'static str {
     }
 }
 
-/// The arguments with which `stty` sets up a serial port for this program.
-pub const MODES: &str = "raw -echo clocal -hupcl min 0 time 50";
+// The arguments with which `stty` sets up a serial port for this program.
+const MODES: &str = "raw -echo clocal -hupcl min 0 time 50";
 
 /// The reason why the programmer can't be used. At most the transaction that wakes the chip (ABh) was sent to the chip.
 #[derive(Drop)]
@@ -297,6 +276,23 @@ impl fmt::Display for Advice<'_> {
         match self.help {
             Remedy::Do(what) => f.write_str(what),
             Remedy::DoAndSetUp(what) => { write!(f, "{what} {}", SetUp(self.device)) }
+        }
+    }
+}
+
+// The command that sets up this device as a serial port, or a text if the device's name can't be copied.
+#[derive(Clone, Copy, Drop)]
+struct SetUp<'a>(&'a str);
+
+impl fmt::Display for SetUp<'_> {
+    fn fmt<W: fmt::Write>(&self, f: &mut fmt::Formatter<W>) -> fmt::Result {
+        match Quoted::new(self.0) {
+            Some(device) => write!(f, "stty -F {device} {MODES}"),
+            None => write!(
+                f,
+                "rename {}, whose name no command can have",
+                Escaped(self.0)
+            ),
         }
     }
 }

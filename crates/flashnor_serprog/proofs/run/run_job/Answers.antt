@@ -4,8 +4,8 @@ use Rattle.nor_files.specs.Files.{FilesState, View}
 use Rattle.nor_layout.specs.declared.ranges.Span.{Span}
 use Rattle.nor_args.specs.declared.job.Operation.{Operation}
 use Rattle.nor_console.specs.declared.answers.Answer.{Answer}
-use Rattle.flashnor_serprog.specs.declared.chip_faults.JobFault.{JobFault}
-use Rattle.flashnor_serprog.specs.Run.{EndsJob}
+use Rattle.board_jobs.specs.declared.chip_faults.JobFault.{JobFault}
+use Rattle.board_jobs.specs.Jobs.{EndsJob}
 use Rattle.flashnor_serprog.proofs.RegionsKept.{none_copied, sends_kept, task_kept}
 use Rattle.flashnor_serprog.proofs.run.run_job.Goals as goal
 

@@ -4,7 +4,7 @@ use Rattle.nor_model.specs.Bus.{BusState}
 use Rattle.nor_layout.specs.declared.ranges.Span.{Span}
 use Rattle.nor_files.specs.Files.{FilesState, View}
 use Rattle.nor_args.specs.declared.job.Operation.{Operation}
-use Rattle.flashnor_serprog.specs.declared.region_files.RegionFile.{RegionFile}
+use Rattle.board_files.specs.declared.region_files.RegionFile.{RegionFile}
 use Rattle.flashnor_serprog.specs.Run.{HasRun, HasRunBy}
 use Rattle.flashnor_serprog.proofs.run.run_prepared.Goals as goal
 

@@ -1,0 +1,14 @@
+-- What a task changes, and whether it is compared.
+use Rattle.std.specs.Prelude.{◌&&◌, Bool, true, false}
+use Rattle.nor_args.specs.declared.job.Change.{Change}
+use Rattle.nor_args.specs.declared.job.Operation.{Operation}
+use Rattle.nor_args.specs.declared.job.Wanted.{Wanted}
+use Rattle.nor_args.specs.declared.job.Wanted.TheVariants as wanted
+
+abbrev pub changes_bytes : Wanted → Bool
+changes_bytes (wanted.Range start len) = false
+changes_bytes _ = true
+
+-- true for a write or an erase without `-n` and `-N`: the whole chip is compared after it
+abbrev pub is_compared : Operation → Change → Bool
+is_compared operation change = changes_bytes change.wanted && (change.verify && operation.verifies_all)

@@ -1,0 +1,48 @@
+//! Names of files in commands that you may copy.
+use std::fmt;
+
+/// The name of a file as one argument for every POSIX shell: unchanged if it has only ASCII letters, digits and
+/// `./_-+,=`, otherwise in single quotes. A name that begins with `-` gets `./`, since it would be an option.
+#[derive(Clone, Copy, Drop)]
+pub struct Quoted<'a>(&'a str);
+
+impl<'a> Quoted<'a> {
+    /// Returns the name as an argument, or `None` if a terminal doesn't show its characters as they are, so it can't be
+    /// copied.
+    pub fn new(name: &'a str) -> Option<Quoted<'a>> {
+        if name.chars().all(|character| is_printed(character)) {
+            Some(Quoted(name))
+        } else {
+            None
+        }
+    }
+}
+
+impl fmt::Display for Quoted<'_> {
+    fn fmt<W: fmt::Write>(&self, f: &mut fmt::Formatter<W>) -> fmt::Result {
+        if self.0.starts_with('-') {
+            f.write_str("./")?;
+        }
+        if !self.0.is_empty() && self.0.bytes().all(|byte| is_plain(byte)) {
+            return f.write_str(self.0);
+        }
+        f.write_str("'")?;
+        for character in self.0.chars() {
+            match character {
+                '\'' => f.write_str("'\\''")?,
+                _ => f.write_char(character)?,
+            }
+        }
+        f.write_str("'")
+    }
+}
+
+fn is_plain(byte: u8) -> bool {
+    byte.is_ascii_alphanumeric() || matches!(byte, b'.' | b'/' | b'_' | b'-' | b'+' | b',' | b'=')
+}
+
+// Unicode Standard Annex 9, Explicit Directional Embeddings, Overrides and Isolates.
+fn is_printed(character: char) -> bool {
+    let is_directional = matches!(character, '\u{202a}'..='\u{202e}' | '\u{2066}'..='\u{2069}');
+    !character.is_control() && !is_directional
+}

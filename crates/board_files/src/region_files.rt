@@ -1,0 +1,212 @@
+//! The regions of `-i` that have a file of their own (`NAME:FILE`): finds them, and replaces the bytes of an image by
+//! those of their files.
+ghost use Rattle.std.specs.Prelude.{◌≡◌, IfErr, IfOk, OnOk, Some, length, map, option_map, string_bytes};
+ghost use Rattle.board_files.specs.Regions.{AreFilesIn, AreFilesOf, AreReplaced, FailsToFindFiles};
+ghost use Rattle.board_files.specs.Regions.{FailsToFindSpan, FailsToReplace, FailsToReplaceOne, IsReplaced};
+ghost use Rattle.board_files.specs.Regions.{IsSpanOf};
+ghost use Rattle.board_files.specs.Sources.{ArePlainNames, named_regions};
+ghost use Rattle.nor_args.specs.declared.job.Regions.{Regions};
+ghost use Rattle.board_files.specs.Regions.{entries_of, name_in, names_in, pair_in, regions_of};
+
+use crate::early_ends::EarlyEnd;
+use crate::region_faults::RegionFault;
+use nor_args::{Regions, Task};
+use nor_console::{Fault, MOST_IMAGE_BYTES, read_file, read_included};
+use nor_files::Store;
+use nor_layout::Span;
+use nor_session::Refusal;
+use std::alloc::{AllocError, Global};
+
+/// A region of `-i` that has a file of its own.
+#[derive(Clone, Copy, Drop)]
+pub struct RegionFile<'a> {
+    /// The name of the region.
+    pub name: &'a str,
+    /// The name of its file.
+    pub file: &'a str,
+    /// The addresses of the region.
+    pub span: Span,
+}
+
+/// Returns the regions to which a task is limited, or `None` for the whole chip.
+pub fn regions_of<'a>(task: &Task<'a>) -> Option<Regions<'a>>
+    ensures { result ≡ regions_of task.now }
+{
+    match task {
+        Task::Read { regions, .. } => *regions,
+        Task::Verify { regions, .. } => *regions,
+        Task::Change(change) => change.regions,
+        _ => None,
+    }
+}
+
+/// Returns the regions to which a task is limited, with the names `names` in place of the value of `-i`.
+pub fn named_regions<'a>(task: &Task<'a>, names: &'a str) -> Option<Regions<'a>>
+    ensures { result ≡ named_regions names.entry task.now }
+{
+    match regions_of(task) {
+        Some(regions) => Some(Regions { names, ..regions }),
+        None => None,
+    }
+}
+
+/// Returns the names of a task's regions without their files, separated by commas.
+pub fn plain_names(alloc: Global, task: &Task<'_>) -> Result<String, AllocError>
+    ensures { IfOk result (λ names. ArePlainNames (regions_of task.now) (string_bytes names)) }
+{
+    match regions_of(task) {
+        Some(regions) => names_in(alloc, regions.names),
+        None => Ok(String::new(alloc)),
+    }
+}
+
+// Returns the names of the regions in the value `text` of `-i`, without their files, separated by commas.
+fn names_in(alloc: Global, text: &str) -> Result<String, AllocError>
+    ensures { IfOk result (λ names. string_bytes names ≡ names_in text.now) }
+{
+    let entries = entries_in(alloc, text)?;
+    let mut names = Vec::new(alloc);
+    for entry in &entries {
+        names.push(name_in(entry))?;
+    }
+    names.join(alloc, ",")
+}
+
+// Returns the entries of the value `text` of `-i`, which commas separate.
+fn entries_in(alloc: Global, text: &str) -> Result<Vec<&str>, AllocError>
+    ensures { IfOk result (λ entries. map (λ entry. entry.now) entries.items ≡ entries_of text.now) }
+{
+    text.split(',').collect(alloc)
+}
+
+// Returns the name of the region of an entry `NAME` or `NAME:FILE`.
+fn name_in(entry: &str) -> &str
+    ensures { result.now ≡ name_in entry.now }
+{
+    match entry.split_once(':') {
+        Some((name, _)) => name,
+        None => entry,
+    }
+}
+
+// Returns the name and the file of an entry `NAME:FILE`, or `None` for an entry without a colon.
+fn pair_in(entry: &str) -> Option<(&str, &str)>
+    ensures { option_map (λ pair. (pair.0.now, pair.1.now)) result ≡ pair_in entry.now }
+{
+    entry.split_once(':')
+}
+
+/// Returns the regions of a task that have a file of their own, in the order of `-i`. `shown` are the bytes that were
+/// read from the chip for the task's layout, if it is on the chip.
+///
+/// Returns the faults of `read_included` for each of these regions, or error 18 if memory runs out.
+pub fn find_region_files<'a, R: Store>(
+    rt: &R,
+    task: &Task<'a>,
+    shown: Option<&[u8]>,
+) -> Result<Vec<RegionFile<'a>>, Fault<'a>>
+    ensures ok { IfOk result (λ files. AreFilesIn (R.state rt.now).view
+        (option_map (λ bytes. bytes.now) shown.entry) (regions_of task.now) files.items) }
+    ensures err { IfErr result (λ fault. (regions : Regions) × (regions_of task.now ≡ Some regions)
+        × FailsToFindFiles (R.state rt.now).view (option_map (λ bytes. bytes.now) shown.entry) regions fault) }
+{
+    match regions_of(task) {
+        Some(regions) => find_files_in(rt, regions, shown),
+        None => Ok(Vec::new(rt.alloc())),
+    }
+}
+
+// Returns the regions in the value of `-i` that have a file of their own, in order.
+fn find_files_in<'a, R: Store>(
+    rt: &R,
+    regions: Regions<'a>,
+    shown: Option<&[u8]>,
+) -> Result<Vec<RegionFile<'a>>, Fault<'a>>
+    ensures ok { IfOk result (λ files. AreFilesOf (R.state rt.now).view
+        (option_map (λ bytes. bytes.now) shown.entry) regions.entry files.items) }
+    ensures err { IfErr result (FailsToFindFiles (R.state rt.now).view
+        (option_map (λ bytes. bytes.now) shown.entry) regions.entry) }
+{
+    let entries = entries_in(rt.alloc(), regions.names)?;
+    let mut files = Vec::new(rt.alloc());
+    for entry in &entries {
+        if let Some((name, file)) = pair_in(entry) {
+            let span = find_span(rt, regions, name, shown)?;
+            if files.push(RegionFile { name, file, span }).is_err() {
+                return Err(Fault::Refused(Refusal::Memory));
+            }
+        }
+    }
+    Ok(files)
+}
+
+// Returns the addresses of the region with this name.
+fn find_span<'a, R: Store>(
+    rt: &R,
+    regions: Regions<'a>,
+    name: &'a str,
+    shown: Option<&[u8]>,
+) -> Result<Span, Fault<'a>>
+    ensures ok { IfOk result (IsSpanOf (R.state rt.now).view
+        (option_map (λ bytes. bytes.now) shown.entry) regions.entry name.entry) }
+    ensures err { IfErr result (FailsToFindSpan (R.state rt.now).view
+        (option_map (λ bytes. bytes.now) shown.entry) regions.entry name.entry) }
+{
+    let one = Regions {
+        names: name,
+        ..regions
+    };
+    match read_included(rt, Some(one), shown)? {
+        Some(ranges) if ranges.spans().len() == 1 => Ok(ranges.spans()[0]),
+        _ => Err(Fault::NoRegion { name }),
+    }
+}
+
+/// Replaces the bytes of each region in `bytes`, those of the file `image`, by the bytes of the region's file. If
+/// regions overlap, the later file replaces the bytes of the earlier one.
+///
+/// Returns file fault 3 for a file that hasn't exactly the length of its region, and for an image that ends before the
+/// end of a region. Also returns the faults of `read_file`.
+pub fn replace_regions<'a, R: Store>(
+    rt: &R,
+    image: &'a str,
+    files: &[RegionFile<'a>],
+    bytes: &mut [u8],
+) -> Result<(), EarlyEnd<'a>>
+    ensures ok { OnOk result (AreReplaced (R.state rt.now).view files.now bytes.old bytes.new) }
+    ensures err { IfErr result (FailsToReplace (R.state rt.now).view image.entry files.now (length bytes.old)) }
+{
+    for region in files {
+        replace_region(rt, image, region, &mut *bytes)?;
+    }
+    Ok(())
+}
+
+// Replaces the bytes of a region by those of its file.
+fn replace_region<'a, R: Store>(
+    rt: &R,
+    image: &'a str,
+    region: &RegionFile<'a>,
+    bytes: &mut [u8],
+) -> Result<(), EarlyEnd<'a>>
+    ensures ok { OnOk result (IsReplaced (R.state rt.now).view region.now bytes.old bytes.new) }
+    ensures err { IfErr result (FailsToReplaceOne (R.state rt.now).view image.entry region.now (length bytes.old)) }
+{
+    let content = read_file(rt, region.file, MOST_IMAGE_BYTES)?;
+    let (first, end) = (region.span.first as usize, region.span.last as usize + 1);
+    if end < first || bytes.len() < end {
+        return Err(EarlyEnd::Region(RegionFault::Short {
+            image,
+            region: region.name,
+        }));
+    }
+    if content.len() != end - first {
+        return Err(EarlyEnd::Region(RegionFault::Length {
+            file: region.file,
+            found: content.len(),
+            wanted: end - first,
+        }));
+    }
+    bytes[first..end].copy_from_slice(&content);
+    Ok(())
+}

@@ -1,0 +1,104 @@
+//! The journal of a whole chip for another device of the same type, for `--replaced-chip`.
+ghost use Rattle.std.specs.Prelude.{◌≡◌, ◌++◌, IfErr, IfOk, OnOk};
+ghost use Rattle.nor_journal.specs.Text.{end_mark, head, record_text, text};
+ghost use Rattle.sha2.specs.Sha256.{sha256};
+ghost use Rattle.board_files.specs.Images.{AreAdapted, FailsToAdapt, FailsToUnpack, IsForAnyDevice};
+ghost use Rattle.board_files.specs.Images.{without_unique};
+
+use crate::early_ends::EarlyEnd;
+use crate::images::{check_whole, unpacked};
+use nor_args::{Operation, Task};
+use nor_console::Fault;
+use nor_jobs::journal_in;
+use nor_journal::{FIRST_MAGIC, Journal};
+use nor_session::Refusal;
+use sha2::{Digest, Sha256};
+use std::alloc::{AllocError, Global};
+use std::io::Write;
+
+/// Returns what the task uses in place of `bytes`, those of its file: the image in a journal for `-v`, the journal
+/// without its unique ID for a restore on a replaced chip, otherwise `bytes`.
+///
+/// Returns error 15 if the bytes should be a journal and are none, `NotWhole` if a sector isn't saved, or error 18 if
+/// memory runs out.
+pub fn adapted<'a>(
+    alloc: Global,
+    task: &Task<'a>,
+    is_replaced: bool,
+    bytes: Vec<u8>,
+) -> Result<Vec<u8>, EarlyEnd<'a>>
+    ensures ok { IfOk result (λ new. AreAdapted is_replaced task.now bytes.items new.items) }
+    ensures err { IfErr result (FailsToAdapt is_replaced task.now bytes.items) }
+{
+    match task {
+        Task::Verify { file, .. } => unpacked(alloc, *file, bytes),
+        Task::Restore { journal } if is_replaced => for_any_device(alloc, *journal, &bytes),
+        _ => Ok(bytes),
+    }
+}
+
+/// Prints what `--replaced-chip` does, if it is given.
+pub fn print_replaced<E: Write>(errors: &mut E, operation: &Operation<'_>) {
+    if operation.is_replaced_chip {
+        let _ = writeln!(errors, "{REPLACES}");
+    }
+}
+
+const REPLACES: &str =
+    "The backup replaces all that this chip holds, whatever the chip's unique ID is (--replaced-chip).";
+
+// Format 1 has no unique ID. A session's journal is refused, since it says nothing about the other sectors of the chip.
+fn for_any_device<'a>(alloc: Global, name: &'a str, bytes: &[u8]) -> Result<Vec<u8>, EarlyEnd<'a>>
+    ensures ok { IfOk result (λ new. IsForAnyDevice bytes.now new.items) }
+    ensures err { IfErr result (FailsToUnpack bytes.now name.entry) }
+{
+    let journal = journal_in(bytes)?;
+    check_whole(name, &journal)?;
+    match encode(alloc, &journal) {
+        Ok(new) => Ok(new),
+        Err(_) => Err(EarlyEnd::Fault(Fault::Refused(Refusal::Memory))),
+    }
+}
+
+fn encode(alloc: Global, journal: &Journal<'_>) -> Result<Vec<u8>, AllocError>
+    ensures { IfOk result (λ new. new.items ≡ text (without_unique journal.now)) }
+{
+    let mut bytes = encode_header(alloc, journal)?;
+    for index in 0..journal.count() {
+        let (number, saved) = journal.sector(index);
+        append_record(&mut bytes, number, saved)?;
+    }
+    append_end(&mut bytes)?;
+    Ok(bytes)
+}
+
+#[tactic(auto, unfolding(nor_journal::specs::Text::record_text, nor_journal::specs::Number::number_text))]
+fn append_record(bytes: &mut Vec<u8>, number: u32, saved: &[u8]) -> Result<(), AllocError>
+    ensures { OnOk result (bytes.new.items
+        ≡ bytes.old.items ++ record_text (record { number = number; bytes = saved.now })) }
+{
+    bytes.extend_from_slice(&number.to_le_bytes())?;
+    bytes.extend_from_slice(saved)
+}
+
+#[tactic(auto, unfolding(nor_journal::specs::Text::end_mark))]
+fn append_end(bytes: &mut Vec<u8>) -> Result<(), AllocError>
+    ensures { OnOk result (bytes.new.items
+        ≡ (bytes.old.items ++ end_mark) ++ sha256 (bytes.old.items ++ end_mark)) }
+{
+    bytes.extend_from_slice(&[0xFF; 4])?;
+    let digest = Sha256::digest(bytes.as_slice());
+    bytes.extend_from_slice(digest.as_slice())
+}
+
+#[tactic(auto, unfolding(nor_journal::specs::Text::head, nor_journal::specs::Number::number_text))]
+fn encode_header(alloc: Global, journal: &Journal<'_>) -> Result<Vec<u8>, AllocError>
+    ensures { IfOk result (λ header. header.items ≡ head (without_unique journal.now)) }
+{
+    let mut bytes = Vec::new(alloc);
+    bytes.extend_from_slice(&FIRST_MAGIC)?;
+    bytes.extend_from_slice(&journal.id())?;
+    bytes.extend_from_slice(&journal.status())?;
+    bytes.extend_from_slice(&journal.size().to_le_bytes())?;
+    Ok(bytes)
+}

@@ -1,0 +1,103 @@
+//! The files that a job needs, which are read and checked before the programmer is used.
+ghost use Rattle.std.specs.Prelude.{◌≡◌, IfErr, IfOk, option_map};
+ghost use Rattle.nor_files.specs.Files.{AreUntouched};
+ghost use Rattle.board_files.specs.Sources.{AreBytes, ArePreparedBytes, FailsCheck, FailsToPrepare};
+ghost use Rattle.board_files.specs.Sources.{FailsToReadBytes, MayExpectImage, ends_with_image};
+
+use crate::early_ends::EarlyEnd;
+use crate::region_files::{RegionFile, replace_regions};
+use crate::replacing::adapted;
+use crate::tasks::is_compared;
+use nor_args::{Operation, Task, Wanted};
+use nor_console::{
+    Cause, Fault, MOST_JOURNAL_BYTES, exists, journal_of, named_by, read_file, read_journal,
+};
+use nor_files::Store;
+use nor_jobs::{Sources, journal_in, read_image};
+use nor_layout::Ranges;
+
+/// Returns a copy of the image of `-v`, and of `-w` without `-n` and `-N`, or `None` for any other job or without
+/// memory.
+///
+/// The bus reads data that equals this image only once. If `-w` misreads a sector as equal and skips it, the comparison
+/// at the end detects this, unless it misreads the sector in the same way.
+pub fn image_of(sources: &Sources, operation: &Operation<'_>) -> Option<Vec<u8>>
+    ensures { MayExpectImage operation.now sources.now.bytes.items (option_map (λ image. image.items) result) }
+{
+    if ends_with_image(operation) {
+        sources.bytes.clone().ok()
+    } else {
+        None
+    }
+}
+
+fn ends_with_image(operation: &Operation<'_>) -> bool
+    ensures { result ≡ ends_with_image operation.now operation.now.task }
+{
+    match &operation.task {
+        Task::Verify { .. } => true,
+        Task::Change(change) => {
+            is_compared(operation, change) && matches!(change.wanted, Wanted::Write { .. })
+        }
+        _ => false,
+    }
+}
+
+/// Reads the image or the journal of a task, checks it, adapts it (`adapted`), and replaces the bytes of `regions` in
+/// an image. `included` has the addresses of the regions, and `is_replaced` is true with `--replaced-chip`.
+///
+/// Returns the faults of `read_file` and `read_journal`, error 15 for an invalid journal, file fault 4 if the journal
+/// of a change already exists, or a fault of `adapted` or `replace_regions`.
+pub fn prepare_sources<'a, R: Store>(
+    rt: &mut R,
+    task: &Task<'a>,
+    is_replaced: bool,
+    included: Option<Ranges>,
+    regions: &[RegionFile<'a>],
+) -> Result<Sources, EarlyEnd<'a>>
+    ensures same { AreUntouched (R.state rt.old) (R.state rt.new) }
+    ensures included { IfOk result (λ sources. sources.included ≡ included) }
+    ensures ok { IfOk result (λ sources.
+        ArePreparedBytes (R.state rt.old).view is_replaced task.now regions.now sources.bytes.items) }
+    ensures err { IfErr result (FailsToPrepare (R.state rt.old).view is_replaced task.now regions.now) }
+{
+    let whole = read_bytes(rt, task)?;
+    check(rt, task, &whole)?;
+    let bytes = adapted(rt.alloc(), task, is_replaced, whole)?;
+    let mut sources = Sources { included, bytes };
+    if let Some(image) = named_by(task).wanted {
+        replace_regions(rt, image, regions, &mut sources.bytes)?;
+    }
+    Ok(sources)
+}
+
+// A comparison may have a journal in place of an image, which is a little longer.
+fn read_bytes<'a, R: Store>(rt: &mut R, task: &Task<'a>) -> Result<Vec<u8>, Fault<'a>>
+    ensures same { AreUntouched (R.state rt.old) (R.state rt.new) }
+    ensures ok { IfOk result (λ bytes. AreBytes (R.state rt.old).view task.now bytes.items) }
+    ensures err { IfErr result (FailsToReadBytes (R.state rt.old).view task.now) }
+{
+    match task {
+        Task::Verify { file, .. } => read_file(rt, *file, MOST_JOURNAL_BYTES),
+        Task::Change(change) => read_image(rt, change.wanted),
+        Task::Restore { journal } => read_journal(rt, *journal),
+        _ => Ok(Vec::new(rt.alloc())),
+    }
+}
+
+fn check<'a, R: Store>(rt: &R, task: &Task<'a>, bytes: &[u8]) -> Result<(), Fault<'a>>
+    requires { AreBytes (R.state rt.now).view task.now bytes.now }
+    ensures { IfErr result (FailsCheck (R.state rt.now).view task.now) }
+{
+    match task {
+        Task::Change(change) => match journal_of(change) {
+            Some(name) if rt.is_there(name) => { Err(exists(name, Cause::Exists)) }
+            _ => Ok(()),
+        },
+        Task::Restore { .. } => {
+            journal_in(bytes)?;
+            Ok(())
+        }
+        _ => Ok(()),
+    }
+}

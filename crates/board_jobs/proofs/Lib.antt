@@ -1,0 +1,7 @@
+pub mod Found
+pub mod Merged
+pub mod Sent
+pub mod RestRead
+pub mod Restored
+pub mod Named
+pub mod Locks

@@ -1,0 +1,10 @@
+pub mod Backups
+pub mod Following
+pub mod Rest
+pub mod Restoring
+pub mod Jobs
+pub mod Sends
+pub mod Further
+pub mod StatusLocks
+pub mod Strays
+pub mod Ending

@@ -1,0 +1,90 @@
+-- The unsaved sectors, those that a restore's journal doesn't save: what the chip replied to their reads before and
+-- after it.
+use Rattle.std.specs.Prelude.{◌≡◌, ◌<◌, ◌/◌, ◌*◌, ◌++◌, ℕ, Bool, true, false, List, Some, Result, Ok, Err, length}
+use Rattle.std.specs.Prelude.{slice_index}
+use Rattle.std.specs.List.{All}
+use Rattle.nor_model.specs.Bus.{BusState}
+use Rattle.nor_model.specs.Exchange.{Exchange}
+use Rattle.nor_model.specs.History.{last_reply, names}
+use Rattle.nor_driver.specs.OnlyReads.{HasStopped, OnlyReads}
+use Rattle.nor_journal.specs.Saved.{IsWholeSector, is_saved}
+use Rattle.nor_journal.specs.Text.{Content as Journal}
+use Rattle.nor_plan.specs.Bytes.{AllAgree, IsFirstDifference}
+use Rattle.nor_request.specs.declared.refusal.Refusal.{Refusal}
+use Rattle.nor_request.specs.declared.refusal.Refusal.TheVariants.{Mismatch, Stopped}
+use Rattle.nor_console.specs.declared.answers.Answer.{Answer}
+use Rattle.board_jobs.specs.declared.chip_faults.JobFault.{JobFault}
+use Rattle.board_jobs.specs.declared.chip_faults.JobFault.TheVariants as ended
+
+-- Holds for a read (03h) of a sector that the journal doesn't save, at which the bus didn't stop.
+pub record IsRestRead (journal : Journal) (exchange : Exchange) : Type 0 where
+  pub sector : ℕ
+  pub bytes : List ℕ
+  pub unsaved : is_saved journal sector ≡ false
+  pub reads : names 0x03 (4096 * sector) exchange.out ≡ true
+  pub replied : exchange.reply ≡ Some bytes
+
+-- Holds if `bytes` has one byte for each address of the chip, and FFh in each sector that the journal saves.
+pub record AreUnsaved (journal : Journal) (bytes : List ℕ) : Type 0 where
+  pub long : length bytes ≡ journal.size
+  pub saved : (a : ℕ) → a < journal.size → is_saved journal (a / 4096) ≡ true → slice_index bytes a ≡ 255
+
+-- Holds if exactly the sectors that the journal doesn't save were read after `old`. `bytes` has the last reply for
+-- each, and FFh elsewhere.
+pub record HasReadRest (journal : Journal) (bytes : List ℕ) (old new : BusState) : Type 0 where
+  pub only_reads : OnlyReads (journal.size / 4096) old new
+  pub later : List Exchange
+  pub is : new.history ≡ later ++ old.history
+  pub only : All (IsRestRead journal) later
+  pub replied : (s : ℕ) → s < journal.size / 4096 → is_saved journal s ≡ false
+      → IsWholeSector (slice_index bytes) s (last_reply (names 0x03 (4096 * s)) later)
+  pub unsaved : AreUnsaved journal bytes
+
+-- Holds if the bus stopped while the unsaved sectors were read, and nothing was sent after that.
+pub record HasStoppedInRest (journal : Journal) (old new : BusState) : Type 0 where
+  pub only_reads : OnlyReads (journal.size / 4096) old new
+  pub stopped : HasStopped (journal.size / 4096) old new
+
+-- ---- the comparison after a restore
+
+-- True if the unsaved sectors are compared after a restore with this outcome. They aren't after error 12 (the bus
+-- stopped) or 13 (a busy chip ignores reads), nor after an error that left the chip as it was.
+abbrev pub is_followed : Result Answer Refusal → Bool
+is_followed (Ok answer) = true
+is_followed (Err (Mismatch address)) = true
+is_followed (Err refusal) = false
+
+-- Holds if the unsaved sectors were read again, and were as before the restore (`rest`).
+pub record HasKeptRest (journal : Journal) (rest : List ℕ) (old new : BusState) : Type 0 where
+  pub again : List ℕ
+  pub read : HasReadRest journal again old new
+  pub equal : AllAgree rest again
+
+abbrev pub FollowsRestore : (followed : Bool) → Journal → (rest : List ℕ) → (old new : BusState) → Type 0
+FollowsRestore true journal rest old new = HasKeptRest journal rest old new
+FollowsRestore false journal rest old new = new ≡ old
+
+-- Holds if the unsaved sectors were read again, and the byte at `address` is the first that differs.
+pub record HasLostRest (journal : Journal) (rest : List ℕ) (old new : BusState) (address : ℕ) : Type 0 where
+  pub again : List ℕ
+  pub read : HasReadRest journal again old new
+  pub first : IsFirstDifference rest again address
+  pub unsaved : is_saved journal (address / 4096) ≡ false
+
+-- Holds if the comparison after a restore failed: with error 12 if the bus stopped, or 14 if a byte differs.
+abbrev pub FailsRest : Journal → (rest : List ℕ) → (old new : BusState) → Refusal → Type 0
+FailsRest journal rest old new Stopped = HasStoppedInRest journal old new
+FailsRest journal rest old new (Mismatch address) = HasLostRest journal rest old new address
+FailsRest journal rest old new _ = ⊥
+
+pub record FailsAfterRestore (outcome : Result Answer Refusal) (journal : Journal) (rest : List ℕ) (old new : BusState)
+    (restored : Result Answer Refusal) (refusal : Refusal) : Type 0 where
+  pub same : restored ≡ outcome
+  pub followed : is_followed outcome ≡ true
+  pub fails : FailsRest journal rest old new refusal
+
+abbrev pub FailsToFollowRestore : Result Answer Refusal → Journal → (rest : List ℕ) → (old new : BusState) → JobFault
+    → Type 0
+FailsToFollowRestore outcome journal rest old new (ended.RestNotCompared restored refusal) =
+    FailsAfterRestore outcome journal rest old new restored refusal
+FailsToFollowRestore outcome journal rest old new _ = ⊥

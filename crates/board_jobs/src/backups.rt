@@ -1,0 +1,47 @@
+//! Saves a whole chip in a new journal.
+ghost use Rattle.std.specs.Prelude.{◌≡◌, IfErr, IfOk, true};
+ghost use Rattle.nor_files.specs.Files.{OthersStay, is_lawful};
+ghost use Rattle.board_jobs.specs.Backups.{IsExistingBackup};
+ghost use Rattle.board_jobs.specs.Jobs.{FailsToRead, HasBackedUpChip};
+
+use board_progress::Progress;
+use nor_args::{Operation, Task};
+use nor_console::{Cause, Fault, Outcome, backup_in_file, exists};
+use nor_files::Store;
+use nor_geometry::SECTOR_LEN;
+use nor_jobs::find_first;
+use nor_probe::ChipName;
+
+/// Checks that the file which a backup is to create does not exist (file fault 4). Does nothing for other jobs.
+pub fn check_new<'a, R: Store>(rt: &R, operation: &Operation<'a>) -> Result<(), Fault<'a>>
+    ensures { IfErr result (IsExistingBackup (R.state rt.now).view operation.now) }
+{
+    match &operation.task {
+        Task::Read { file, .. } if operation.is_backup && rt.is_there(*file) => {
+            Err(exists(*file, Cause::Exists))
+        }
+        _ => Ok(()),
+    }
+}
+
+/// Identifies the chip, and then saves it in a journal in a new file, so without a chip no file is created. Sends no
+/// modifying command.
+///
+/// The outer error is a fault of these two steps. After the inner error, one of `backup`, the file may hold only a part
+/// of the journal.
+pub fn backup_chip<'a, R: Store, B: Progress>(
+    rt: &mut R,
+    bus: &mut B,
+    named: Option<ChipName>,
+    file: &'a str,
+) -> Result<Outcome, Fault<'a>>
+    ensures ok { IfOk result (HasBackedUpChip named file.now (R.state rt.old).view (R.state rt.new)
+        (B.state bus.old) (B.state bus.new)) }
+    ensures err { IfErr result (FailsToRead named file.now (R.state rt.old).view (B.state bus.old) (B.state bus.new)) }
+    ensures others { is_lawful (R.state rt.old).view ≡ true
+        → OthersStay file.now (R.state rt.old) (R.state rt.new) }
+{
+    let found = find_first(bus, named)?;
+    bus.expect_reads((found.size / SECTOR_LEN) as usize);
+    backup_in_file(rt, bus, named, file)
+}

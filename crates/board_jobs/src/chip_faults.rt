@@ -1,0 +1,186 @@
+//! The faults with which a job ends, and the lines of those that only this program has.
+ghost use Rattle.std.specs.Prelude.{◌≡◌};
+
+use board_progress::StatusLine;
+use nor_buses::CheckFault;
+use nor_console::{Fault, Outcome};
+use nor_driver::OperationError;
+use nor_session::Refusal;
+use std::alloc::AllocError;
+use std::fmt;
+
+/// The fault with which a job ends, displayed as its line on standard error.
+#[derive(Drop)]
+pub enum JobFault<'a> {
+    /// A fault that `flashnor` reports too, with the same line.
+    Fault(Fault<'a>),
+    /// Chip fault 1, before a write or an erase: the chip has no row, and one of the bits 2 to 6 of its status 1 is
+    /// set. Nothing was changed, and the journal was not created.
+    Protected { status1: u8 },
+    /// Chip fault 3, of a change of SRP0: `sent` was written, and the status registers were read back as `found`.
+    NotStored { sent: [u8; 2], found: [u8; 2] },
+    /// The change was made and read back; then the comparison of the whole chip returned this error (14: chip fault 4).
+    NotCompared { refusal: Refusal },
+    /// After a restore with this outcome, whose error is printed before, the comparison of the sectors that the journal
+    /// doesn't save returned this error (14: chip fault 4; 12: the bus stopped).
+    RestNotCompared { outcome: Outcome, refusal: Refusal },
+}
+
+impl<'a> From<Fault<'a>> for JobFault<'a> {
+    ghost use Rattle.board_jobs.specs.declared.chip_faults.JobFault.TheVariants as ended;
+
+    ghost from_gives = { λ fault of_job. of_job ≡ ended.Fault fault };
+
+    fn from(fault: Fault<'a>) -> JobFault<'a> {
+        JobFault::Fault(fault)
+    }
+}
+
+impl From<Refusal> for JobFault<'_> {
+    ghost use Rattle.board_jobs.specs.declared.chip_faults.JobFault.TheVariants as ended;
+    ghost use Rattle.nor_console.specs.declared.messages.Fault.TheVariants.{Refused};
+
+    ghost from_gives = { λ refusal of_job. of_job ≡ ended.Fault (Refused refusal) };
+
+    fn from(refusal: Refusal) -> Self {
+        JobFault::Fault(Fault::Refused(refusal))
+    }
+}
+
+impl From<OperationError> for JobFault<'_> {
+    ghost use Rattle.board_jobs.specs.declared.chip_faults.JobFault.TheVariants as ended;
+    ghost use Rattle.nor_console.specs.declared.messages.Fault.TheVariants.{Refused};
+    ghost use Rattle.nor_request.specs.Refusal.{of_operation};
+
+    ghost from_gives = { λ error of_job. of_job ≡ ended.Fault (Refused (of_operation error)) };
+
+    fn from(error: OperationError) -> Self {
+        JobFault::from(Refusal::from(error))
+    }
+}
+
+impl From<AllocError> for JobFault<'_> {
+    ghost use Rattle.board_jobs.specs.declared.chip_faults.JobFault.TheVariants as ended;
+    ghost use Rattle.nor_console.specs.declared.messages.Fault.TheVariants.{Refused};
+    ghost use Rattle.nor_request.specs.declared.refusal.Refusal.TheVariants.{Memory};
+
+    ghost from_gives = { λ _ of_job. of_job ≡ ended.Fault (Refused Memory) };
+
+    fn from(error: AllocError) -> Self {
+        JobFault::Fault(Fault::from(error))
+    }
+}
+
+impl JobFault<'_> {
+    /// True for error 12: the bus stopped.
+    pub fn is_stop(&self) -> bool {
+        matches!(
+            self,
+            JobFault::Fault(Fault::Refused(Refusal::Stopped))
+                | JobFault::NotCompared {
+                    refusal: Refusal::Stopped
+                }
+                | JobFault::RestNotCompared {
+                    refusal: Refusal::Stopped,
+                    ..
+                }
+        )
+    }
+
+    /// True if the change or the restore was completed, and only the comparison after it failed.
+    pub fn follows_completion(&self) -> bool {
+        matches!(
+            self,
+            JobFault::NotCompared { .. } | JobFault::RestNotCompared { outcome: Ok(_), .. }
+        )
+    }
+
+    /// Returns a last line for a comparison after the change or restore that failed with another error than a
+    /// difference.
+    pub fn note(&self) -> Option<&'static str> {
+        match self {
+            JobFault::NotCompared {
+                refusal: Refusal::Mismatch { .. },
+            } => None,
+            JobFault::NotCompared { .. } => Some(NOT_COMPARED),
+            JobFault::RestNotCompared {
+                refusal: Refusal::Mismatch { .. },
+                ..
+            } => None,
+            JobFault::RestNotCompared { .. } => Some(REST_NOT_COMPARED),
+            _ => None,
+        }
+    }
+}
+
+const NOT_COMPARED: &str =
+    "The change was made, and its sectors were verified. Only the comparison \
+    of the whole chip is missing.";
+
+const REST_NOT_COMPARED: &str =
+    "The sectors that the journal doesn't save were not compared after the restore. \
+    Compare the chip with a backup.";
+
+impl fmt::Display for JobFault<'_> {
+    fn fmt<W: fmt::Write>(&self, f: &mut fmt::Formatter<W>) -> fmt::Result {
+        match self {
+            JobFault::Fault(fault) => write!(f, "{fault}"),
+            JobFault::Protected { status1 } => {
+                let advice = match *status1 & 0x7C {
+                    0x40 => MAYBE_QUAD,
+                    _ => PROTECTED,
+                };
+                write!(
+                    f,
+                    "Chip fault 1: status 1 of this chip is {status1:02X}h. {advice}"
+                )
+            }
+            JobFault::NotStored { sent, found } => {
+                let (sent, found) = (*sent, *found);
+                write!(f, "{}", StatusLine(CheckFault::NotStored { sent, found }))
+            }
+            JobFault::NotCompared {
+                refusal: Refusal::Mismatch { address },
+            } => write!(
+                f,
+                "Chip fault 4: the chip differs from its target at 0x{address:06x}. {DIFFERS}"
+            ),
+            JobFault::NotCompared { refusal } => write_error(f, refusal),
+            JobFault::RestNotCompared { outcome, refusal } => {
+                if let Err(error) = outcome {
+                    write_error(f, error)?;
+                    f.write_str("\n")?;
+                }
+                match refusal {
+                    Refusal::Mismatch { address } => write!(
+                        f,
+                        "Chip fault 4: the chip differs at 0x{address:06x} from what was read \
+                        before this restore. {REST_DIFFERS}"
+                    ),
+                    _ => write_error(f, refusal),
+                }
+            }
+        }
+    }
+}
+
+fn write_error<W: fmt::Write>(f: &mut fmt::Formatter<W>, error: &Refusal) -> fmt::Result {
+    write!(f, "Error {}: {error}.", error.number())
+}
+
+const PROTECTED: &str = "On nearly every chip its bits 2 to 6 protect sectors, and this program \
+    doesn't know what they mean on this chip. Nothing was changed. Clear these bits with another \
+    tool (flashrom --wp-disable, then flashrom --wp-range=0,0), and try again.";
+
+const MAYBE_QUAD: &str =
+    "Its bit 6 may protect sectors, as on Winbond's chips. Or it is QE, as on those of Macronix and ISSI, but \
+    then this chip's SFDP doesn't say so. Nothing was changed. If the datasheet says that bit 6 is QE, write \
+    this chip with another tool (flashrom), or clear QE if the board doesn't need it, and try again.";
+
+const DIFFERS: &str = "The sectors of this change were verified, so this address is probably in \
+    another sector, which a disturbed address on the wire has erased or programmed. Restore the chip \
+    with --restore and the journal, then compare it with a backup.";
+
+const REST_DIFFERS: &str = "The journal doesn't save this sector, which a disturbed address on the \
+    wire has probably erased or programmed. Restore this sector from a backup. Repeating this restore \
+    won't report it again, because the next run compares with what the sector holds now.";

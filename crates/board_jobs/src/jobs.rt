@@ -1,0 +1,227 @@
+//! Performs a job on a chip, over any bus.
+ghost use Rattle.std.specs.Prelude.{◌≡◌, IfErr, IfOk, Ok, option_copied, true};
+ghost use Rattle.nor_files.specs.Files.{Name, OthersStay, KeepsFile, is_lawful};
+ghost use Rattle.nor_console.specs.Tasks.{journal_of, made_by};
+ghost use Rattle.nor_console.specs.Readings.{HasVerified};
+ghost use Rattle.nor_console.specs.Stored.{IsNot};
+ghost use Rattle.board_jobs.specs.Jobs.{DoesTask, FailsChange, FailsPerform, FailsToAdmit, FailsToFill};
+ghost use Rattle.board_jobs.specs.Jobs.{EndsJob, FailsToRead, HasChangedBy, HasReadChip, IsBufferOf};
+ghost use Rattle.board_jobs.specs.Jobs.{IsChangeable, IsEndedAs};
+ghost use Rattle.board_jobs.specs.Sends.{SendsOnly};
+ghost use Rattle.board_jobs.specs.Jobs.{may_be_protected};
+ghost use Rattle.board_files.specs.Tasks.{changes_bytes};
+
+use crate::backups::backup_chip;
+use crate::chip_faults::JobFault;
+use crate::following::{complete, follow, ranges_if, sectors_before_change, sectors_to_read};
+use crate::restoring::restore_chip;
+use board_files::{changes_bytes, is_compared};
+use board_progress::{Progress, StatusWrite, Terminal};
+use nor_args::{Change, JournalUse, Operation, Reason, Task, UsageFault, Wanted};
+use nor_console::{
+    Answer, Fault, Outcome, list_ranges, read_to_file, report_protection, request_for,
+    session_in_file, verify_image,
+};
+use nor_files::Store;
+use nor_jobs::{Sources, asked_bytes, find_chip, find_first, report_size};
+use nor_layout::Ranges;
+use nor_model::Bus;
+use nor_probe::{ChipName, Found};
+use nor_session::Refusal;
+use std::alloc::{AllocError, Global};
+
+// Performs the job that the arguments ask for, with the contents of the files that it needs. `terminal` receives the
+// line that says what a session or restore will change. An error is a fault before the call to the engine, or in the
+// comparison after a write, an erase or a restore. The clauses hold on every bus.
+//
+// Except for the task's own file, each file stays as it was, if files obey the contract of `Store`. A read, backup,
+// write or erase identifies the chip before this file is created or truncated, so the file is kept if there is no
+// chip.
+fn perform<'a, R: Store, B: Progress>(
+    rt: &mut R,
+    bus: &mut B,
+    terminal: Terminal<'_>,
+    operation: &Operation<'a>,
+    sources: Sources,
+) -> Result<Outcome, JobFault<'a>>
+    ensures ok { IfOk result (DoesTask operation.now operation.now.task sources.included sources.bytes.items
+        (R.state rt.old).view (R.state rt.new) (B.state bus.old) (B.state bus.new)) }
+    ensures err { IfErr result (FailsPerform operation.now operation.now.task sources.included sources.bytes.items
+        (R.state rt.old).view (R.state rt.new) (B.state bus.old) (B.state bus.new)) }
+    ensures others { is_lawful (R.state rt.old).view ≡ true → (name : Name)
+        → IsNot (R.state rt.old).view.nature (made_by operation.now.task) name
+        → KeepsFile name (R.state rt.old) (R.state rt.new) }
+{
+    let named = operation.named;
+    match &operation.task {
+        Task::Read { file, .. } if operation.is_backup => Ok(backup_chip(rt, bus, named, *file)?),
+        Task::Read { file, .. } => Ok(read_chip(rt, bus, named, *file, sources.included.as_ref())?),
+        Task::Verify { .. } => Ok(verify_chip(bus, named, sources)),
+        Task::Change(change) => change_chip(rt, bus, terminal, operation, change, sources),
+        Task::Restore { .. } => {
+            restore_chip(bus, terminal, operation, &sources.bytes, rt.alloc())
+        }
+        Task::Probe => Ok(find_chip(bus, named)),
+        Task::FlashSize => Ok(report_size(bus, named)),
+        Task::WpStatus => Ok(report_protection(bus, named)),
+        Task::WpList => Ok(list_ranges(bus, named)),
+    }
+}
+
+/// Performs a job, and returns its answer or its fault.
+pub fn end_job<'a, R: Store, B: Progress>(
+    files: &mut R,
+    bus: &mut B,
+    terminal: Terminal<'_>,
+    operation: &Operation<'a>,
+    sources: Sources,
+) -> Result<Answer, JobFault<'a>>
+    ensures ends { EndsJob operation.now sources.included sources.bytes.items (R.state files.old).view
+        (R.state files.new) (B.state bus.old) (B.state bus.new) result }
+    ensures sends { SendsOnly operation.now.task sources.bytes.items (B.state bus.old) (B.state bus.new)
+        (R.state files.new) }
+{
+    let outcome = perform(files, bus, terminal, operation, sources)?;
+    end_call(outcome)
+}
+
+// Returns the result of a call as a job reports it: an error of the call is a fault of the job.
+fn end_call<'a>(outcome: Outcome) -> Result<Answer, JobFault<'a>>
+    ensures { IsEndedAs outcome result }
+{
+    match outcome {
+        Ok(answer) => Ok(answer),
+        Err(refusal) => Err(JobFault::Fault(Fault::Refused(refusal))),
+    }
+}
+
+fn find_changeable<'a, B: Bus>(bus: &mut B, named: Option<ChipName>) -> Result<Found, JobFault<'a>>
+    ensures ok { IfOk result (IsChangeable named (B.state bus.old) (B.state bus.new)) }
+    ensures err { IfErr result (FailsToAdmit named (B.state bus.old) (B.state bus.new)) }
+{
+    let found = find_first(bus, named)?;
+    if may_be_protected(&found) {
+        return Err(JobFault::Protected {
+            status1: found.status1,
+        });
+    }
+    Ok(found)
+}
+
+fn may_be_protected(found: &Found) -> bool
+    ensures { result ≡ may_be_protected found.now }
+{
+    !found.scheme && found.status1 & PROTECTION_BITS != 0
+}
+
+// Bits 2 to 6 of status 1, which protect sectors on nearly every chip.
+const PROTECTION_BITS: u8 = 0x7C;
+
+fn read_chip<'a, R: Store, B: Progress>(
+    rt: &mut R,
+    bus: &mut B,
+    named: Option<ChipName>,
+    file: &'a str,
+    included: Option<&Ranges>,
+) -> Result<Outcome, Fault<'a>>
+    ensures ok { IfOk result (HasReadChip named file.now (option_copied included.entry) (R.state rt.new).view
+        (B.state bus.old) (B.state bus.new)) }
+    ensures err { IfErr result (FailsToRead named file.now (R.state rt.old).view (B.state bus.old) (B.state bus.new)) }
+    ensures others { is_lawful (R.state rt.old).view ≡ true
+        → OthersStay file.now (R.state rt.old) (R.state rt.new) }
+{
+    let found = find_first(bus, named)?;
+    bus.expect_reads(sectors_to_read(found.size as usize, included));
+    read_to_file(rt, bus, named, file, included)
+}
+
+fn verify_chip<B: Progress>(bus: &mut B, named: Option<ChipName>, sources: Sources) -> Outcome
+    ensures { HasVerified named sources.included sources.bytes.items (B.state bus.old) (B.state bus.new) result }
+{
+    let Sources { included, bytes } = sources;
+    bus.expect_reads(sectors_to_read(bytes.len(), included.as_ref()));
+    verify_image(bus, named, &bytes, included.as_ref())
+}
+
+// The target of a change of regions has the chip's own bytes outside them. A rehearsal is refused with a usage fault.
+fn change_chip<'a, R: Store, B: Progress>(
+    rt: &mut R,
+    bus: &mut B,
+    terminal: Terminal<'_>,
+    operation: &Operation<'a>,
+    change: &Change<'a>,
+    sources: Sources,
+) -> Result<Outcome, JobFault<'a>>
+    ensures ok { IfOk result (HasChangedBy operation.now change.now sources.included sources.bytes.items
+        change.now.journal_use (R.state rt.old).view (R.state rt.new) (B.state bus.old) (B.state bus.new)) }
+    ensures err { IfErr result (FailsChange operation.now change.now sources.included sources.bytes.items
+        change.now.journal_use (R.state rt.old).view (R.state rt.new) (B.state bus.old) (B.state bus.new)) }
+    ensures others { is_lawful (R.state rt.old).view ≡ true → (name : Name)
+        → IsNot (R.state rt.old).view.nature (journal_of change.now.journal_use) name
+        → KeepsFile name (R.state rt.old) (R.state rt.new) }
+{
+    let JournalUse::Journal { file } = &change.journal_use else {
+        return Err(JobFault::Fault(Fault::Usage {
+            fault: UsageFault::Journal,
+            reason: Reason::Unsaid,
+        }));
+    };
+    let named = operation.named;
+    let compared = is_compared(operation, change);
+    let Sources { included, bytes } = sources;
+    let request = request_for(change, named, included);
+    let ranges = ranges_if(compared, request.included.as_ref());
+    let target = fill_buffer(bus, named, change.wanted, ranges, bytes, rt.alloc())?;
+    let mut image = copy_of(&target, rt.alloc())?;
+    bus.expect_reads(sectors_before_change(
+        image.len(),
+        request.included.as_ref(),
+        ranges.is_some(),
+    ));
+    let outcome = session_in_file(rt, bus, *file, &mut image, &request, |announcement| {
+        terminal.print_session(announcement)
+    })?;
+    terminal.record_journal();
+    follow(bus, outcome, compared, named, &target)
+}
+
+fn copy_of(bytes: &[u8], alloc: Global) -> Result<Vec<u8>, AllocError>
+    ensures { IfOk result (λ copy. copy.items ≡ bytes.now) }
+{
+    bytes.to_vec(alloc)
+}
+
+/// Returns whether a task may write the status; `saved` has the status bytes in the journal of a restore.
+pub fn status_write_of(task: &Task<'_>, saved: Option<[u8; 2]>) -> StatusWrite {
+    match task {
+        Task::Change(change) if !changes_bytes(change.wanted) => StatusWrite::OnAnyChip,
+        Task::Change(change) if change.unlock => StatusWrite::IfProtected,
+        Task::Restore { .. } => match saved {
+            Some(saved) => StatusWrite::Restoring(saved),
+            None => StatusWrite::IfProtected,
+        },
+        _ => StatusWrite::Never,
+    }
+}
+
+// Returns the target of a write or an erase, after identifying the chip, or `bytes` for a change of protection.
+fn fill_buffer<'a, B: Progress>(
+    bus: &mut B,
+    named: Option<ChipName>,
+    wanted: Wanted<'a>,
+    ranges: Option<&Ranges>,
+    bytes: Vec<u8>,
+    alloc: Global,
+) -> Result<Vec<u8>, JobFault<'a>>
+    ensures ok { IfOk result (λ image. IsBufferOf named wanted.entry (option_copied ranges.entry) bytes.items
+        (B.state bus.old) (B.state bus.new) image.items) }
+    ensures err { IfErr result (FailsToFill named wanted.entry (option_copied ranges.entry) bytes.items
+        (B.state bus.old) (B.state bus.new)) }
+{
+    if !changes_bytes(wanted) {
+        return Ok(bytes);
+    }
+    let found = find_changeable(bus, named)?;
+    let asked = asked_bytes(alloc, wanted, found.size, bytes)?;
+    Ok(complete(bus, named, found.size, ranges, asked, alloc)?)
+}

@@ -1,0 +1,91 @@
+//! The sectors that a restore's journal doesn't save: reads them before the restore, and compares them after it.
+ghost use Rattle.std.specs.Prelude.{◌≡◌, ◌≤◌, ◌<◌, ◌^◌, IfErr, OnErr, OnOk, length, replicate};
+ghost use Rattle.nor_journal.specs.Saved.{is_saved};
+ghost use Rattle.board_jobs.specs.Rest.{AreUnsaved, FailsRest, HasKeptRest, HasReadRest};
+ghost use Rattle.board_jobs.specs.Rest.{HasStoppedInRest, is_followed};
+
+use board_files::sectors_of;
+use board_progress::Progress;
+use nor_console::Outcome;
+use nor_driver::read_sector;
+use nor_geometry::SECTOR_LEN;
+use nor_journal::Journal;
+use nor_model::Stopped;
+use nor_plan::bounds;
+use nor_session::Refusal;
+
+// The number of sectors in 64 KiB, the longest block that is read at once.
+const LONGEST_RUN: u32 = 16;
+
+/// Reads each sector that the journal doesn't save into `bytes`, which must have one FFh for each byte of the chip.
+///
+/// Two reads of a saved sector may differ after an interrupted operation, and would end the job. Therefore no saved
+/// sector is read, not even ahead.
+pub fn read_rest<B: Progress>(
+    bus: &mut B,
+    journal: &Journal<'_>,
+    bytes: &mut [u8],
+) -> Result<(), Stopped>
+    requires { bytes.old ≡ replicate journal.now.size 255 }
+    ensures ok { OnOk result (HasReadRest journal.now bytes.new (B.state bus.old) (B.state bus.new)) }
+    ensures err { OnErr result (HasStoppedInRest journal.now (B.state bus.old) (B.state bus.new)) }
+{
+    for sector in 0..sectors_of(journal) {
+        if !saves(journal, sector) {
+            bus.end_blocks_at(SECTOR_LEN * next_saved(journal, sector));
+            let start = (SECTOR_LEN * sector) as usize;
+            read_sector(bus, sector, &mut bytes[start..start + SECTOR_LEN as usize])?;
+        }
+    }
+    bus.end_blocks_at(u32::MAX);
+    Ok(())
+}
+
+fn next_saved(journal: &Journal<'_>, sector: u32) -> u32
+    requires { sector < 4096 }
+    ensures { result ≤ 4112 }
+{
+    for next in sector..sector + LONGEST_RUN {
+        if saves(journal, next) {
+            return next;
+        }
+    }
+    sector + LONGEST_RUN
+}
+
+fn saves(journal: &Journal<'_>, sector: u32) -> bool
+    ensures { result ≡ is_saved journal.now sector }
+{
+    journal.find(sector).is_some()
+}
+
+/// Reads the sectors that the journal doesn't save into `again`, which must have one FFh for each byte of the chip, and
+/// compares them with `rest`, their bytes before the restore. Returns error 14 with the first address that differs, or
+/// error 12 if the bus stopped.
+pub fn compare_rest<B: Progress>(
+    bus: &mut B,
+    journal: &Journal<'_>,
+    rest: &[u8],
+    again: &mut [u8],
+) -> Result<(), Refusal>
+    requires blank { again.old ≡ replicate journal.now.size 255 }
+    requires read { AreUnsaved journal.now rest.now }
+    requires short { length rest.now < 2 ^ 32 }
+    ensures ok { OnOk result (HasKeptRest journal.now rest.now (B.state bus.old) (B.state bus.new)) }
+    ensures err { IfErr result (FailsRest journal.now rest.now (B.state bus.old) (B.state bus.new)) }
+{
+    read_rest(bus, journal, &mut *again)?;
+    match bounds(rest, &*again) {
+        Some((first, _)) => Err(Refusal::Mismatch {
+            address: first as u32,
+        }),
+        None => Ok(()),
+    }
+}
+
+/// True if the comparison is made after a restore with this result: the restore succeeded, or it returned error 14.
+pub fn is_followed(outcome: &Outcome) -> bool
+    ensures { result ≡ is_followed outcome.now }
+{
+    matches!(outcome, Ok(_) | Err(Refusal::Mismatch { .. }))
+}

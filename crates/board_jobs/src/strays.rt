@@ -1,0 +1,270 @@
+//! The sectors that a run changed by accident: after a session that failed, and after a restore.
+ghost use Rattle.std.specs.Prelude.{◌≡◌, ◌≤◌};
+ghost use Rattle.nor_console.specs.Printing.{Prints};
+ghost use Rattle.board_jobs.specs.Strays.{IsAsBefore};
+ghost use Rattle.board_progress.specs.Shown.{notes_of};
+ghost use Rattle.board_jobs.specs.Ending.{AreJobLines};
+
+use crate::chip_faults::JobFault;
+use crate::ending::end_well;
+use board_files::{Before, UnknownLine, noting_journal, sums_name};
+use board_progress::{Notes, Shown};
+use nor_args::{Operation, Task};
+use nor_console::{Answer, Fault, named_by, unmade};
+use nor_driver::read_sector;
+use nor_files::Store;
+use nor_geometry::SECTOR_LEN;
+use nor_model::{Bus, Stopped};
+use nor_session::Refusal;
+use nor_sums::{Changed, SECTORS, find_changed, sum_of};
+use std::alloc::{AllocError, Global};
+use std::fmt;
+use std::io::Write;
+
+/// After a session that ended with error 14 or chip fault 4, reads each sector that the session read before its first
+/// modifying command and was not to change, and prints a line with those that differ. Prints nothing if none differs,
+/// or if the bus stops. After any other fault reads nothing, since the chip wasn't changed, can't be reached, or is
+/// busy.
+pub fn report_strays<'b, B: Bus + Drop, E: Write>(
+    errors: &mut E,
+    bus: &mut Shown<'b, B>,
+    fault: &JobFault<'_>,
+    operation: &Operation<'_>,
+)
+    ensures { (⟦<Shown<'b, B> as Bus>⟧.state bus.new).sent ≡ (⟦<Shown<'b, B> as Bus>⟧.state bus.old).sent }
+{
+    if !is_examined(fault, operation) {
+        return;
+    }
+    let Some(notes) = bus.end_notes() else {
+        return;
+    };
+    let terminal = bus.terminal();
+    terminal.print(&EXAMINED);
+    let found = find_strays(bus, &notes);
+    terminal.end_line();
+    match found {
+        Ok(strays) if strays.count > 0 => {
+            let _ = writeln!(errors, "{}", StraysLine(strays));
+        }
+        _ => {}
+    }
+}
+
+const EXAMINED: &str = "Comparing the other sectors with those before the change.";
+
+// True if the other sectors are read after this fault: after a write or an erase that ended with error 14 or chip
+// fault 4.
+fn is_examined(fault: &JobFault<'_>, operation: &Operation<'_>) -> bool {
+    let is_mismatch = matches!(
+        fault,
+        JobFault::Fault(Fault::Refused(Refusal::Mismatch { .. }))
+            | JobFault::NotCompared {
+                refusal: Refusal::Mismatch { .. }
+            }
+    );
+    is_mismatch && matches!(operation.task, Task::Change(_))
+}
+
+// Reads each sector whose sum before the first modifying command is known, unless a modifying command was to change it.
+// Returns those that differ.
+fn find_strays<B: Bus>(bus: &mut B, notes: &Notes) -> Result<Changed, Stopped>
+    ensures { (B.state bus.new).sent ≡ (B.state bus.old).sent }
+{
+    let mut strays = Changed::default();
+    let mut bytes = [0; SECTOR_LEN as usize];
+    for sector in 0..SECTORS as u32 {
+        if let Some(sum) = notes.before(sector as usize) {
+            read_sector(bus, sector, &mut bytes)?;
+            if sum_of(&bytes) != sum {
+                strays.add(sector);
+            }
+        }
+    }
+    Ok(strays)
+}
+
+// The line after a session that changed other sectors.
+#[derive(Clone, Copy, Drop)]
+struct StraysLine(Changed);
+
+impl fmt::Display for StraysLine {
+    fn fmt<W: fmt::Write>(&self, f: &mut fmt::Formatter<W>) -> fmt::Result {
+        write!(
+            f,
+            "Also changed, though the journal doesn't save it: {}. A disturbed address on the wire has probably erased \
+            or programmed it. After the restore, restore it from a backup.",
+            Places(self.0)
+        )
+    }
+}
+
+// The sectors that differ: the addresses of the first ones, and how many more there are.
+#[derive(Clone, Copy, Drop)]
+struct Places(Changed);
+
+impl fmt::Display for Places {
+    fn fmt<W: fmt::Write>(&self, f: &mut fmt::Formatter<W>) -> fmt::Result {
+        let Changed { count, first } = self.0;
+        f.write_str(if count == 1 {
+            "the sector at"
+        } else {
+            "the sectors at"
+        })?;
+        for (i, sector) in first.iter().enumerate() {
+            if i < count as usize {
+                f.write_str(if i == 0 { " " } else { ", " })?;
+                write!(f, "0x{:06x}", sector.saturating_mul(SECTOR_LEN))?;
+            }
+        }
+        if count as usize > first.len() {
+            write!(f, " and {} more", count as usize - first.len())?;
+        }
+        Ok(())
+    }
+}
+
+/// Notes the sums of the sectors that a session or a restore reads (`Notes`). Does nothing for other operations. Prints
+/// a line if memory runs out.
+pub fn begin_notes<'b, B: Bus + Drop, E: Write>(
+    errors: &mut E,
+    bus: &mut Shown<'b, B>,
+    operation: &Operation<'_>,
+    alloc: Global,
+)
+    ensures { ⟦<Shown<'b, B> as Bus>⟧.state bus.new ≡ ⟦<Shown<'b, B> as Bus>⟧.state bus.old }
+{
+    match new_notes(operation, alloc) {
+        Ok(Some(notes)) => bus.begin_notes(notes),
+        Ok(None) => {}
+        Err(_) => {
+            let _ = writeln!(errors, "{NO_NOTES}");
+        }
+    }
+}
+
+const NO_NOTES: &str =
+    "Out of memory: damage of sectors that the journal doesn't save may stay unnoticed.";
+
+// Returns empty notes for a session that has a file for the sums, or for a restore that is compared.
+fn new_notes(operation: &Operation<'_>, alloc: Global) -> Result<Option<Notes>, AllocError> {
+    match (noting_journal(operation), &operation.task) {
+        (Some(journal), _) => {
+            let name = sums_name(alloc, journal)?;
+            Ok(Some(Notes::new(alloc, Some(name))?))
+        }
+        (None, Task::Restore { .. }) if operation.verifies_all => {
+            Ok(Some(Notes::new(alloc, None)?))
+        }
+        _ => Ok(None),
+    }
+}
+
+/// Ends a run that succeeded. If it was a restore, and the sectors that its journal doesn't save differ from those
+/// before the session, prints chip fault 5. Otherwise prints the answer and, after a restore that could not be compared
+/// with the time before the session, a line that says so. After a session or a backup also prints file fault 2 if its
+/// journal was lost after it was sealed. Returns the exit status.
+pub fn end_compared<'b, R: Store, B: Bus + Drop, O: Write, E: Write>(
+    output: &mut O,
+    errors: &mut E,
+    files: &R,
+    bus: &Shown<'b, B>,
+    answer: Answer,
+    operation: &Operation<'_>,
+    before: &Before,
+) -> u8
+    ensures few { result ≤ 1 }
+    ensures printed { result ≡ 0
+        → Prints (AreJobLines operation.now answer) (O.contents output.old) (O.contents output.new) }
+    ensures same { result ≡ 0 → IsAsBefore before.now (notes_of bus.now) }
+{
+    let changed = changed_since(bus, before);
+    if changed.count > 0 {
+        let _ = writeln!(errors, "{}", ChangedText(changed));
+        return 1;
+    }
+    let status = end_well(output, errors, answer, operation, bus.replies().status);
+    report_unknown(errors, before, operation);
+    report_lost_journal(errors, files, operation, status)
+}
+
+// Returns the sectors whose sums after the restore aren't those before the session.
+fn changed_since<B>(bus: &Shown<'_, B>, before: &Before) -> Changed
+    ensures { result.count ≡ 0 → IsAsBefore before.now (notes_of bus.now) }
+{
+    match (before, bus.notes()) {
+        (Before::Known(sums), Some(notes)) => find_changed(sums, notes.after()),
+        _ => Changed::default(),
+    }
+}
+
+// The line of chip fault 5.
+#[derive(Clone, Copy, Drop)]
+struct ChangedText(Changed);
+
+impl fmt::Display for ChangedText {
+    fn fmt<W: fmt::Write>(&self, f: &mut fmt::Formatter<W>) -> fmt::Result {
+        write!(
+            f,
+            "Chip fault 5: the journal was restored, but the chip differs from before the session in {}. The journal \
+            doesn't save this. If a later session that you accepted or the running board (NVRAM, UEFI variables) has \
+            written there, it is right: don't restore it. Otherwise a disturbed address on the wire has probably \
+            changed it: restore it from a backup.",
+            Places(self.0)
+        )
+    }
+}
+
+// If a restore could not compare the sectors that its journal doesn't save with their sums before the session, prints a
+// line that says why.
+fn report_unknown<E: Write>(errors: &mut E, before: &Before, operation: &Operation<'_>) {
+    if let Task::Restore { journal } = &operation.task
+        && let Some(why) = before.why_unknown()
+    {
+        let _ = writeln!(
+            errors,
+            "{}",
+            UnknownLine {
+                journal: *journal,
+                why
+            }
+        );
+    }
+}
+
+/// Checks that the name of the journal that a session or a backup sealed still refers to its file, and that the file
+/// has its length. If not, prints file fault 2 with this name. Returns the exit status of the run: 1 if the fault was
+/// printed, and otherwise `status`.
+pub fn report_lost_journal<R: Store, E: Write>(
+    errors: &mut E,
+    files: &R,
+    operation: &Operation<'_>,
+    status: u8,
+) -> u8
+    ensures few { status ≤ 1 → result ≤ 1 }
+    ensures failed { result ≡ 0 → status ≡ 0 }
+{
+    match new_journal_of(operation) {
+        Some(name) if !files.is_kept(name) => {
+            let fault = unmade(name);
+            let _ = writeln!(errors, "{fault}");
+            let _ = writeln!(errors, "{IS_LOST}");
+            1
+        }
+        _ => status,
+    }
+}
+
+const IS_LOST: &str =
+    "After this run sealed the journal, another program removed, replaced or changed it: don't \
+    restore from a file with this name.";
+
+/// Returns the name of the journal that a session or a backup creates. `prepare` checked that there was no such file.
+pub fn new_journal_of<'a>(operation: &Operation<'a>) -> Option<&'a str> {
+    let named = named_by(&operation.task);
+    match &operation.task {
+        Task::Change(_) => named.journal,
+        _ if operation.is_backup => named.output,
+        _ => None,
+    }
+}

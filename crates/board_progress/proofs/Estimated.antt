@@ -1,0 +1,78 @@
+-- Examples of the numbers of the progress line, calculated by hand.
+use Rattle.std.proofs.Common.{◌≡◌, ◌^◌, ◌-◌, None, Some, refl}
+use Rattle.board_progress.specs.Estimates.{change_time, minutes_in, percent_of, seconds_in, tenths_of, time_for}
+
+-- the percentages of 0, 15, 16 and 17 of 16, of 0 of 0, of all but one sector of 16 MiB, and of the greatest numbers
+none_done : percent_of 0 16 ≡ Some 0
+none_done = refl
+
+nearly_done : percent_of 15 16 ≡ Some 93
+nearly_done = refl
+
+all_done : percent_of 16 16 ≡ Some 100
+all_done = refl
+
+too_many : percent_of 17 16 ≡ Some 100
+too_many = refl
+
+of_nothing : percent_of 0 0 ≡ None
+of_nothing = refl
+
+one_less : percent_of 4095 4096 ≡ Some 99
+one_less = refl
+
+most_done : percent_of (2 ^ 64 - 1) (2 ^ 64 - 1) ≡ Some 100
+most_done = refl
+
+-- 8 MiB in 8 s, 100 KiB in 60 s, no bytes in a second, no time, and a rate above the greatest `u64`
+whole_chip : tenths_of 8388608 8000000 ≡ Some 10240
+whole_chip = refl
+
+slow : tenths_of 102400 60000000 ≡ Some 16
+slow = refl
+
+no_bytes : tenths_of 0 1000000 ≡ Some 0
+no_bytes = refl
+
+no_time : tenths_of 4096 0 ≡ None
+no_time = refl
+
+too_fast : tenths_of (2 ^ 64 - 1) 1 ≡ Some (2 ^ 64 - 1)
+too_fast = refl
+
+-- 512 of 2048 sectors took 15 s
+three_quarters : time_for 1536 512 15000000 ≡ Some 45000000
+three_quarters = refl
+
+nothing_left : time_for 0 2048 60000000 ≡ Some 0
+nothing_left = refl
+
+nothing_done : time_for 2048 0 60000000 ≡ None
+nothing_done = refl
+
+-- 0 s, 1 microsecond less than 60 s, 60 s and 3600 s
+start : (minutes_in 0 ≡ 0) × (seconds_in 0 ≡ 0)
+start = (refl, refl)
+
+last_second : (minutes_in 59999999 ≡ 0) × (seconds_in 59999999 ≡ 59)
+last_second = (refl, refl)
+
+minute : (minutes_in 60000000 ≡ 1) × (seconds_in 60000000 ≡ 0)
+minute = (refl, refl)
+
+hour : (minutes_in 3600000000 ≡ 60) × (seconds_in 3600000000 ≡ 0)
+hour = (refl, refl)
+
+-- One sector: 45 ms, and 0.7 ms for each of 16 programs. 34 scattered sectors: 34 times as long. 16 sectors in one
+-- block: 150 ms and 179.2 ms. The 2,048 sectors of a W25Q64FV: 20 s and 22.9376 s.
+one_sector : change_time 1 1 ≡ 56200
+one_sector = refl
+
+scattered : change_time 34 34 ≡ 1910800
+scattered = refl
+
+one_block : change_time 16 1 ≡ 329200
+one_block = refl
+
+all_sectors : change_time 2048 1 ≡ 42937600
+all_sectors = refl

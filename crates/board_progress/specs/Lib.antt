@@ -1,0 +1,5 @@
+pub mod Logging
+pub mod Estimates
+pub mod Notes
+pub mod Logged
+pub mod Shown

@@ -1,0 +1,98 @@
+//! The lines of `-V`: one for each modifying transaction, one for each step that reads, and one if the bus stops.
+ghost use Rattle.std.specs.Prelude.{◌≡◌, IfSome};
+ghost use Rattle.nor_buses.specs.ReadsAs.{address_in};
+ghost use Rattle.board_progress.specs.Estimates.{millis_in, whole_seconds_in};
+
+use std::fmt;
+
+/// The line of a modifying transaction that sends `out`, with the transaction's name, and the time in microseconds
+/// since just before the programmer's device was opened.
+#[derive(Clone, Copy, Drop)]
+pub struct CommandText<'a> {
+    pub micros: u64,
+    pub name: &'static str,
+    pub out: &'a [u8],
+}
+
+/// Returns the name of a modifying transaction, or `None` for any other.
+pub fn command_name(out: &[u8]) -> Option<&'static str> {
+    match out {
+        [0x06, ..] => Some("write enable"),
+        [0x01, ..] => Some("write status"),
+        [0x02, ..] => Some("program"),
+        [0x20, ..] => Some("erase 4 KiB"),
+        [0x52, ..] => Some("erase 32 KiB"),
+        [0xD8, ..] => Some("erase 64 KiB"),
+        [0xC7, ..] => Some("erase chip"),
+        _ => None,
+    }
+}
+
+// Returns the three-byte address in the command `out`, and the number of bytes after this address. Returns `None` if
+// `out` has fewer than four bytes.
+fn address_and_len(out: &[u8]) -> Option<(u32, usize)>
+    ensures { IfSome result (λ found. found.0 ≡ address_in out.now) }
+{
+    match out {
+        [_, high, middle, low, data @ ..] => {
+            Some((u32::from_be_bytes([0, *high, *middle, *low]), data.len()))
+        }
+        _ => None,
+    }
+}
+
+impl fmt::Display for CommandText<'_> {
+    fn fmt<W: fmt::Write>(&self, f: &mut fmt::Formatter<W>) -> fmt::Result {
+        write!(f, "{} {}", Seconds(self.micros), self.name)?;
+        match (self.out, address_and_len(self.out)) {
+            ([0x01, data @ ..], _) => write!(f, ", {}", Bytes(data.len())),
+            (_, Some((address, 0))) => write!(f, " at 0x{address:06x}"),
+            (_, Some((address, len))) => write!(f, " {} at 0x{address:06x}", Bytes(len)),
+            _ => Ok(()),
+        }
+    }
+}
+
+// A number of bytes, with its noun.
+#[derive(Clone, Copy, Drop)]
+struct Bytes(usize);
+
+impl fmt::Display for Bytes {
+    fn fmt<W: fmt::Write>(&self, f: &mut fmt::Formatter<W>) -> fmt::Result {
+        let noun = if self.0 == 1 { "byte" } else { "bytes" };
+        write!(f, "{} {noun}", self.0)
+    }
+}
+
+/// The line for the start of a step that only reads, or for a stop of the bus. It has the step's name or `stopped`, and
+/// the time in microseconds since just before the programmer's device was opened.
+#[derive(Clone, Copy, Drop)]
+pub struct EventText {
+    pub micros: u64,
+    pub name: &'static str,
+}
+
+impl fmt::Display for EventText {
+    fn fmt<W: fmt::Write>(&self, f: &mut fmt::Formatter<W>) -> fmt::Result {
+        write!(f, "{} {}", Seconds(self.micros), self.name)
+    }
+}
+
+// A time in microseconds, printed as seconds with three decimals, as `61.005`.
+#[derive(Clone, Copy, Drop)]
+struct Seconds(u64);
+
+impl fmt::Display for Seconds {
+    fn fmt<W: fmt::Write>(&self, f: &mut fmt::Formatter<W>) -> fmt::Result {
+        let (seconds, millis) = split_millis(self.0);
+        write!(f, "{seconds}.{millis:03}")
+    }
+}
+
+// Returns the whole seconds of a time in microseconds, and the whole milliseconds that are left.
+fn split_millis(micros: u64) -> (u64, u64)
+    ensures seconds { result.0 ≡ whole_seconds_in micros }
+    ensures millis { result.1 ≡ millis_in micros }
+{
+    (micros / 1_000_000, micros % 1_000_000 / 1000)
+}

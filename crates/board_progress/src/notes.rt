@@ -1,0 +1,150 @@
+//! What a run notes about the sectors of the chip: the sum of each sector that it read before the first modifying
+//! command, and of each sector that it read in a comparison after the change.
+ghost use Rattle.std.specs.Prelude.{◌≡◌, ◌+◌, ◌*◌, ◌/◌};
+
+use crate::replies::Replies;
+use crate::steps::Phase;
+use crate::terminal::Terminal;
+use nor_console::Escaped;
+use nor_files::{Disk, Store};
+use nor_journal::Vault;
+use nor_sums::{SECTORS, SHEET_LEN, Sums, encode};
+use std::alloc::{AllocError, Global};
+use std::fmt;
+
+/// The sums that a run notes, and the file for them. All memory is allocated when the notes are made.
+///
+/// `before` has the last reply to a read of each sector before the first modifying command. After that command, a
+/// sector is unknown again if an erase or a program was to change it, so that all known sectors must stay as they were.
+/// `after` has the last reply to a read of each sector in the comparison after a restore; a session doesn't need it.
+#[derive(Drop)]
+pub struct Notes {
+    before: Sums,
+    after: Sums,
+    // the name of the file, and room for its bytes; `None` if the run writes no such file
+    file: Option<(String, Vec<u8>)>,
+}
+
+impl Notes {
+    ghost use Rattle.board_progress.specs.Notes.{after_of};
+
+    /// Returns empty notes. If a name is given, the notes are written to the file of this name before the first
+    /// modifying command (`write`). Returns an error if memory runs out.
+    pub fn new(alloc: Global, name: Option<String>) -> Result<Notes, AllocError> {
+        let file = match name {
+            Some(name) => Some((name, Vec::with_capacity(alloc, SHEET_LEN)?)),
+            None => None,
+        };
+        Ok(Notes {
+            before: Sums::new(alloc)?,
+            after: Sums::new(alloc)?,
+            file,
+        })
+    }
+
+    /// Notes a transaction that was carried out. If it read a whole sector, the sum of its reply is noted: in `before`
+    /// if no modifying command was sent, and in `after` if the comparison after a restore began. If it was an erase or
+    /// a program, the sectors that it was to change become unknown in `before`.
+    pub fn note(&mut self, phase: Phase, out: &[u8], reply: &[u8]) {
+        match (phase, read_sector_of(out, reply)) {
+            (Phase::Before, Some(sector)) => self.before.record(sector, reply),
+            (Phase::After, Some(sector)) if self.file.is_none() => {
+                self.after.record(sector, reply);
+            }
+            _ => self.forget(out),
+        }
+    }
+
+    // Makes the sectors unknown that an erase or a program is to change.
+    fn forget(&mut self, out: &[u8]) {
+        let (first, count) = match out {
+            [0x02 | 0x20, high, middle, ..] => (sector_at(*high, *middle), 1),
+            [0x52, high, middle, ..] => (sector_at(*high, *middle) / 8 * 8, 8),
+            [0xD8, high, middle, ..] => (sector_at(*high, *middle) / 16 * 16, 16),
+            [0xC7, ..] => (0, SECTORS),
+            _ => return,
+        };
+        for sector in first..first + count {
+            self.before.forget(sector);
+        }
+    }
+
+    /// Returns the sum of a sector before the first modifying command, or `None` if it isn't known or was to change.
+    pub fn before(&self, sector: usize) -> Option<[u8; 8]> {
+        self.before.get(sector)
+    }
+
+    /// Returns the sums of the comparison after a restore.
+    pub fn after(&self) -> &Sums
+        ensures { result.now ≡ after_of self.now }
+    {
+        &self.after
+    }
+
+    /// Writes the sums to the file, if the notes have one, and syncs it. Must be called before the first modifying
+    /// command. Prints a line if the file can't be written.
+    pub fn write(&mut self, terminal: Terminal<'_>, replies: Replies) {
+        let Some((name, room)) = &mut self.file else {
+            return;
+        };
+        let id = replies.id.unwrap_or([0; 3]);
+        let unique = replies.unique.unwrap_or([0; 8]);
+        let is_written = match encode(id, unique, &self.before, &mut *room) {
+            Ok(()) => store(
+                &mut Disk::new(terminal.rt()),
+                name.as_str(),
+                room.as_slice(),
+            ),
+            Err(_) => false,
+        };
+        if !is_written {
+            let line = UnwrittenLine(name.as_str());
+            terminal.end_line();
+            let _ = eprintln!(terminal.rt(); "{line}");
+            terminal.log().write_line(&line);
+        }
+    }
+}
+
+// Creates the file of this name with these bytes, and syncs it. Returns false if one of these steps fails, after which
+// the file may be missing or incomplete. Never overwrites a file.
+fn store<R: Store>(files: &mut R, name: &str, bytes: &[u8]) -> bool {
+    let Ok(mut vault) = files.vault_in_new(name) else {
+        return false;
+    };
+    let is_put = vault.put(bytes).is_ok() && vault.seal().is_ok();
+    files.return_vault(vault);
+    is_put
+}
+
+// The line before the first modifying command if the file of this name can't be written.
+#[derive(Clone, Copy, Drop)]
+struct UnwrittenLine<'a>(&'a str);
+
+impl fmt::Display for UnwrittenLine<'_> {
+    fn fmt<W: fmt::Write>(&self, f: &mut fmt::Formatter<W>) -> fmt::Result {
+        write!(
+            f,
+            "{} can't be written, so a restore won't find out whether another sector was damaged. The journal is \
+            sealed.",
+            Escaped(self.0)
+        )
+    }
+}
+
+// Returns the number of the sector that a transaction read, if it read all of one sector.
+fn read_sector_of(out: &[u8], reply: &[u8]) -> Option<usize> {
+    match out {
+        [0x03, high, middle, 0] if middle % 16 == 0 && reply.len() == 4096 => {
+            Some(sector_at(*high, *middle))
+        }
+        _ => None,
+    }
+}
+
+// Returns the number of the sector at the address with these upper two bytes.
+fn sector_at(high: u8, middle: u8) -> usize
+    ensures { result ≡ 16 * high + middle / 16 }
+{
+    16 * usize::from(high) + usize::from(middle) / 16
+}

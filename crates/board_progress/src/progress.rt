@@ -1,0 +1,345 @@
+//! A bus that shows the progress of a job on standard error: its steps, and lines before the first modifying command.
+ghost use Rattle.std.specs.Prelude.{◌≡◌};
+
+mod durations;
+mod expecting;
+mod minutes;
+mod noting;
+
+use crate::change_lines::SealedLine;
+use crate::gauge::Gauge;
+use crate::lock_bits::Lock;
+use crate::notes::Notes;
+use crate::replies::Replies;
+use crate::status_line::{are_equally_protected, protects};
+use crate::step_lines::{Counts, PlainLine};
+use crate::steps::{Phase, Step, Total, step_of};
+use crate::terminal::{Look, Terminal};
+use nor_model::{Bus, Stopped, is_changing};
+use std::time::Instant;
+
+// Bits of status 1 and 2 (W25Q64FV datasheet, Status Registers).
+const BUSY: u8 = 0x01;
+
+const QE: u8 = 0x02;
+
+// The line before the first modifying command of a restore.
+const CHANGED: &str = "The chip is changed from here on.";
+
+// Before that line, if SRP1 is set without SRP0 (W25Q64FV datasheet, Status Register Protect).
+const POWER_LOCKED: &str =
+    "Keep its power on: a loss of power clears SRP1, and a restore then ends with error 17.";
+
+// Before that line, if QE is set and the job may write the status.
+const QUAD: &str =
+    "Keep its power on: a status write that is cut off may clear QE, and a restore then ends with error 17.";
+
+const BUSY_CHIP: &str =
+    "The chip shows BUSY. If no erase is running, it has no contact or no supply: press Ctrl-C, and check both. \
+    (The run gives up after 400 seconds.)";
+
+// 256 polls take about a second (`Paced`) or more. Without contact all replies are FFh, which shows BUSY for 400
+// seconds.
+const POLLS_UNTIL_LINE: u32 = 256;
+
+/// A bus that shows the progress of a job. These functions leave its state, as contracts see it, the same.
+pub trait Progress: Bus {
+    /// Records that the job reads `sectors` sectors before it changes anything. The greatest number counts; if the
+    /// reads recorded before are done, more reads are a second scan.
+    fn expect_reads(&mut self, sectors: usize)
+        ensures { Self.state self.new ≡ Self.state self.old };
+
+    /// Records that the comparison after a change or restore begins, and how many sectors it will read.
+    fn expect_comparison(&mut self, sectors: usize)
+        ensures { Self.state self.new ≡ Self.state self.old };
+
+    /// Sets where each further block that is read ahead ends at the latest, unless a read needs more bytes (`u32::MAX`:
+    /// no limit).
+    fn end_blocks_at(&mut self, address: u32)
+        ensures { Self.state self.new ≡ Self.state self.old };
+}
+
+/// A bus that shows the progress of a job on standard error, as the `Look` of its `Terminal` says.
+///
+/// `Look::Line` rewrites one line (`StepLine`), at most ten times a second, and ends it if the step is complete.
+/// `Look::Plain` prints a line for the first transaction of a step and after each `Step::stride` further ones.
+/// `Look::Minutes` prints the line if nothing was printed for a minute, `Look::Hidden` only the lines of `-V`. The log
+/// (`-o`) has the plain lines, those of `-V`, and how long the change takes and took.
+///
+/// A step is known by the opcode of a transaction and the phase of the job. Before the first modifying command a line
+/// says that the chip is changed from here on; in a session it begins with `SEALED`. Contracts see the state of the bus
+/// inside.
+#[derive(Drop)]
+pub struct Shown<'a, B> {
+    bus: B,
+    terminal: Terminal<'a>,
+    in_session: bool,
+    // the name of the journal's file, if the job is a session and memory for the name was left
+    journal: Option<String>,
+    phase: Phase,
+    // the sectors of the present scan or comparison, if known
+    expected: Option<usize>,
+    counts: Counts,
+    gauge: Gauge,
+    // when the first modifying command was sent
+    changed: Option<Instant>,
+    status_write: StatusWrite,
+    // what the chip replied before the first modifying command
+    replies: Replies,
+    // how many polls showed BUSY before the ID was read
+    busy_polls: u32,
+    // when the last line was printed with `Look::Minutes`, or when the run began
+    said: Option<Instant>,
+    // the sums of the sectors that were read, if the job notes them
+    notes: Option<Notes>,
+}
+
+/// Whether a job may write the chip's status.
+#[derive(Clone, Copy)]
+pub enum StatusWrite {
+    Never,
+    /// Only on a chip whose protection bits may protect an address.
+    IfProtected,
+    /// On any chip, whatever its protection bits are.
+    OnAnyChip,
+    /// Only on a chip whose protection bits may protect an address, or differ from those of these status bytes.
+    Restoring([u8; 2]),
+}
+
+impl<'a, B: Bus + Drop> Shown<'a, B> {
+    ghost use Rattle.board_progress.specs.Shown.{shown_bus};
+
+    /// Returns a bus that shows the progress of the job on `bus`. `status_write` holds until `begin_job` replaces it.
+    pub fn new(bus: B, terminal: Terminal<'a>, status_write: StatusWrite) -> Shown<'a, B>
+        ensures { shown_bus result ≡ bus }
+    {
+        Shown {
+            bus,
+            terminal,
+            in_session: false,
+            journal: None,
+            phase: Phase::Before,
+            expected: None,
+            counts: Counts::default(),
+            gauge: Gauge::new(terminal.now()),
+            changed: None,
+            status_write,
+            replies: Replies::default(),
+            busy_polls: 0,
+            said: terminal.started(),
+            notes: None,
+        }
+    }
+
+    /// Returns the bus inside.
+    pub fn inner(&self) -> &B {
+        &self.bus
+    }
+
+    /// Returns the terminal that the progress is shown on.
+    pub fn terminal(&self) -> Terminal<'a> {
+        self.terminal
+    }
+
+    /// Returns what the chip replied before the first modifying command.
+    pub fn replies(&self) -> Replies {
+        self.replies
+    }
+
+    /// Records whether a session begins, whose journal is sealed before the first change, the name of the journal's
+    /// file, and whether the job may write the status.
+    pub fn begin_job(
+        &mut self,
+        in_session: bool,
+        journal: Option<String>,
+        status_write: StatusWrite,
+    )
+        ensures { shown_bus self.new ≡ shown_bus self.old }
+    {
+        self.in_session = in_session;
+        self.journal = journal;
+        self.status_write = status_write;
+    }
+
+    /// Ends the line of the progress: call it after the last transaction, before any other line. After a successful
+    /// change that isn't compared, first shows its final numbers (`show_duration`).
+    pub fn end_progress(&self, succeeded: bool) {
+        if succeeded {
+            self.show_duration();
+        }
+        self.terminal.end_line();
+    }
+}
+
+impl<B> Shown<'_, B> {
+    fn show(&mut self, out: &[u8])
+        ensures { self.new.bus ≡ self.old.bus }
+    {
+        if is_changing(out) && self.phase == Phase::Before {
+            self.begin_change();
+        }
+        let Some(step) = self.step_of(out) else {
+            return;
+        };
+        let count = self.counts.count(step);
+        if count == 1 && step.is_reading() {
+            self.terminal.log_step(step.name());
+        }
+        if count % step.stride() == 1 {
+            self.show_step(step, count);
+        }
+    }
+
+    fn begin_change(&mut self)
+        ensures { self.new.bus ≡ self.old.bus }
+    {
+        self.phase = Phase::Changing;
+        self.changed = self.terminal.now();
+        self.gauge.restart(self.changed);
+        if self.has_power_lock() {
+            self.terminal.print(&POWER_LOCKED);
+        }
+        if self.may_clear_quad() {
+            self.terminal.print(&QUAD);
+        }
+        self.write_notes();
+        if self.in_session {
+            self.terminal.print(&SealedLine(self.journal.as_deref()));
+        } else {
+            self.terminal.print(&CHANGED);
+        }
+    }
+
+    fn has_power_lock(&self) -> bool {
+        Lock::of(self.replies.status) == Lock::Power
+    }
+
+    fn may_clear_quad(&self) -> bool {
+        let writes = match self.status_write {
+            StatusWrite::Never => false,
+            StatusWrite::IfProtected => protects(self.replies.status),
+            StatusWrite::OnAnyChip => true,
+            StatusWrite::Restoring(saved) => {
+                protects(self.replies.status) || !are_equally_protected(self.replies.status, saved)
+            }
+        };
+        writes && self.replies.status[1] & QE != 0
+    }
+
+    fn remember(&mut self, out: &[u8], reply: &[u8])
+        ensures { self.new.bus ≡ self.old.bus }
+    {
+        if self.phase != Phase::Before {
+            return;
+        }
+        self.replies.remember(out, reply);
+        if let ([0x05, ..], [status1, ..]) = (out, reply) {
+            self.count_busy(*status1);
+        }
+    }
+
+    fn count_busy(&mut self, status1: u8)
+        ensures { self.new.bus ≡ self.old.bus }
+    {
+        if self.replies.id.is_some() || status1 & BUSY == 0 {
+            return;
+        }
+        self.busy_polls = self.busy_polls.saturating_add(1);
+        if self.busy_polls == POLLS_UNTIL_LINE {
+            self.terminal.print(&BUSY_CHIP);
+        }
+        self.print_each_minute(&BUSY_CHIP);
+    }
+
+    fn show_step(&self, step: Step, count: u64) {
+        let expected = match step {
+            Step::Scan | Step::Compare => self.expected.map(|sectors| sectors as u64),
+            _ => None,
+        };
+        self.terminal.print_plain(&PlainLine {
+            step,
+            count,
+            expected,
+        });
+    }
+
+    // After the announcement the scan is done: a sector that is programmed without an erase is read again.
+    fn step_of(&self, out: &[u8]) -> Option<Step> {
+        match step_of(out, self.phase) {
+            Some(Step::Scan) if self.terminal.announced().is_some() => Some(Step::ReadBack),
+            step => step,
+        }
+    }
+
+    fn measure(&mut self, out: &[u8], reply: &[u8])
+        ensures { self.new.bus ≡ self.old.bus }
+    {
+        let is_timed = matches!(self.terminal.look(), Look::Line | Look::Minutes);
+        if !is_timed && !self.terminal.log().is_open() {
+            return;
+        }
+        let now = self.terminal.now();
+        let step = self.step_of(out);
+        let Some(step) = self.gauge.record(step, out, reply, now) else {
+            return;
+        };
+        self.terminal.record_reads(self.gauge.scanned());
+        self.draw(step, now);
+        let total = self.total_of(step);
+        let line = self.gauge.line(step, total, now);
+        self.print_each_minute(&line);
+    }
+
+    fn draw(&mut self, step: Step, now: Option<Instant>)
+        ensures { self.new.bus ≡ self.old.bus }
+    {
+        if self.terminal.look() != Look::Line {
+            return;
+        }
+        let total = self.total_of(step);
+        let line = self.gauge.line(step, total, now);
+        if line.is_complete() {
+            self.terminal.draw_last(&line);
+        } else if self.gauge.is_due(now) {
+            self.terminal.draw(&line);
+            self.gauge.record_drawing(now);
+        }
+    }
+
+    // A touched sector has at most 16 pages to program.
+    fn total_of(&self, step: Step) -> Total {
+        match (step, self.expected, self.terminal.announced()) {
+            (Step::Scan | Step::Compare, Some(sectors), _) => Total::Exactly(sectors as u64),
+            (Step::Erase, _, Some(announced)) => Total::Exactly(u64::from(announced.erases)),
+            (Step::Program, _, Some(announced)) => Total::AtMost(16 * u64::from(announced.touched)),
+            _ => Total::Unknown,
+        }
+    }
+}
+
+impl<B: Bus> Bus for Shown<'_, B> {
+    ghost state = { λ shown. B.state shown.bus };
+
+    ghost reaches = { λ shown honest. B.reaches shown.bus honest };
+
+    fn transfer(&mut self, out: &[u8], reply: &mut [u8]) -> Result<(), Stopped> {
+        self.show(out);
+        self.terminal.log_command(out);
+        match self.bus.transfer(out, reply) {
+            Ok(()) => {
+                self.note(out, reply);
+                self.remember(out, reply);
+                self.measure(out, reply);
+                Ok(())
+            }
+            Err(Stopped) => {
+                self.terminal.log_stop();
+                Err(Stopped)
+            }
+        }
+    }
+
+    fn has_further_types(&self) -> bool {
+        self.bus.has_further_types()
+    }
+}

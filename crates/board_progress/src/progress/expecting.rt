@@ -1,0 +1,32 @@
+//! What the bus of `progress.rt` expects of a job, for its progress lines.
+
+use super::{Progress, Shown};
+use crate::steps::Phase;
+use nor_buses::ReadAhead;
+use nor_model::Bus;
+
+impl<B: Bus + Drop> Progress for Shown<'_, ReadAhead<B>> {
+    fn expect_reads(&mut self, sectors: usize) {
+        let known = self.expected.unwrap_or(0);
+        if known > 0 && self.counts.scan >= known as u64 && sectors > known {
+            // The reads that were recorded before are done; the further ones are a scan of their own.
+            self.expected = Some(sectors - known);
+            self.counts.scan = 0;
+            self.gauge.restart_scan();
+        } else {
+            // A job may record the same reads again, or only those that are left.
+            self.expected = Some(sectors.max(known));
+        }
+    }
+
+    fn expect_comparison(&mut self, sectors: usize) {
+        self.show_duration();
+        self.expected = Some(sectors);
+        self.phase = Phase::After;
+        self.gauge.restart(self.terminal.now());
+    }
+
+    fn end_blocks_at(&mut self, address: u32) {
+        self.bus.end_blocks_at(address);
+    }
+}

@@ -1,0 +1,234 @@
+//! The log of a run, for `-o`: a file that receives, line by line, what the run prints and the lines of `-V`.
+ghost use Rattle.std.specs.Prelude.{◌≡◌, IfErr, IsSomeAnd, false};
+ghost use Rattle.nor_console.specs.Files.{IsMaking};
+ghost use Rattle.board_progress.specs.Logging.{BeginsNoLog, CreatesLog, IsExistingLog};
+
+use nor_console::{Cause, Fault, SystemReason, create_log, exists};
+use nor_files::{LogFile, Store};
+use std::cell::{Cell, RefCell};
+use std::fs::File;
+use std::io::{BufWriter, Write};
+use std::{fmt, io};
+
+// The first line of a log, before the version. An existing file is overwritten only if it begins with these bytes.
+const FIRST: &str = "Log of flashnor-serprog";
+
+/// The version of the program, as the first line of a log has it.
+pub const VERSION: &str = "1.0";
+
+/// A buffered writer to the file of a log.
+pub type LogWriter = BufWriter<LogFile<File>>;
+
+/// The log of a run. All parts of the run that print share it. A log without a file drops each line.
+///
+/// If a line can't be written, the log ends before it, and the job goes on (`end_log`).
+#[derive(Drop)]
+pub struct RunLog {
+    file: RefCell<Option<LogWriter>>,
+    // the system's reason why a line couldn't be written
+    lost: Cell<Option<SystemReason>>,
+    // whether the file that was opened for the log is another one
+    is_refused: Cell<bool>,
+}
+
+impl RunLog {
+    /// Returns a log without a file.
+    pub fn new() -> RunLog {
+        RunLog {
+            file: RefCell::new(None),
+            lost: Cell::new(None),
+            is_refused: Cell::new(false),
+        }
+    }
+
+    /// Writes the first line of the log to the file, and then each further line. A log that is in the file is truncated
+    /// before; or, if `appends` is true, it is kept, and an empty line follows it. Any other file stays as it is
+    /// (`is_refused`).
+    pub fn start(&self, file: LogWriter, appends: bool) {
+        let mut file = file;
+        match file.get_mut().is_empty_or_begins(FIRST.as_bytes()) {
+            Ok(true) => {}
+            _ => {
+                self.is_refused.set(true);
+                let _ = file.get_mut().append();
+                return;
+            }
+        }
+        let begun = begin(&mut file, appends);
+        let _ = self.file.try_replace(Some(file));
+        self.end_if_failed(begun);
+    }
+
+    /// Returns whether the file that was opened for the log has bytes, and is no log. It was then left as it is.
+    pub fn is_refused(&self) -> bool {
+        self.is_refused.get()
+    }
+
+    /// Returns the system's reason why a line couldn't be written, or `None` if none was lost.
+    pub fn lost(&self) -> Option<SystemReason> {
+        self.lost.get()
+    }
+
+    /// Returns whether there is a file to which lines are written.
+    pub fn is_open(&self) -> bool {
+        match self.file.try_borrow() {
+            Ok(file) => file.is_some(),
+            Err(_) => false,
+        }
+    }
+
+    /// Writes a line to the file, so that it stays even if the run is killed afterwards.
+    pub fn write_line<T: fmt::Display>(&self, text: &T) {
+        self.end_if_failed(self.try_line(text));
+    }
+
+    /// Writes a piece of a line to the file, or all of it. The end of a line is written to the file at once.
+    pub fn write_piece(&self, bytes: &[u8]) {
+        self.end_if_failed(self.try_piece(bytes));
+    }
+
+    fn try_line<T: fmt::Display>(&self, text: &T) -> io::Result<()> {
+        let Ok(mut file) = self.file.try_borrow_mut() else {
+            return Ok(());
+        };
+        let Some(file) = &mut *file else {
+            return Ok(());
+        };
+        writeln!(file, "{text}")?;
+        file.flush()
+    }
+
+    fn try_piece(&self, bytes: &[u8]) -> io::Result<()> {
+        let Ok(mut file) = self.file.try_borrow_mut() else {
+            return Ok(());
+        };
+        let Some(file) = &mut *file else {
+            return Ok(());
+        };
+        file.write_all(bytes)?;
+        if bytes.ends_with(b"\n") {
+            file.flush()
+        } else {
+            Ok(())
+        }
+    }
+
+    // Ends the log if a line couldn't be written.
+    fn end_if_failed(&self, written: io::Result<()>) {
+        if let Err(error) = written {
+            self.lost.set(Some(SystemReason::of_making(&error)));
+            let _ = self.file.try_replace(None);
+        }
+    }
+}
+
+// Writes the first line of a log. If `appends` is true, and the file has bytes, these are kept, and an empty line
+// follows them.
+fn begin(file: &mut LogWriter, appends: bool) -> io::Result<()> {
+    if appends && file.get_mut().append()? {
+        writeln!(file)?;
+    }
+    writeln!(file, "{FIRST} {VERSION}")?;
+    file.flush()
+}
+
+/// A writer that writes to another one, and also to the log of the run. In contracts its contents are those of the
+/// other one.
+#[derive(Drop)]
+pub struct Logged<'a, W> {
+    inner: W,
+    log: &'a RunLog,
+}
+
+impl<'a, W> Logged<'a, W> {
+    ghost use Rattle.board_progress.specs.Logged.{written_by};
+
+    /// Returns a writer that writes to `inner` and to `log`.
+    pub fn new(inner: W, log: &'a RunLog) -> Logged<'a, W>
+        ensures { written_by result ≡ inner }
+    {
+        Logged { inner, log }
+    }
+}
+
+impl<W: Write> Write for Logged<'_, W> {
+    ghost contents = { λ logged. W.contents logged.inner };
+
+    // The log receives the bytes that were written, or all bytes if none could be written: then the log is the only
+    // place where they can be found.
+    fn write(&mut self, bytes: &[u8]) -> io::Result<usize> {
+        let written = self.inner.write(bytes);
+        match &written {
+            Ok(count) => self.log.write_piece(bytes.get(..*count).unwrap_or(bytes)),
+            Err(_) => self.log.write_piece(bytes),
+        }
+        written
+    }
+
+    fn flush(&mut self) -> io::Result<()> {
+        self.inner.flush()
+    }
+}
+
+/// Checks that the file of the log may be created or overwritten: that it doesn't exist, is empty or begins as a log of
+/// this program. A FIFO and a device aren't read. A file that can't be read is left to `start_log`.
+///
+/// Returns file fault 4 for any other file.
+pub fn check_log<'a, R: Store>(rt: &R, name: Option<&'a str>) -> Result<(), Fault<'a>>
+    ensures { IfErr result (λ fault. IsSomeAnd name.entry (λ name.
+        IsExistingLog (R.state rt.now).view name fault)) }
+{
+    let Some(name) = name else {
+        return Ok(());
+    };
+    if rt.is_waiting(name) {
+        return Ok(());
+    }
+    match rt.read_named(name, FIRST.len() as u64) {
+        Ok(Some(start)) if !may_begin_log(&start) => { Err(exists(name, Cause::Unknown)) }
+        _ => Ok(()),
+    }
+}
+
+// True if a file whose first bytes are `start` is empty or begins as a log.
+fn may_begin_log(start: &[u8]) -> bool
+    ensures { result ≡ false → BeginsNoLog start.now }
+{
+    start.is_empty() || start == FIRST.as_bytes()
+}
+
+/// If `name` is given, creates this file, or truncates the log in it, and starts the log of the run. If `appends` is
+/// true, the log in it is kept. If the file is another one, it stays as it is, and `check_started` returns the fault.
+///
+/// Returns the faults of `create_log`: file fault 4 if the file is a journal, file fault 5 if another run has locked
+/// it, file fault 2 if it can't be created or truncated for another reason, or error 18 if memory runs out.
+pub fn start_log<'a, R: Store<Log = LogFile<File>>>(
+    files: &mut R,
+    log: &RunLog,
+    name: Option<&'a str>,
+    appends: bool,
+) -> Result<(), Fault<'a>>
+    ensures creates { CreatesLog name.entry (R.state files.old) (R.state files.new) }
+    ensures err { IfErr result (λ fault.
+        IsSomeAnd name.entry (λ name. IsMaking (R.state files.old).view name.now fault)) }
+{
+    let Some(name) = name else {
+        return Ok(());
+    };
+    match create_log(files, name) {
+        Ok(file) => {
+            log.start(file, appends);
+            Ok(())
+        }
+        Err(fault) => Err(fault),
+    }
+}
+
+/// Returns file fault 4 if the file of this name, which was opened for the log, was no log: it appeared after
+/// `check_log`.
+pub fn check_started<'a>(log: &RunLog, name: Option<&'a str>) -> Result<(), Fault<'a>> {
+    match name {
+        Some(name) if log.is_refused() => Err(exists(name, Cause::Unknown)),
+        _ => Ok(()),
+    }
+}

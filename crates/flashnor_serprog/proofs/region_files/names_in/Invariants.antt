@@ -1,7 +1,0 @@
-use Rattle.std.proofs.Common.{◌≡◌, map, take}
-use Rattle.flashnor_serprog.specs.Regions.{name_in}
-use Rattle.flashnor_serprog.proofs.region_files.names_in.Given as goal
-
-abbrev pub invariant-loop-entry : goal.invariant-loop-entry
-invariant-loop-entry l =
-    map (λ name. name.now) l.names.items ≡ map name_in (map (λ entry. entry.now) (take l.entry-index l.entry-items))

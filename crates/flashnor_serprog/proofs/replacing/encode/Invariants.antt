@@ -1,8 +1,0 @@
-use Rattle.std.proofs.Common.{◌≡◌, ◌++◌, take}
-use Rattle.nor_journal.specs.Text.{head, records_text}
-use Rattle.flashnor_serprog.specs.Images.{without_unique}
-use Rattle.flashnor_serprog.proofs.replacing.encode.Given as goal
-
-abbrev pub invariant-loop-index : goal.invariant-loop-index
-invariant-loop-index l =
-    l.bytes.items ≡ head (without_unique l.fn.journal) ++ records_text (take l.index l.fn.journal.saved)

@@ -1,5 +1,0 @@
-use Rattle.flashnor_serprog.proofs.RestRead.{HasReadUp}
-use Rattle.flashnor_serprog.proofs.rest.read_rest.Given as goal
-
-abbrev pub invariant-loop-sector : goal.invariant-loop-sector
-invariant-loop-sector g l = HasReadUp l.fn.journal l.sector l.bytes (g.B.Bus.state l.fn.bus) (g.B.Bus.state l.bus)
