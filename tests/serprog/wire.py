@@ -368,7 +368,16 @@ def loses_the_power_lock(start):
     check_unchanged(bench, now, b"\0\0")
 
 
+def says_that_an_erase_failed(start):
+    """A chip that ignores its erases is error 14. The line names no image, because -E has none."""
+    bench = start(data=bytes(65536))
+    carry = bench.chip.transfer
+    bench.chip.transfer = lambda out, length: b"" if out[0] in (0x20, 0x52, 0xD8, 0xC7) else carry(out, length)
+    bench.expect("-E", "-N", "--journal", "j", err=reference.not_stored(0, "-E"))
+    bench.check_chip(bytes(65536))
+
+
 CASES = [compares_replies, believes_busy, reads_status_writes_back, reports_an_unprotected_chip,
          says_that_the_chip_may_be_unprotected, finds_torn_status_writes, restores_marginal_bytes, finds_a_wrong_erase,
          compares_the_rest, leaves_the_rest_out, compares_excluded_sectors, refuses_unknown_protection,
-         finds_lost_programs, wakes_the_chip, loses_the_power_lock]
+         finds_lost_programs, wakes_the_chip, loses_the_power_lock, says_that_an_erase_failed]
