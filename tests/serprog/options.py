@@ -50,7 +50,7 @@ def sets_the_clock(start):
     """spispeed= sets the clock by S_SPI_FREQ before the first transaction. Without it the clock isn't set.
 
     A number with leading zeros is decimal, unlike in flashrom, which takes it for an octal one. As in flashrom, k and M
-    multiply it by 1,000 and 1,000,000.
+    multiply it by 1,000 and 1,000,000. A line says if the programmer sets a higher clock.
     """
     bench = start()
     for speed, hertz in (
@@ -63,6 +63,11 @@ def sets_the_clock(start):
         bench.check_frames(reference.probe("TINY64"))
     bench.expect(out=[reference.found("TINY64")])
     check("commands 14h", [it for it in bench.server.commands if it[0] == 0x14], [])
+    bench = start(replies={0x14: b"\x06" + (12_000_000).to_bytes(4, "little")})
+    got = bench.run(keys=",spispeed=1000000")
+    check("standard error", got.err, [reference.HIGHER_CLOCK.format(12_000_000, 1_000_000)])
+    check("standard output", got.out, [reference.found("TINY64")])
+    check("exit status", got.status, 0)
 
 
 def selects_a_chip(start):

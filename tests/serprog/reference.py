@@ -60,6 +60,8 @@ NO_CHIP = ["Error 1: no chip.", "Check contacts, supply and wiring, and that cs=
 NO_STATUS = ["Error 2: unknown chip, SFDP fault 1.", "It replies an ID, but only FFh for status 1, so it isn't SPI NOR "
              "flash (but SPI NAND or DataFlash), or a contact is bad."]
 # The line after error 4 if regions are given.
+# The clock that the programmer set, and that of spispeed=.
+HIGHER_CLOCK = "The programmer set its clock to {} Hz, above the {} Hz of spispeed=."
 WHOLE_IMAGE = "Give an image of the whole chip. -i NAME:FILE gives the bytes of a region."
 # What follows the two unique IDs after error 20.
 OTHER_UNIT = "The journal is another board's, or the chip was replaced: find this board's journal, or see " \

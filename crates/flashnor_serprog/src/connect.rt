@@ -26,7 +26,7 @@ use nor_session::Refusal;
 use std::alloc::Global;
 use std::fs::{File, OpenOptions};
 use std::os::unix::fs::FileTypeExt;
-use std::{fs, io};
+use std::{fmt, fs, io};
 
 // The transaction that wakes the chip and shows whether the port changes bytes that are sent: ABh, and 12 bytes that
 // the chip ignores. If the port changes the length 0Dh in the frame to 0Ah, the programmer takes the last three of
@@ -185,6 +185,7 @@ fn connect<'a>(
     terminal.print_waiting();
     let mut link = Link::new(DevicePort::new(file));
     let programmer = AnyProgrammer::identify(&mut link, hertz).map_err(ProgrammerFault::Handshake)?;
+    report_higher_clock(terminal, hertz, programmer.frequency());
     if let Some(chip_select) = chip_select {
         programmer
             .select_chip(&mut link, chip_select)
@@ -249,6 +250,32 @@ pub enum Checks {
     /// For `--wp-enable` and `--wp-disable`: status writes that would change another bit than SRP0, also a protection
     /// bit (`CheckedStatus::locking`).
     Lock,
+}
+
+// Prints a line if the clock that the programmer set is higher than that of `spispeed=`, in hertz.
+fn report_higher_clock(terminal: Terminal<'_>, asked: Option<u32>, set: Option<u32>) {
+    match (asked, set) {
+        (Some(asked), Some(set)) if set > asked => {
+            terminal.print_shown(&HigherClock { asked, set });
+        }
+        _ => {}
+    }
+}
+
+#[derive(Clone, Copy)]
+struct HigherClock {
+    asked: u32,
+    set: u32,
+}
+
+impl fmt::Display for HigherClock {
+    fn fmt<W: fmt::Write>(&self, f: &mut fmt::Formatter<W>) -> fmt::Result {
+        write!(
+            f,
+            "The programmer set its clock to {} Hz, above the {} Hz of spispeed=.",
+            self.set, self.asked
+        )
+    }
 }
 
 // Returns whether a job may write the status, as far as `checks` says it.
