@@ -67,8 +67,8 @@ PLANTS = {
         ROWS, "README.md", r"\| Promise \| Call, clause \|", "| Promise | Call |",
         "README.md has no table with a column 'Call, clause'"),
     "an edit that isn't there": (
-        AGREE, "docs/PROMISES.md", r"crates/\*/must-fail", "nor_scan/must-fail/seal_when_stoped.edit",
-        r"docs/PROMISES.md:\d+: there is no nor_scan"),
+        AGREE, "docs/TESTING.md", r"mutant in `must-fail/`", "mutant in `nor_scan/must-fail/seal_when_stoped.edit`",
+        r"docs/TESTING.md:\d+: there is no nor_scan"),
     "a crate that the page doesn't name": (
         PATHS, "docs/ARCHITECTURE.md", r"\| `nor_geometry` \|.*\n", "", "docs/ARCHITECTURE.md names no crate nor_geometry"),
     "a source without a head": (
