@@ -9,7 +9,7 @@ use Rattle.nor_layout.specs.declared.ranges.Span.{Span}
 use Rattle.nor_args.specs.Text.{Text}
 use Rattle.nor_args.specs.declared.job.Operation.{Operation}
 use Rattle.flashnor_serprog.specs.Connected.{device_of}
-use Rattle.flashnor_serprog.specs.Run.{HasRunBy, HasRunJob, HasRunOperation, IsAskedFor}
+use Rattle.flashnor_serprog.specs.Run.{HasRunBy, HasRunJob, HasRunOperation, HasSucceeded, IsAskedFor}
 use Rattle.flashnor_serprog.specs.declared.connect.Connected.{Connected}
 use Rattle.board_files.specs.declared.region_files.RegionFile.{RegionFile}
 
@@ -37,3 +37,10 @@ pub few_after : (operation : Operation) (files : List RegionFile) (ranges : Opti
     → status ≤ 1
 few_after operation files ranges bytes before after old new out out' status None run = run.few
 few_after operation files ranges bytes before after old new out out' status (Some srp0) run = run.0.few
+
+-- A run that succeeded with some arguments succeeded with equal ones. (`rw` would unfold what the arguments ask for.)
+pub succeeded_with : (state : Connected → BusState) (files after : FilesState) (words words' : List Text)
+    (used : Option Connected) (out out' : Option (List ℕ)) (status : ℕ) → words ≡ words'
+    → (status ≡ 0 → HasSucceeded state files after words used out out')
+    → status ≡ 0 → HasSucceeded state files after words' used out out'
+succeeded_with state files after words words' used out out' status refl succeeded = succeeded
