@@ -92,8 +92,8 @@ abbrev pub AnyPair : {X : Type 0} → (X → X → Type 0) → List X → Type 0
 AnyPair {X} R xs = (i : ℕ) × (j : ℕ) × (any : X) × (i < j) × (j < length xs)
     × R (slice_index_or xs i any) (slice_index_or xs j any)
 
--- Holds if comparing the files of two regions may fail with this fault: file fault 5 with the name of the later file, if
--- the files may be one, or file fault 1 of a file that can't be looked up.
+-- Holds if comparing the files of two regions may fail with this fault: file fault 5 with the name of the later file,
+-- if the files may be one, or file fault 1 of a file that can't be looked up.
 abbrev pub FailsDistinct : Nature → List RegionFile → Fault → Type 0
 FailsDistinct nature files fault =
     AnyPair (λ earlier later. FailsApart nature (Some earlier.file) (Some later.file) fault) files

@@ -155,19 +155,14 @@ impl From<ProgrammerFault> for Unconnected {
 
 // Opens and locks the device, identifies the programmer, sets its clock if `spispeed=` is given, and sets its chip
 // select if `cs=` is given. Then wakes the chip; only if it doesn't answer, looks for it (`look_for_chip`). Sends no
-// other transaction. If progress is shown, prints before the first exchange with the programmer what to do if no reply
-// ever arrives. Returns a programmer fault from 1 to 12 if one of these steps fails: fault 12 if the port changes bytes
-// that are sent. Returns the errors of `expect_chip`.
+// other transaction. Before the first exchange, prints what to do if no reply ever arrives. Returns a programmer fault
+// from 1 to 12 if a step fails (12: the port changes bytes that are sent), and the errors of `expect_chip`.
 //
 // The returned bus has carried out no transaction yet, and belongs to this device. The contract says nothing about the
 // frames that were sent before the bus existed.
 //
 // If `image` is given, data that equals `image` at the same address is read once, and all other data twice. `image`
-// must be the image of a write whose result is compared, or the image of `-v`. Then no data that was read only once
-// gets into a journal. If a sector was misread as equal to `image`, the comparison after a write detects the misread,
-// unless it misreads the sector in the same way; `-v` doesn't detect it.
-//
-// `rules` says which modifying commands the bus refuses, and how it treats a chip without a row.
+// must be that of a write whose result is compared, or of `-v`, so that no data that was read once gets into a journal.
 fn connect<'a>(
     rt: &'a HostRuntime,
     terminal: Terminal<'a>,

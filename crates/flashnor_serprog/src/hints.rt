@@ -1,5 +1,4 @@
-//! The line that follows the line of a fault: it says what to do, what was found and what was expected, or where the
-//! regions are.
+//! The line after that of a fault: what to do, what was found and expected, or where the regions are.
 
 use crate::chip_names::{ChipText, Connected, Hex};
 use crate::stop_line::Left;
@@ -40,10 +39,8 @@ impl Saved {
     }
 }
 
-/// What is known when an operation failed.
 #[derive(Clone, Copy, Drop)]
 pub struct Known<'a> {
-    /// What the journal of a restore says.
     pub saved: Option<Saved>,
     pub replies: Replies,
     pub left: Left<'a>,
@@ -126,8 +123,7 @@ fn print_file<E: Write>(errors: &mut E, task: &Task<'_>) {
     }
 }
 
-// Prints the line for an included region that isn't on a chip of this number of bytes. It names the region of `-i` that
-// has the greatest address.
+// Prints the line for a region that isn't on a chip of this size: it names the region with the greatest address.
 fn print_outside<E: Write>(errors: &mut E, farthest: Option<Farthest<'_>>, size: Option<u32>) {
     if let (Some(Farthest { name, end }), Some(size)) = (farthest, size) {
         let name = Escaped(name);
@@ -142,7 +138,6 @@ const IS_JOURNAL: &str = "It is a journal, which is never overwritten: choose a 
 
 const IS_NO_LOG: &str = "It exists, and is no log, so it isn't overwritten: choose a new name.";
 
-// Returns the line for an error that says what was found and what was expected, or what to do.
 fn found_and_expected<'a>(
     refusal: Refusal,
     operation: &Operation<'_>,
@@ -259,12 +254,10 @@ const WRITE_IMAGE: &str =
     " If the journal is this board's, write an image from before the session instead (-w, with a new journal): -w \
     doesn't compare these bits, and leaves them as they are. See RECOVERY.";
 
-/// True for a change with `--unlock`.
 pub fn unlocks(task: &Task<'_>) -> bool {
     matches!(task, Task::Change(Change { unlock: true, .. }))
 }
 
-// A line that says what was found and what was expected, or what to do.
 #[derive(Clone, Copy, Drop)]
 enum Line<'a> {
     NoChip,
@@ -273,7 +266,6 @@ enum Line<'a> {
     },
     // The device replied an ID before the first transaction of the job, but neither status 1 nor SFDP.
     NoStatus,
-    // The chip doesn't erase sectors of 4 KiB everywhere.
     Uneven {
         id: [u8; 3],
     },
@@ -283,7 +275,6 @@ enum Line<'a> {
         status1: u8,
     },
     Locked(Lock),
-    // The change includes a protected address.
     Protected(Lock),
     Busy {
         left: Left<'a>,
