@@ -1,12 +1,16 @@
 -- Lemmas on the run of the operation that the arguments ask for.
-use Rattle.std.proofs.Common.{◌≡◌, ◌≤◌, ℕ, Bool, IfSome, List, None, Option, Some, is_some, true}
+use Rattle.std.proofs.Common.{◌≡◌, ◌≤◌, ℕ, Bool, IfOk, IfSome, List, None, Ok, Option, Result, Some, is_some, subst, sym, true}
 use Rattle.std.specs.Prelude.{IsSomeAnd}
 use Rattle.std.proofs.lemmas.Bool.{false≢true}
 use Rattle.std.specs.Borrow.{Bor}
+use Rattle.std.specs.Global.{Global}
+use Rattle.std.specs.declared.string.String.{String}
+use Rattle.std.specs.declared.vec.IntoIter.{IntoIter}
 use Rattle.nor_model.specs.Bus.{BusState}
 use Rattle.nor_files.specs.Files.{FilesState, View}
 use Rattle.nor_layout.specs.declared.ranges.Span.{Span}
 use Rattle.nor_args.specs.Text.{Text}
+use Rattle.nor_args.specs.Words.{arguments_of}
 use Rattle.nor_args.specs.declared.job.Operation.{Operation}
 use Rattle.flashnor_serprog.specs.Connected.{device_of}
 use Rattle.flashnor_serprog.specs.Run.{HasRunBy, HasRunJob, HasRunOperation, HasSucceeded, IsAskedFor}
@@ -38,9 +42,14 @@ pub few_after : (operation : Operation) (files : List RegionFile) (ranges : Opti
 few_after operation files ranges bytes before after old new out out' status None run = run.few
 few_after operation files ranges bytes before after old new out out' status (Some srp0) run = run.0.few
 
--- A run that succeeded with some arguments succeeded with equal ones. (`rw` would unfold what the arguments ask for.)
-pub succeeded_with : (state : Connected → BusState) (files after : FilesState) (words words' : List Text)
-    (used : Option Connected) (out out' : Option (List ℕ)) (status : ℕ) → words ≡ words'
+-- If a run with these arguments succeeded, so did the run whose given arguments are these. (`rw` would unfold what the
+-- arguments ask for, which has too many cases.)
+pub succeeded_given : {E : Type 0} (state : Connected → BusState) (files after : FilesState) (words : List Text)
+    (given : Result (IntoIter (String Global) Global) E) (args : IntoIter (String Global) Global)
+    (used : Option Connected) (out out' : Option (List ℕ)) (status : ℕ) → given ≡ Ok args → words ≡ arguments_of args
     → (status ≡ 0 → HasSucceeded state files after words used out out')
-    → status ≡ 0 → HasSucceeded state files after words' used out out'
-succeeded_with state files after words words' used out out' status refl succeeded = succeeded
+    → IfOk given (λ args. status ≡ 0 → HasSucceeded state files after (arguments_of args) used out out')
+succeeded_given {E = E} state files after words given args used out out' status is same succeeded =
+    subst (λ (given : Result (IntoIter (String Global) Global) E). IfOk given (λ args. status ≡ 0
+    → HasSucceeded state files after (arguments_of args) used out out')) (sym is)
+    (λ zero. subst (λ (words : List Text). HasSucceeded state files after words used out out') same (succeeded zero))

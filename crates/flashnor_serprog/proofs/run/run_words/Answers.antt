@@ -1,11 +1,10 @@
 use Rattle.std.proofs.Common.{◌∙◌, ap, map, string_bytes}
-use Rattle.flashnor_serprog.proofs.Ran.{succeeded_with, unused}
+use Rattle.flashnor_serprog.proofs.Ran.{succeeded_given, unused}
 use Rattle.flashnor_serprog.proofs.run.run_words.Goals as goal
 
 pub returns-in-Ok-arguments_after_name-clause-done : goal.returns-in-Ok-arguments_after_name-clause-done
-returns-in-Ok-arguments_after_name-clause-done g c = rw c.in-Ok.is
-    (succeeded_with _ _ _ _ _ _ _ _ _ (ap (map string_bytes) c.as_slice.ensures.value
-    ∙ c.in-Ok-arguments_after_name.ensures) c.run_arguments.ensures.done)
+returns-in-Ok-arguments_after_name-clause-done g c = succeeded_given _ _ _ _ _ _ _ _ _ _ c.in-Ok.is
+    (ap (map string_bytes) c.as_slice.ensures.value ∙ c.in-Ok-arguments_after_name.ensures) c.run_arguments.ensures.done
 
 pub returns-in-Ok-arguments_after_name-clause-ran : goal.returns-in-Ok-arguments_after_name-clause-ran
 returns-in-Ok-arguments_after_name-clause-ran g c = rw c.in-Ok.is
