@@ -21,7 +21,7 @@ from regions import random_image
 
 SHELLS = [it for it in ("sh", "dash", "bash", "busybox") if shutil.which(it)]
 LARGE = 1 << 23
-MEANWHILE = Path(__file__).parents[1] / "meanwhile.c"
+MEANWHILE = Path(__file__).parents[1] / "flashnor/meanwhile.c"
 NAMES = ["x';touch PWN;'", "it's", "'", "a b", "$(touch PWN)", "`touch PWN`", 'a"b', "a\\b", "*", "~", "#a", "!x", "-j",
          "\u00e9"]
 # Names that no command can have: with a newline, an escape sequence, or a C1 control character.
