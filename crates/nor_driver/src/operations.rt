@@ -11,17 +11,12 @@ ghost use Rattle.nor_driver.specs.StatusWrites.{status_write};
 
 use crate::{Erase, EraseBlock, OperationError, wait};
 use arrayvec::ArrayVec;
+use nor_model::opcodes::{PAGE_PROGRAM, WRITE_ENABLE, WRITE_STATUS};
 use nor_model::{Bus, Status};
 
-const WRITE_STATUS: u8 = 0x01;
-
-const PAGE_PROGRAM: u8 = 0x02;
-
-const WRITE_ENABLE: u8 = 0x06;
-
 /// Programs `bytes` from `address` on (02h; W25Q64FV datasheet, Page Program), and waits until the chip is ready.
-/// `bytes` must not be empty and must lie in one page of 256 bytes. Returns the number of transactions, even if a busy
-/// chip or one that protects `address` ignores the program.
+/// `address` must be below 16 MiB, and `bytes` must not be empty and must lie in one page of 256 bytes. Returns the
+/// number of transactions, even if a busy chip or one that protects `address` ignores the program.
 ///
 /// Returns `Stopped` if the bus stopped, and `Timeout` with `address` after 65,536 polls that showed BUSY, which
 /// doesn't occur on a well-behaved bus.
@@ -39,8 +34,9 @@ pub fn program_page<B: Bus>(bus: &mut B, address: u32, bytes: &[u8]) -> Result<u
 }
 
 /// Erases an erase block (20h, 52h, D8h or C7h; W25Q64FV datasheet, erase instructions), and waits until the chip is
-/// ready. The block must be aligned (`Erase::is_aligned`). Returns the number of transactions, even if the chip ignores
-/// the erase because it is busy, lacks the erase type or protects an address of the block.
+/// ready. The block must be aligned (`Erase::is_aligned`), and `erase.sector` must be below 4,096. Returns the number
+/// of transactions, even if the chip ignores the erase because it is busy, lacks the erase type or protects an address
+/// of the block.
 ///
 /// Returns `Stopped` if the bus stopped, and `Timeout` with the block's first address after 65,536 polls that showed
 /// BUSY, which doesn't occur on a well-behaved bus.
@@ -63,8 +59,8 @@ pub fn erase<B: Bus>(bus: &mut B, erase: Erase) -> Result<u32, OperationError>
 }
 
 /// Writes the status registers (01h; W25Q64FV datasheet, Write Status Register), and waits until the chip is ready.
-/// Sends the protection bits `code`, all other non-volatile bits as in `status`, and BUSY, WEL and SUS as 0. Returns
-/// the number of transactions, even if the chip ignores the write because it is busy or has SRP0 or SRP1 set.
+/// Sends the protection bits `code` (below 64), all other non-volatile bits as in `status`, and BUSY, WEL and SUS as 0.
+/// Returns the number of transactions, even if the chip ignores the write because it is busy or has SRP0 or SRP1 set.
 ///
 /// Returns `Stopped` if the bus stopped, and `Timeout` with address 0 after 65,536 polls that showed BUSY, which
 /// doesn't occur on a well-behaved bus.
@@ -79,7 +75,6 @@ pub fn write_status<B: Bus>(bus: &mut B, status: Status, code: u8) -> Result<u32
     operation(bus, &[WRITE_STATUS, one, two], 0)
 }
 
-// Performs an operation: a write enable, `command` and a wait, whose timeout contains `address`.
 fn operation<B: Bus>(bus: &mut B, command: &[u8], address: u32) -> Result<u32, OperationError>
     requires { AsksForOperation command.now }
     ensures leaves { LeavesOperation (command_operation command.now) (B.state bus.old) (B.state bus.new) }
@@ -95,7 +90,6 @@ fn operation<B: Bus>(bus: &mut B, command: &[u8], address: u32) -> Result<u32, O
     Ok(waited.polls + 2)
 }
 
-// Returns the three bytes of `address`, high byte first.
 pub(crate) fn address_bytes(address: u32) -> [u8; 3]
     requires { address < 2 ^ 24 }
     ensures { BytesNameAddress address result }

@@ -6,17 +6,8 @@ ghost use Rattle.nor_driver.specs.Reads.{IsReading, Replies, ReadsId, ReadsStatu
 
 use crate::operations::address_bytes;
 use nor_geometry::SECTOR_LEN;
+use nor_model::opcodes::{READ_DATA, READ_ID, READ_SFDP, READ_STATUS2, READ_UNIQUE};
 use nor_model::{Bus, Stopped};
-
-const READ_DATA: u8 = 0x03;
-
-const READ_STATUS2: u8 = 0x35;
-
-const READ_UNIQUE: u8 = 0x4B;
-
-const READ_SFDP: u8 = 0x5A;
-
-const READ_ID: u8 = 0x9F;
 
 /// Reads the three bytes of the ID (9Fh; W25Q64FV datasheet, Read JEDEC ID). On a well-behaved bus the result is the
 /// chip's ID if the chip is idle. Returns `Stopped` if the bus stopped.
@@ -57,9 +48,9 @@ pub fn read_unique<B: Bus>(bus: &mut B) -> Result<[u8; 8], Stopped>
     Ok(unique)
 }
 
-/// Fills `bytes` (at most 4,096) with the SFDP bytes from `address` on (5Ah; JESD216), which the chip takes modulo its
-/// size. On a well-behaved bus they are the chip's if the chip is idle. Returns `Stopped` if the bus stopped; a
-/// punctual bus then leaves `bytes` as they were.
+/// Fills `bytes` (at most 4,096) with the SFDP bytes from `address` on (5Ah; JESD216). `address` must be below 16 MiB,
+/// and the chip takes it modulo its size. On a well-behaved bus the bytes are the chip's if the chip is idle. Returns
+/// `Stopped` if the bus stopped; a punctual bus then leaves `bytes` as they were.
 pub fn read_parameters<B: Bus>(bus: &mut B, address: u32, bytes: &mut [u8]) -> Result<(), Stopped>
     requires reachable { address < 2 ^ 24 }
     requires short { length bytes.old ≤ 4096 }
@@ -74,9 +65,9 @@ pub fn read_parameters<B: Bus>(bus: &mut B, address: u32, bytes: &mut [u8]) -> R
     read(bus, &[READ_SFDP, high, middle, low, 0], bytes)
 }
 
-/// Reads the 4,096 bytes of the given sector into `bytes` (03h; W25Q64FV datasheet, Read Data). On a well-behaved bus
-/// they are the chip's if the chip is idle and has the sector. Returns `Stopped` if the bus stopped; a punctual bus
-/// then leaves `bytes` as they were.
+/// Reads the 4,096 bytes of the sector with the number `sector` (below 4,096) into `bytes` (03h; W25Q64FV datasheet,
+/// Read Data). On a well-behaved bus they are the chip's if the chip is idle and has the sector. Returns `Stopped` if
+/// the bus stopped; a punctual bus then leaves `bytes` as they were.
 pub fn read_sector<B: Bus>(bus: &mut B, sector: u32, bytes: &mut [u8]) -> Result<(), Stopped>
     requires reachable { sector < 4096 }
     requires whole { length bytes.old ≡ 4096 }

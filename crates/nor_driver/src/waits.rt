@@ -6,10 +6,9 @@ ghost use Rattle.nor_driver.specs.OnlyReads.{OnlyReads, HasStopped};
 ghost use Rattle.nor_driver.specs.Waits.{Polls, Waits, WaitFails};
 
 use bitflags::Flags;
+use nor_model::opcodes::READ_STATUS1;
 use nor_model::{Bus, Status1, Stopped};
 use thiserror::Error;
-
-const READ_STATUS1: u8 = 0x05;
 
 const MOST_POLLS: u32 = 65536;
 

@@ -1,14 +1,13 @@
-//! The history of a bus: the transactions over it with their replies, and the allowances that were set. It exists only
-//! in proofs: it takes no memory, and its functions do nothing at run time.
+//! The history of a bus, which exists only in proofs.
 ghost use Rattle.std.specs.Prelude.{◌≡◌, ℕ, List, [], ◌∷◌};
 ghost use base.Fml.{ftrue};
 ghost use Rattle.nor_model.specs.Exchange.{Exchange, exchanges_code, numbers_code};
 
+use crate::Stopped;
 use std::marker::Model;
 
 /// The history of a bus: the transactions over it with their replies, and the allowances that were set, the last one
-/// first. A bus adds each of these to its `History`. A wrapper that takes its state from an inner bus needs none. Only
-/// contracts can read it.
+/// first. Only contracts can read it: it takes no memory, and its functions do nothing at run time.
 #[derive(Drop)]
 pub struct History {
     pub ghost exchanges: { List Exchange } by { exchanges_code },
@@ -19,7 +18,6 @@ impl Model for History {
     ghost also_owns = { λ _. ftrue };
 }
 
-// An event that a bus adds to its history.
 #[derive(Clone, Copy)]
 enum Event<'a> {
     Replied(&'a [u8], &'a [u8]),
@@ -28,7 +26,7 @@ enum Event<'a> {
 }
 
 impl History {
-    ghost use Rattle.nor_model.specs.History.{replied, stopped, exchanges_with, allowances_with};
+    ghost use Rattle.nor_model.specs.History.{replied, stopped, exchange_of, exchanges_with, allowances_with};
 
     /// Returns the history of a new bus: nothing was sent over it, and no allowance was set.
     pub fn new() -> History
@@ -53,6 +51,18 @@ impl History {
         self.with(&Event::Stopped(out))
     }
 
+    /// Returns this history with one more transaction, which sent `out`: with the reply `reply` after Ok, or as one at
+    /// which the bus stopped.
+    pub fn ended(&self, out: &[u8], reply: &[u8], outcome: Result<(), Stopped>) -> History
+        ensures exchanges { result.exchanges ≡ exchange_of out.now reply.now outcome ∷ self.now.exchanges }
+        ensures allowances { result.allowances ≡ self.now.allowances }
+    {
+        match outcome {
+            Ok(()) => self.replied(out, reply),
+            Err(Stopped) => self.stopped(out),
+        }
+    }
+
     /// Returns this history with one more allowance, which is `n`.
     pub fn allowed(&self, n: u64) -> History
         ensures exchanges { result.exchanges ≡ self.now.exchanges }
@@ -61,7 +71,7 @@ impl History {
         self.with(&Event::Allowed(n))
     }
 
-    // Adds an event. Nothing happens at run time, because the lists exist only in the proof.
+    // Does nothing at run time, because the lists exist only in the proof.
     #[inline(always)]
     fn with(&self, _event: &Event<'_>) -> History
         ensures { (result.exchanges ≡ exchanges_with _event.now self.now.exchanges)

@@ -9,16 +9,6 @@
 //! assert!(rt; protected([0x04, 0x00], chip.size, 0x7E0000));
 //! assert!(rt; !protected([0x04, 0x00], chip.size, 0x7DFFFF));
 //! ```
-//!
-//! - `bus.rt`: the traits `Bus` and `Meter`, and the error `Stopped`
-//! - `config.rt`: the properties of a chip that never change, and the three emulated chips
-//! - `status.rt`: the status registers and the names of their bits
-//! - `command.rt`: decodes the bytes of a transaction
-//! - `guard.rt`: the address ranges that block protection protects
-//! - `guard/walk.rt`: an iterator over the address ranges that can be protected
-//! - `running.rt`: the operation that a busy chip executes
-//! - `history.rt`: the history of a bus, which only contracts can read: the transactions with their replies, and the
-//!   allowances
 #![tactic(auto)]
 
 mod bus;
@@ -26,6 +16,7 @@ mod command;
 mod config;
 mod guard;
 mod history;
+pub mod opcodes;
 mod running;
 mod status;
 
