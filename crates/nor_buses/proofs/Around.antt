@@ -1,14 +1,17 @@
 -- A bus that may send several transactions of the bus inside for one of its own meets the contract of a bus.
-use Rattle.std.proofs.Common.{◌≡◌, ◌≤◌, ◌&&◌, ◌⊎◌, ℕ, Bool, true, false, List, length, ◌∙◌, arith, inl, inr, refl, ap}
+use Rattle.std.proofs.Common.{◌≡◌, ◌≤◌, ◌&&◌, ◌||◌, ◌⊎◌, ℕ, Bool, true, false, List, length, ◌∙◌, arith, inl, inr, refl, sym, ap, subst}
 use Rattle.std.specs.Prelude.{◌+◌, ◌-◌, nat_le, Result, OnOk, OnErr}
 use Rattle.std.proofs.Math.Nat.{min-le_left, min-le_right}
+use Rattle.std.proofs.Math.Seq.{take-length}
 use Rattle.std.proofs.lemmas.Bool.{false≢true, and_parts, leb-true}
 use Rattle.std.proofs.lemmas.Result.{on_ok_weaker, on_err_weaker}
 use Rattle.nor_model.specs.Exchange.{Exchange}
 use Rattle.nor_model.specs.Bus.{BusState, SameNature, IsHonestFor, AtStop, Stops, Carries, Records, Transfers}
 use Rattle.nor_model.specs.declared.bus.Stopped.{Stopped}
+use Rattle.nor_model.specs.Step.{Step, done_of, wears}
 use Rattle.nor_buses.specs.ReadsAs.{around, beside}
-use Rattle.nor_buses.specs.Keeps.{MakesStep}
+use Rattle.nor_buses.specs.Keeps.{MakesStep, StopsUnread}
+use Rattle.nor_buses.specs.Watched.{unsteady}
 use Rattle.nor_buses.specs.Splitting.{reads_longer, splits, takes_whole}
 
 fits_inside : {out : List ℕ} {n : ℕ} {inside : BusState} {history : List Exchange}
@@ -113,6 +116,67 @@ module _ {out : List ℕ} {a b : BusState} {h h' : List Exchange} where
     carries = λ fits. on_ok_weaker outcome carries_beside (steps (beside_fits fits));
     records = records;
   }
+
+-- ---- a bus that may stop after a transaction that was carried out
+
+fits_unsteady : {out : List ℕ} {n : ℕ} {inside : BusState} → IsHonestFor out n (unsteady inside)
+    → IsHonestFor out n inside
+fits_unsteady fits = record { honest = fits.honest; fits = fits.fits }
+
+pub stops_unsteady : {out : List ℕ} {old new : BusState} → AtStop out old new
+    → AtStop out (unsteady old) (unsteady new)
+stops_unsteady at = record {
+  count = at.count;
+  read = at.read;
+  reached = at.reached;
+  step = at.step;
+  chip = at.chip;
+  worn = at.worn;
+  none = λ steady. absurd (false≢true steady);
+  unsent = λ steady. absurd (false≢true steady);
+}
+
+steps_unsteady : {out answer : List ℕ} {old new : BusState} → MakesStep out answer old new
+    → MakesStep out answer (unsteady old) (unsteady new)
+steps_unsteady made = record { step = made.step; worn = made.worn }
+
+-- If the bus carried out a transaction, and then stopped at one that leaves the chip as it was, it stopped after the
+-- last byte of the first one.
+pub stops_behind : {out answer : List ℕ} {old mid new : BusState} → Carries out answer old mid → StopsUnread mid new
+    → AtStop out (unsteady old) (unsteady new)
+stops_behind {out} {answer} {old} {mid} {new} carries stops = record {
+  count = length out;
+  read = answer;
+  reached = mid.chip;
+  step = subst (λ (sent : List ℕ). Step old.chip sent answer mid.chip) (sym (take-length out)) carries.step;
+  chip = stops.chip;
+  worn = λ s. subst (λ (sent : List ℕ). new.worn s ≡ (old.worn s || wears (done_of old.chip sent (length answer)) s))
+      (sym (take-length out)) (stops.worn s ∙ carries.worn s);
+  none = λ steady. absurd (false≢true steady);
+  unsent = λ steady. absurd (false≢true steady);
+}
+
+-- The same as `transfers_beside`, for a bus that isn't steady.
+pub transfers_unsteady : {out before answer : List ℕ} {a b : BusState} {h h' : List Exchange}
+    (outcome : Result Unit Stopped) → SameNature a b
+    → (IsHonestFor out (length before) a → OnErr outcome (AtStop out (unsteady a) (unsteady b)))
+    → (IsHonestFor out (length before) a → OnOk outcome (MakesStep out answer a b))
+    → Records out answer outcome (beside (unsteady a) h) (beside (unsteady b) h')
+    → Transfers out before answer outcome (beside (unsteady a) h) (beside (unsteady b) h')
+transfers_unsteady {out} {before} {answer} {a} {b} {h} {h'} outcome nature stops steps records =
+    transfers_beside {out = out} {a = unsteady a} {b = unsteady b} {h = h} {h' = h'} {before = before} {answer = answer}
+    outcome
+    (record {
+      honest = nature.honest;
+      steady = refl;
+      unlimited = nature.unlimited;
+      longer = nature.longer;
+      punctual = nature.punctual;
+      config = nature.config;
+    })
+    (λ fits. stops (fits_unsteady {inside = a} fits))
+    (λ fits. on_ok_weaker outcome (steps_unsteady {old = a} {new = b}) (steps (fits_unsteady {inside = a} fits)))
+    records
 
 -- ---- a bus that passes on what a well-behaved bus must take
 

@@ -10,3 +10,7 @@ pub mod StatusRead
 pub mod Splits
 pub mod AfterRead
 pub mod HeldData
+pub mod SomeChips
+pub mod Judged
+pub mod Plain
+pub mod Fitting

@@ -12,7 +12,11 @@ pub mod StatusRead
 pub mod KnownStatus
 pub mod Checked
 pub mod SameChip
+pub mod SomeChips
+pub mod Listed
+pub mod Bit6
 pub mod KnownStatus2
 pub mod Watched
 pub mod OtherMakers
 pub mod KeptQuad
+pub mod Layers

@@ -1,6 +1,6 @@
 -- A bus that changes two replies of other makers' chips, as contracts see it.
 use Rattle.std.specs.Prelude.{◌≡◌, ◌==◌, ◌&&◌, ◌||◌, ◌%◌, ℕ, Bool, List, ◌∷◌, length, not, replicate, slice_index}
-use Rattle.std.specs.Prelude.{bytes_eq, slice_set, if◌then◌else◌}
+use Rattle.std.specs.Prelude.{bytes_eq, slice_set, if◌then◌else◌, ◌/◌, true, false, nat_lt, take}
 use Rattle.nor_model.specs.Bus.{BusState, unknown_bus}
 use Rattle.nor_model.specs.Exchange.{Exchange}
 use Rattle.nor_model.specs.History.{begins_with, replied}
@@ -17,6 +17,14 @@ missing_as other = other.missing
 -- True if the chip must erase sectors of 4 KiB everywhere.
 abbrev pub refuses_uneven : {B : Type 0} → OtherMakers B → Bool
 refuses_uneven other = other.refuses_uneven
+
+-- True if the last header of the table that was read gives a double word 11.
+abbrev pub has_word_11 : {B : Type 0} → OtherMakers B → Bool
+has_word_11 other = other.has_word_11
+
+-- True if the last table that was read with its double word 11 says that a page has fewer than 256 bytes.
+abbrev pub has_small_pages : {B : Type 0} → OtherMakers B → Bool
+has_small_pages other = other.has_small_pages
 
 -- The transactions that the bus was asked to carry out, each with its reply, the last one first.
 abbrev pub history_of : {B : Type 0} → OtherMakers B → List Exchange
@@ -75,8 +83,24 @@ adapted_reply missing refuses out reply =
     if is_unique_read out && is_missing reply then replicate (length reply) missing
     else (if is_table_read out reply then shown_table (refuses && is_uneven reply) reply else reply)
 
--- Holds if the transaction was passed on unchanged, and `reply` is what `adapted_reply` makes of its reply.
-pub record ShowsReply (missing : ℕ) (refuses : Bool) (out reply : List ℕ) (old new : List Exchange) : Type 0 where
+-- True if double word 11 of these 44 bytes of an SFDP table says that a page has fewer than 2^8 bytes.
+abbrev pub is_small_page : (table : List ℕ) → Bool
+is_small_page table = nat_lt (slice_index table 40 / 16) 8
+
+-- True if the bus reads 44 bytes in place of a table's 36: the chip must have sectors of 4 KiB everywhere and pages of
+-- 256 bytes, and its header gives a double word 11.
+abbrev pub looks_further : {B : Type 0} → OtherMakers B → (out reply : List ℕ) → Bool
+looks_further other out reply = refuses_uneven other && has_word_11 other && is_table_read out reply
+
+-- What the bus returns if the chip returned these 44 bytes of an SFDP table.
+abbrev pub judged_table : (table : List ℕ) → List ℕ
+judged_table table = shown_table (is_uneven table || is_small_page table) (take 36 table)
+
+-- Holds if the transaction was passed on unchanged, and `reply` is what `adapted_reply` makes of its reply. If `looks`
+-- is true, 44 bytes were read instead, and `reply` is what `judged_table` makes of them.
+pub record ShowsReply (missing : ℕ) (refuses looks : Bool) (out reply : List ℕ) (old new : List Exchange) : Type 0 where
   pub raw : List ℕ
   pub history : new ≡ replied out raw ∷ old
-  pub shown : reply ≡ adapted_reply missing refuses out raw
+  pub shown : looks ≡ false → reply ≡ adapted_reply missing refuses out raw
+  pub len : looks ≡ true → length raw ≡ 44
+  pub judged : looks ≡ true → reply ≡ judged_table raw

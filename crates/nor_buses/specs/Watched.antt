@@ -1,9 +1,10 @@
 -- A bus that notices that a chip which seems to be busy has lost its contact or its supply, as contracts see it.
 use Rattle.std.specs.Prelude.{◌≡◌, ◌==◌, ◌&&◌, ◌+◌, ℕ, Bool, true, false, List, [], ◌∷◌, nat_lt, nat_le, not}
 use Rattle.std.specs.Prelude.{if◌then◌else◌}
-use Rattle.nor_model.specs.Bus.{BusState, unknown_bus}
+use Rattle.nor_model.specs.Bus.{BusState}
 use Rattle.nor_model.specs.Exchange.{Exchange}
 use Rattle.nor_model.specs.History.{replied}
+use Rattle.nor_buses.specs.ReadsAs.{beside}
 use Rattle.nor_buses.specs.declared.watched.Watched.{Watched}
 
 -- The bus inside, which carries out the transactions of a `Watched`.
@@ -26,12 +27,14 @@ has_status watched = watched.has_status
 abbrev pub history_of : {B : Type 0} → Watched B → List Exchange
 history_of watched = watched.history.exchanges
 
--- The state of the bus: the chip of the bus inside, with the history of this bus. It is not claimed to be well-behaved.
+-- The state of a bus that may stop after a transaction that modified the chip, so it isn't steady.
+abbrev pub unsteady : BusState → BusState
+unsteady inside = record inside { steady = false }
+
+-- The state of the bus. It is well-behaved if the bus inside is. It is not punctual, because it may stop for reasons of
+-- its own, and not steady, because it may stop after a poll that showed BUSY, of which the chip shows a limited number.
 abbrev pub watched_state : {B : Type 0} → (inside : B → BusState) → Watched B → BusState
-watched_state inside watched = record (unknown_bus (history_of watched)) {
-  chip = (inside (watched_by watched)).chip;
-  further = (inside (watched_by watched)).further;
-}
+watched_state inside watched = beside (unsteady (inside (watched_by watched))) (history_of watched)
 
 -- True if a transaction that sent `out` is a poll whose reply is one or two bytes FFh.
 abbrev pub is_undriven : (out reply : List ℕ) → Bool

@@ -9,11 +9,9 @@ ghost use Rattle.nor_buses.specs.Again.{CarriesOther};
 ghost use Rattle.nor_buses.specs.Again.{IsExpected, DiffersInSector, DiffersBetween, data_read, RepeatsBelow, HasData};
 
 use nor_geometry::SECTOR_LEN;
+use nor_model::opcodes::READ_DATA;
 use nor_model::{Bus, Stopped};
 
-const READ_DATA: u8 = 0x03;
-
-// A run of neighbouring sectors of a reply that all equal the image, or that all differ from it.
 #[derive(Clone, Copy)]
 struct Run {
     end: usize,
@@ -110,7 +108,6 @@ fn run_from(image: &[u8], address: u32, reply: &[u8], from: usize) -> Run
     Run { end, is_expected }
 }
 
-// Returns the index after the end of the sector that contains the index `from`, or `len` if the reply ends before it.
 fn sector_end(address: u32, from: usize, len: usize) -> usize
     requires fits { address + len ≤ 16777216 }
     requires some { from < len }

@@ -10,13 +10,12 @@ ghost use Rattle.nor_buses.specs.ReadsAs.{reads_data, address_in, around, KeepsR
 ghost use Rattle.nor_buses.specs.ReadsAs.{HoldsReply, EndsWithRead, EndsWithData};
 
 use nor_geometry::SECTOR_LEN;
+use nor_model::opcodes::READ_DATA;
 use nor_model::{Bus, History, Stopped};
 
 // The greatest length of a block. The size of a chip is a multiple of it, so a block that lies between two multiples of
 // this length does not reach past the end of a chip.
 const LONGEST_BLOCK: u32 = 1 << 16;
-
-const READ_DATA: u8 = 0x03;
 
 /// A bus that reads data (03h) ahead, if reads follow each other. It keeps the bytes that it last read over the bus
 /// inside in memory: the *block*. If the block has all bytes of a read, they are returned from memory. Otherwise a new
@@ -43,20 +42,15 @@ pub struct ReadAhead<B: Bus + Drop> {
     block: [u8; LONGEST_BLOCK as usize],
     start: u32,
     len: u32,
-    // The intended length of the last block, which is shorter if it would pass a multiple of 64 KiB or `end`, and
-    // longer if the read needed more bytes.
     step: u32,
     longest: u32,
-    // The address at which a block ends at the latest, unless the read needs more bytes.
     end: u32,
     history: History,
     ghost fits: { len ≤ 65536 },
     ghost below: { start ≤ 16777216 },
     ghost longest_fits: { longest ≤ 65536 },
     ghost step_fits: { step ≤ 65536 },
-    // If the block holds bytes, they are the whole reply to the last transaction over the bus inside.
     ghost holds: { HoldsReply block start len (B.state bus).history },
-    // The bytes of the block are also those that the chip returns if they are read again.
     ghost same: { HoldsData longest block start len (B.state bus) },
 }
 
@@ -132,8 +126,6 @@ impl<B: Bus + Drop> ReadAhead<B> {
         }
     }
 
-    // Fills `reply` with the bytes from `address` on, which are copied from the block. Reads a new block first if
-    // needed.
     fn read(&mut self, address: u32, reply: &mut [u8]) -> Result<(), Stopped>
         requires address { address ≤ 16777215 }
         requires len { length reply.old ≤ longest_of self.old }
@@ -156,7 +148,6 @@ impl<B: Bus + Drop> ReadAhead<B> {
         Ok(())
     }
 
-    // Makes the block hold the `len` bytes from `address` on, with a new block that begins there if needed.
     fn hold(&mut self, address: u32, len: u32) -> Result<(), Stopped>
         requires address { address ≤ 16777215 }
         requires len { len ≤ longest_of self.old }
@@ -187,7 +178,6 @@ impl<B: Bus + Drop> ReadAhead<B> {
         self.fill(address, ahead.max(len))
     }
 
-    // Reads a block of `len` bytes from `address` on. If that fails, the block holds no bytes.
     fn fill(&mut self, address: u32, len: u32) -> Result<(), Stopped>
         requires address { address ≤ 16777215 }
         requires len { len ≤ longest_of self.old }
@@ -258,7 +248,6 @@ fn read_block<B: Bus>(bus: &mut B, address: u32, len: u32, block: &mut [u8]) -> 
     bus.transfer(&out, &mut block[..len as usize])
 }
 
-// Returns the address of a read of data (03h and three address bytes), or `None` for any other transaction.
 pub(crate) fn data_address(out: &[u8]) -> Option<u32>
     ensures reads { IfSome result (λ address. reads_data out.now ≡ true) }
     ensures fits { IfSome result (λ address. address ≤ 16777215) }

@@ -1,22 +1,16 @@
 //! A bus that hides bit 6 of status 1 if it is QE (quad enable), which protects nothing.
-ghost use Rattle.std.specs.Prelude.{◌≡◌, ◌∷◌, [], not, true, false, IfOk, OnErr, OnOk, length, slice_index, slice_set};
-ghost use Rattle.std.proofs.lemmas.Bool.{false≢true};
-ghost use Rattle.nor_model.specs.Bus.{Transfers};
+ghost use Rattle.std.specs.Prelude.{◌≡◌, ◌%◌, ◌∷◌, [], not, true, false, IfOk, OnErr, OnOk, length, slice_index, slice_set};
+ghost use Rattle.std.proofs.lemmas.Bool.{and_parts};
+ghost use Rattle.nor_model.specs.Bus.{IsHonestFor, SameNature, AtStop, Transfers};
 ghost use Rattle.nor_model.specs.History.{begins_with};
-ghost use Rattle.nor_buses.specs.KnownStatus2.{is_id_listed};
-ghost use Rattle.nor_buses.specs.KeptQuad.{kept_by, rows_of, has_quad, is_judged, history_of, kept_quad_state};
-ghost use Rattle.nor_buses.specs.KeptQuad.{names_bit6, is_bit6, without_quad, OnlyReadsOn, ShowsWithoutQuad};
+ghost use Rattle.nor_buses.specs.Listed.{is_id_listed};
+ghost use Rattle.nor_buses.specs.Keeps.{KeepsAll, StopsUnread, MakesStep};
+ghost use Rattle.nor_buses.specs.SomeChips.{chip_id};
+ghost use Rattle.nor_buses.specs.Bit6.{names_bit6, is_bit6, without_quad, OnlyReadsOn, ShowsWithoutQuad, IsPlain};
 
-use crate::known_status2::word_15_in;
+use crate::known_status2::{is_id_listed, word_15_in};
+use nor_model::opcodes::{READ_ID, READ_SFDP, READ_STATUS1, WRITE_STATUS};
 use nor_model::{Bus, History, Stopped};
-
-const READ_STATUS1: u8 = 0x05;
-
-const WRITE_STATUS: u8 = 0x01;
-
-const READ_ID: u8 = 0x9F;
-
-const READ_SFDP: u8 = 0x5A;
 
 // The headers of the SFDP: its own, and that of its first table (JESD216, headers).
 const HEADER: [u8; 5] = [READ_SFDP, 0, 0, 0, 0];
@@ -34,25 +28,35 @@ const FIRST_TABLE: [u8; 5] = [READ_SFDP, 0, 0, 8, 0];
 /// A status write to a chip whose QE is hidden stops, and nothing is sent, so QE stays as it is. Each other transaction
 /// is passed on unchanged. The engine sends no status write to a chip without a row.
 ///
+/// This bus is well-behaved if the bus inside is, and if bit 6 of the chip is never hidden, because the chip has an ID
+/// of `rows` or this bus doesn't hide. This bus is never punctual.
+///
 /// The history lists each transaction over this bus with its reply. In contracts, the chip is that of the bus inside.
-/// This bus is not well-behaved, because it returns other status bits than the chip.
+/// The modifying commands and the result of the last poll are those of this bus's own history.
 #[derive(Drop)]
-pub struct KeptQuad<B> {
+pub struct KeptQuad<B: Bus + Drop> {
     bus: B,
     // The IDs of the chips that have a row.
     rows: &'static [[u8; 3]],
+    // True if bit 6 is hidden if it is QE.
+    hides: bool,
     has_quad: bool,
     // True if the place of QE was looked up, or doesn't matter.
     is_judged: bool,
     history: History,
+    // Bit 6 of a chip with an ID of `rows` isn't hidden.
+    ghost plain: { IsPlain rows.now hides has_quad is_judged (B.state bus) },
 }
 
 impl<B: Bus + Drop> KeptQuad<B> {
+    ghost use Rattle.nor_buses.specs.KeptQuad.{kept_by, rows_of, hides_of, has_quad, is_judged, history_of};
+
     /// Returns a bus over `bus`. The chips with the IDs `rows` have SEC as bit 6. If `hides` is false, each transaction
     /// is passed on unchanged.
     pub fn new(bus: B, rows: &'static [[u8; 3]], hides: bool) -> KeptQuad<B>
         ensures bus { kept_by result ≡ bus }
         ensures rows { rows_of result ≡ rows.now }
+        ensures hides { hides_of result ≡ hides }
         ensures quad { has_quad result ≡ false }
         ensures judged { is_judged result ≡ not hides }
         ensures history { history_of result ≡ [] }
@@ -60,6 +64,7 @@ impl<B: Bus + Drop> KeptQuad<B> {
         KeptQuad {
             bus,
             rows,
+            hides,
             has_quad: false,
             is_judged: !hides,
             history: History::new(),
@@ -74,11 +79,24 @@ impl<B: Bus + Drop> KeptQuad<B> {
     }
 }
 
-impl<B: Bus> KeptQuad<B> {
+impl<B: Bus + Drop> KeptQuad<B> {
+    ghost use Rattle.nor_buses.specs.KeptQuad.{kept_by, rows_of, hides_of, has_quad, is_judged, history_of, inside_kept};
+
     // Finds out whether bit 6 of status 1 is QE.
+    #[tactic(auto, using(crate::proofs::Plain::plain_still, crate::proofs::Plain::plain_judged))]
     fn judge(&mut self) -> Result<(), Stopped>
+        requires unjudged { is_judged self.old ≡ false }
+        requires idle { (B.state (kept_by self.old)).honest ≡ true → (B.state (kept_by self.old)).chip.busy ≡ 0 }
         ensures history { history_of self.new ≡ history_of self.old }
         ensures rows { rows_of self.new ≡ rows_of self.old }
+        ensures same { hides_of self.new ≡ hides_of self.old }
+        ensures nature { SameNature (B.state (kept_by self.old)) (B.state (kept_by self.new)) }
+        ensures keeps { (B.state (kept_by self.old)).honest ≡ true
+            → is_id_listed (rows_of self.old) (chip_id (B.state (kept_by self.old)).chip.config) ≡ true
+            → OnOk result (KeepsAll (B.state (kept_by self.old)) (B.state (kept_by self.new))) }
+        ensures stops { (B.state (kept_by self.old)).honest ≡ true
+            → is_id_listed (rows_of self.old) (chip_id (B.state (kept_by self.old)).chip.config) ≡ true
+            → OnErr result (StopsUnread (B.state (kept_by self.old)) (B.state (kept_by self.new))) }
         ensures reads { OnlyReadsOn (B.state (kept_by self.old)) (B.state (kept_by self.new)) }
         ensures learns { has_quad self.old ≡ false → has_quad self.new ≡ true
             → names_bit6 (B.state (kept_by self.new)).history ≡ true }
@@ -90,9 +108,22 @@ impl<B: Bus> KeptQuad<B> {
     }
 
     // Reads the ID and the SFDP. Returns whether they say that bit 6 of status 1 is QE.
+    #[tactic(auto, using(crate::proofs::Plain::plain_still))]
     fn is_bit6(&mut self) -> Result<bool, Stopped>
+        requires { (B.state (kept_by self.old)).honest ≡ true → (B.state (kept_by self.old)).chip.busy ≡ 0 }
         ensures history { history_of self.new ≡ history_of self.old }
         ensures rows { rows_of self.new ≡ rows_of self.old }
+        ensures same { hides_of self.new ≡ hides_of self.old }
+        ensures nature { SameNature (B.state (kept_by self.old)) (B.state (kept_by self.new)) }
+        ensures row { (B.state (kept_by self.old)).honest ≡ true
+            → is_id_listed (rows_of self.old) (chip_id (B.state (kept_by self.old)).chip.config) ≡ true
+            → IfOk result (λ is. is ≡ false) }
+        ensures keeps { (B.state (kept_by self.old)).honest ≡ true
+            → is_id_listed (rows_of self.old) (chip_id (B.state (kept_by self.old)).chip.config) ≡ true
+            → OnOk result (KeepsAll (B.state (kept_by self.old)) (B.state (kept_by self.new))) }
+        ensures stops { (B.state (kept_by self.old)).honest ≡ true
+            → is_id_listed (rows_of self.old) (chip_id (B.state (kept_by self.old)).chip.config) ≡ true
+            → OnErr result (StopsUnread (B.state (kept_by self.old)) (B.state (kept_by self.new))) }
         ensures quad { has_quad self.new ≡ has_quad self.old }
         ensures judged { is_judged self.new ≡ is_judged self.old }
         ensures reads { OnlyReadsOn (B.state (kept_by self.old)) (B.state (kept_by self.new)) }
@@ -101,7 +132,7 @@ impl<B: Bus> KeptQuad<B> {
     {
         let mut id = [0; 3];
         self.bus.transfer(&[READ_ID], &mut id)?;
-        if self.rows.iter().any(|row| *row == id) {
+        if is_id_listed(self.rows, id) {
             return Ok(false);
         }
         let mut header = [0; 8];
@@ -122,9 +153,16 @@ impl<B: Bus> KeptQuad<B> {
     }
 
     // Makes one transaction, and does not add it to the history.
+    #[tactic(auto, using(crate::proofs::Plain::plain_still))]
     fn carry(&mut self, out: &[u8], reply: &mut [u8]) -> Result<(), Stopped>
         ensures history { history_of self.new ≡ history_of self.old }
         ensures rows { rows_of self.new ≡ rows_of self.old }
+        ensures same { hides_of self.new ≡ hides_of self.old }
+        ensures nature { SameNature (B.state (kept_by self.old)) (B.state (kept_by self.new)) }
+        ensures steps { IsHonestFor out.now (length reply.old) (inside_kept self.old) → OnOk result
+            (MakesStep out.now reply.new (B.state (kept_by self.old)) (B.state (kept_by self.new))) }
+        ensures stops { IsHonestFor out.now (length reply.old) (inside_kept self.old) → OnErr result
+            (AtStop out.now (B.state (kept_by self.old)) (B.state (kept_by self.new))) }
         ensures passes { begins_with 0x05 out.now ≡ false → begins_with 0x01 out.now ≡ false
             → Transfers out.now reply.old reply.new result
             (B.state (kept_by self.old)) (B.state (kept_by self.new)) }
@@ -146,16 +184,28 @@ impl<B: Bus> KeptQuad<B> {
         }
         self.bus.transfer(out, reply)?;
         if is_poll(out, reply) {
-            self.hide(reply)?;
+            self.hide(out, reply)?;
         }
         Ok(())
     }
 
-    // Clears bit 6 of a status byte if it is QE. If that isn't known yet, finds it out first.
-    fn hide(&mut self, reply: &mut [u8]) -> Result<(), Stopped>
-        requires { length reply.old ≡ 1 }
+    // Clears bit 6 of a status byte if it is QE. If that isn't known yet, finds it out first, if `out` is 05h alone.
+    fn hide(&mut self, out: &[u8], reply: &mut [u8]) -> Result<(), Stopped>
+        requires len { length reply.old ≡ 1 }
+        requires idle { (B.state (kept_by self.old)).honest ≡ true → length out.now ≡ 1
+            → slice_index reply.old 0 % 2 ≡ 0 → (B.state (kept_by self.old)).chip.busy ≡ 0 }
         ensures history { history_of self.new ≡ history_of self.old }
         ensures rows { rows_of self.new ≡ rows_of self.old }
+        ensures same { hides_of self.new ≡ hides_of self.old }
+        ensures nature { SameNature (B.state (kept_by self.old)) (B.state (kept_by self.new)) }
+        ensures whole { has_quad self.new ≡ false → reply.new ≡ reply.old }
+        ensures idles { OnErr result ((length out.now ≡ 1) × (slice_index reply.old 0 % 2 ≡ 0)) }
+        ensures keeps { (B.state (kept_by self.old)).honest ≡ true
+            → is_id_listed (rows_of self.old) (chip_id (B.state (kept_by self.old)).chip.config) ≡ true
+            → OnOk result (KeepsAll (B.state (kept_by self.old)) (B.state (kept_by self.new))) }
+        ensures stops { (B.state (kept_by self.old)).honest ≡ true
+            → is_id_listed (rows_of self.old) (chip_id (B.state (kept_by self.old)).chip.config) ≡ true
+            → OnErr result (StopsUnread (B.state (kept_by self.old)) (B.state (kept_by self.new))) }
         ensures stays { is_judged self.old ≡ true → (self.new ≡ self.old) × OnErr result ⊥ }
         ensures elsewhere { is_judged self.old ≡ true → has_quad self.old ≡ false → reply.new ≡ reply.old }
         ensures hides { is_judged self.old ≡ true → has_quad self.old ≡ true
@@ -164,7 +214,7 @@ impl<B: Bus> KeptQuad<B> {
             → names_bit6 (B.state (kept_by self.new)).history ≡ true }
     {
         let status = reply[0];
-        if !self.is_judged && shows_bit6(status) {
+        if !self.is_judged && out.len() == 1 && shows_bit6(status) {
             self.judge()?;
         }
         if self.has_quad {
@@ -174,14 +224,16 @@ impl<B: Bus> KeptQuad<B> {
     }
 }
 
-impl<B: Bus> Bus for KeptQuad<B> {
-    ghost state = { kept_quad_state B.state };
+impl<B: Bus + Drop> Bus for KeptQuad<B> {
+    ghost use Rattle.nor_buses.specs.KeptQuad.{kept_by, rows_of, has_quad, is_judged, kept_quad_state};
 
-    ghost reaches = { λ kept honest. absurd (false≢true honest) };
+    ghost state = { kept_quad_state };
+
+    ghost reaches = { λ kept honest. B.reaches kept.bus (and_parts _ _ honest).0 };
 
     fn transfer(&mut self, out: &[u8], reply: &mut [u8]) -> Result<(), Stopped>
         ensures law { Transfers out.now reply.old reply.new result
-            (kept_quad_state B.state self.old) (kept_quad_state B.state self.new) }
+            (kept_quad_state self.old) (kept_quad_state self.new) }
         ensures rows { rows_of self.new ≡ rows_of self.old }
         ensures passes { begins_with 0x05 out.now ≡ false → begins_with 0x01 out.now ≡ false
             → Transfers out.now reply.old reply.new result
@@ -232,7 +284,9 @@ fn is_poll(out: &[u8], reply: &[u8]) -> bool
 }
 
 // Returns whether status 1 shows an idle chip with bit 6 set.
-fn shows_bit6(status: u8) -> bool {
+fn shows_bit6(status: u8) -> bool
+    ensures { result ≡ true → status % 2 ≡ 0 }
+{
     status % 2 == 0 && status / 64 % 2 == 1
 }
 

@@ -5,8 +5,7 @@ ghost use Rattle.nor_buses.specs.KnownStatus.{KeepsBits, KeepsKnown};
 
 use crate::counts::ChangedByte;
 use nor_model::Status;
-
-const WRITE_STATUS: u8 = 0x01;
+use nor_model::opcodes::WRITE_STATUS;
 
 /// The reason why a `CheckedStatus` stopped although the bus inside did not.
 #[derive(Clone, Copy, Debug, PartialEq, Eq)]
@@ -14,10 +13,9 @@ pub enum CheckFault {
     /// Two reads of one status register (05h or 35h) had different replies. Examples: one poll showed a ready chip and
     /// the next one BUSY, or two reply bytes of one poll differ although both show a ready chip.
     Differs,
-    /// A status write was not sent, because it could change a bit that this bus keeps, and some of these bits can be
-    /// set only once. Status 1 or 2 was not read yet, such a bit differs from the one that was read, BUSY, WEL or SUS
-    /// is set in the write, or the write doesn't have exactly two data bytes. All bits are kept except the protection
-    /// bits, or after `locking` except SRP0.
+    /// A status write was not sent: status 1 or 2 was not read before, the write doesn't have exactly two data bytes,
+    /// BUSY, WEL or SUS is set in it, or it would change a bit that this bus keeps. The bus keeps all bits except the
+    /// protection bits (after `locking`, all bits except SRP0), because some of them can be set only once.
     Refused,
     /// The status write of `sent` was not stored: afterwards the status registers are `found`, which differs in a
     /// non-volatile bit.
@@ -29,7 +27,6 @@ pub enum CheckFault {
     ChangedByte(ChangedByte),
 }
 
-// What a `CheckedStatus` knows about the chip.
 #[derive(Clone, Copy)]
 pub(crate) struct Known {
     // Status 1 and status 2. Each is known if the register was read twice with the same value, and the known ID was
@@ -45,8 +42,6 @@ pub(crate) struct Known {
     pub(crate) locks: bool,
 }
 
-// Returns the two bytes of the status write `out` if it changes only what it may, with BUSY, WEL and SUS clear. Returns
-// `None` for any other transaction, or if a status register isn't known.
 pub(crate) fn kept_status(known: &Known, out: &[u8]) -> Option<[u8; 2]>
     ensures { IfSome result (KeepsKnown known.now out.now) }
 {

@@ -1,19 +1,14 @@
 //! A bus that reads status 2 (35h) only from a chip that is known to have this command.
 ghost use Rattle.std.specs.Prelude.{◌≡◌, ◌⊎◌, ◌||◌, ◌<◌, ℕ, [], true, false, length, slice_index, OnErr, OnOk};
-ghost use Rattle.std.proofs.lemmas.Bool.{false≢true};
-ghost use Rattle.nor_model.specs.Bus.{Transfers};
+ghost use Rattle.std.proofs.lemmas.Bool.{and_parts};
+ghost use Rattle.nor_model.specs.Bus.{IsHonestFor, SameNature, AtStop, Transfers};
 ghost use Rattle.nor_model.specs.History.{begins_with};
-ghost use Rattle.nor_buses.specs.KnownStatus2.{known_by, has_status2, ids_of, before_of, history_of};
-ghost use Rattle.nor_buses.specs.KnownStatus2.{known_status2_state, asks_none, is_id_listed, is_same, shows_known};
-ghost use Rattle.nor_buses.specs.KnownStatus2.{is_readable, names_status2};
+ghost use Rattle.nor_buses.specs.Keeps.{KeepsAll, StopsUnread, MakesStep};
+ghost use Rattle.nor_buses.specs.Listed.{asks_none, is_id_listed, is_same, shows_id, shows_known};
+ghost use Rattle.nor_buses.specs.Listed.{is_readable, names_status2, IsKnownOnceRead, RepliesId};
 
+use nor_model::opcodes::{READ_ID, READ_SFDP, READ_STATUS2};
 use nor_model::{Bus, History, Stopped};
-
-const READ_STATUS2: u8 = 0x35;
-
-const READ_ID: u8 = 0x9F;
-
-const READ_SFDP: u8 = 0x5A;
 
 // The number of double words that the first parameter table must have to contain the quad enable requirements, which
 // are in double word 15.
@@ -38,24 +33,35 @@ const WORD_15: u32 = 56;
 /// `CheckedStatus` does. That bus sends 35h also of its own accord, after a status write; but it sends a status write
 /// only if 35h was passed on to it before.
 ///
+/// Before an ID other than FFFFFFh was read (9Fh alone, with three reply bytes), nothing is known about the chip. Then
+/// 35h stops, unless double word 15 names it.
+///
+/// This bus is well-behaved if the bus inside is and the chip has an ID of `ids`, or the ID `before`. It is never
+/// punctual. If the chip is known, each transaction over it is one transaction of the bus inside (`known`).
+///
 /// The history lists each transaction over this bus with its reply. In contracts, the chip is that of the bus inside.
-/// This bus is not well-behaved, because it replies 00h for a chip that isn't known. If the chip is known, each
-/// transaction over it is one transaction of the bus inside (`known`).
+/// The modifying commands and the result of the last poll are those of this bus's own history.
 #[derive(Drop)]
-pub struct KnownStatus2<B> {
+pub struct KnownStatus2<B: Bus + Drop> {
     bus: B,
     // The IDs of the chips that have the command.
     ids: &'static [[u8; 3]],
     // The ID of a chip whose status 2 an earlier run read.
     before: Option<[u8; 3]>,
     is_known: bool,
+    // True if an ID other than FFFFFFh was read.
+    has_id: bool,
     // The address of double word 15 that is still to be read. `None` before the table's header was read, if the table
     // lacks this double word, and after the double word was read.
     word_15: Option<u32>,
     history: History,
+    // If an ID was read, a chip with an ID of `ids` or with the ID `before` is known.
+    ghost judged: { IsKnownOnceRead ids.now before has_id is_known (B.state bus) },
 }
 
 impl<B: Bus + Drop> KnownStatus2<B> {
+    ghost use Rattle.nor_buses.specs.KnownStatus2.{known_by, has_status2, ids_of, before_of, history_of};
+
     /// Returns a bus over `bus`. The chips with the IDs `ids` have the command. So has the one with the ID `before`, if
     /// it is given, because an earlier run read its status 2.
     pub fn new(bus: B, ids: &'static [[u8; 3]], before: Option<[u8; 3]>) -> KnownStatus2<B>
@@ -70,6 +76,7 @@ impl<B: Bus + Drop> KnownStatus2<B> {
             ids,
             before,
             is_known: false,
+            has_id: false,
             word_15: None,
             history: History::new(),
         }
@@ -90,8 +97,11 @@ impl<B: Bus + Drop> KnownStatus2<B> {
     }
 }
 
-impl<B: Bus> KnownStatus2<B> {
+impl<B: Bus + Drop> KnownStatus2<B> {
+    ghost use Rattle.nor_buses.specs.KnownStatus2.{known_by, has_status2, ids_of, before_of, history_of, inside_known};
+
     // Reads double word 15 if its address is known, and records whether it names 35h.
+    #[tactic(auto, using(crate::proofs::Judged::judged_still))]
     fn find_out(&mut self) -> Result<(), Stopped>
         ensures history { history_of self.new ≡ history_of self.old }
         ensures ids { ids_of self.new ≡ ids_of self.old }
@@ -101,6 +111,11 @@ impl<B: Bus> KnownStatus2<B> {
         ensures stays { has_status2 self.old ≡ true → (self.new ≡ self.old) × OnErr result ⊥ }
         ensures learns { has_status2 self.old ≡ false → has_status2 self.new ≡ true
             → names_status2 (B.state (known_by self.new)).history ≡ true }
+        ensures nature { SameNature (B.state (known_by self.old)) (B.state (known_by self.new)) }
+        ensures keeps { (B.state (known_by self.old)).honest ≡ true
+            → OnOk result (KeepsAll (B.state (known_by self.old)) (B.state (known_by self.new))) }
+        ensures stops { (B.state (known_by self.old)).honest ≡ true
+            → OnErr result (StopsUnread (B.state (known_by self.old)) (B.state (known_by self.new))) }
     {
         if self.is_known {
             return Ok(());
@@ -117,6 +132,7 @@ impl<B: Bus> KnownStatus2<B> {
     }
 
     // Makes one transaction, and does not add it to the history.
+    #[tactic(auto, using(crate::proofs::Judged::judged_still, crate::proofs::Judged::replies_id))]
     fn carry(&mut self, out: &[u8], reply: &mut [u8]) -> Result<(), Stopped>
         ensures history { history_of self.new ≡ history_of self.old }
         ensures ids { ids_of self.new ≡ ids_of self.old }
@@ -133,14 +149,22 @@ impl<B: Bus> KnownStatus2<B> {
         ensures learns { has_status2 self.old ≡ false → has_status2 self.new ≡ true
             → (shows_known (ids_of self.old) (before_of self.old) out.now reply.new ≡ true)
             ⊎ (names_status2 (B.state (known_by self.new)).history ≡ true) }
+        ensures nature { SameNature (B.state (known_by self.old)) (B.state (known_by self.new)) }
+        ensures steps { IsHonestFor out.now (length reply.old) (inside_known self.old) → OnOk result
+            (MakesStep out.now reply.new (B.state (known_by self.old)) (B.state (known_by self.new))) }
+        ensures stops { IsHonestFor out.now (length reply.old) (inside_known self.old) → OnErr result
+            (AtStop out.now (B.state (known_by self.old)) (B.state (known_by self.new))) }
     {
         if is_second(out) {
             self.find_out()?;
-            if !self.is_known {
-                reply.fill(0);
-                return Ok(());
+            if self.is_known {
+                return self.bus.transfer(out, reply);
             }
-            return self.bus.transfer(out, reply);
+            if !self.has_id {
+                return Err(Stopped);
+            }
+            reply.fill(0);
+            return Ok(());
         }
         self.bus.transfer(out, reply)?;
         self.remember(out, reply);
@@ -148,7 +172,9 @@ impl<B: Bus> KnownStatus2<B> {
     }
 
     // Records what the reply to a transaction says about the chip.
+    #[tactic(auto, using(crate::proofs::Judged::judged_by))]
     fn remember(&mut self, out: &[u8], reply: &[u8])
+        requires { RepliesId out.now reply.now (B.state (known_by self.old)) }
         ensures history { history_of self.new ≡ history_of self.old }
         ensures ids { ids_of self.new ≡ ids_of self.old }
         ensures before { before_of self.new ≡ before_of self.old }
@@ -157,20 +183,23 @@ impl<B: Bus> KnownStatus2<B> {
             ≡ (has_status2 self.old || shows_known (ids_of self.old) (before_of self.old) out.now reply.now) }
     {
         self.is_known = self.is_known || is_known_chip(self.ids, self.before, out, reply);
+        self.has_id = self.has_id || is_id(out, reply);
         if let [READ_SFDP, 0, 0, 8, _] = out {
             self.word_15 = word_15_in(reply);
         }
     }
 }
 
-impl<B: Bus> Bus for KnownStatus2<B> {
-    ghost state = { known_status2_state B.state };
+impl<B: Bus + Drop> Bus for KnownStatus2<B> {
+    ghost use Rattle.nor_buses.specs.KnownStatus2.{known_by, has_status2, ids_of, before_of, known_status2_state};
 
-    ghost reaches = { λ known honest. absurd (false≢true honest) };
+    ghost state = { known_status2_state };
+
+    ghost reaches = { λ known honest. B.reaches known.bus (and_parts _ _ honest).0 };
 
     fn transfer(&mut self, out: &[u8], reply: &mut [u8]) -> Result<(), Stopped>
         ensures law { Transfers out.now reply.old reply.new result
-            (known_status2_state B.state self.old) (known_status2_state B.state self.new) }
+            (known_status2_state self.old) (known_status2_state self.new) }
         ensures ids { ids_of self.new ≡ ids_of self.old }
         ensures before { before_of self.new ≡ before_of self.old }
         ensures known { has_status2 self.old ≡ true → Transfers out.now reply.old reply.new result
@@ -210,6 +239,16 @@ fn is_second(out: &[u8]) -> bool
     matches!(out, [READ_STATUS2, ..])
 }
 
+// Returns whether a transaction is a read of the ID that returned another one than FFFFFFh.
+fn is_id(out: &[u8], reply: &[u8]) -> bool
+    ensures { result ≡ shows_id out.now reply.now }
+{
+    match (out, reply) {
+        ([READ_ID], [a, b, c]) => *a != 0xFF || *b != 0xFF || *c != 0xFF,
+        _ => false,
+    }
+}
+
 // Returns whether a transaction is a read of the ID of a chip that has the command: one of the list, or the one with
 // the ID `before`.
 fn is_known_chip(ids: &[[u8; 3]], before: Option<[u8; 3]>, out: &[u8], reply: &[u8]) -> bool
@@ -224,7 +263,7 @@ fn is_known_chip(ids: &[[u8; 3]], before: Option<[u8; 3]>, out: &[u8], reply: &[
 }
 
 // Returns whether the ID is in the list.
-fn is_id_listed(ids: &[[u8; 3]], id: [u8; 3]) -> bool
+pub(crate) fn is_id_listed(ids: &[[u8; 3]], id: [u8; 3]) -> bool
     ensures { result ≡ is_id_listed ids.now id }
 {
     ids.iter().any(|one| *one == id)

@@ -6,17 +6,22 @@ ghost use Rattle.nor_model.specs.History.{begins_with, stopped};
 ghost use Rattle.nor_buses.specs.OtherMakers.{adapted_by, missing_as, refuses_uneven, history_of, other_makers_state};
 ghost use Rattle.nor_buses.specs.OtherMakers.{cleared, is_missing, is_table_read, is_unique_read, is_uneven, adapted_reply};
 ghost use Rattle.nor_buses.specs.OtherMakers.{ShowsReply, shown_table, shares};
+ghost use Rattle.nor_buses.specs.OtherMakers.{has_word_11, has_small_pages, is_small_page, judged_table, looks_further};
 
+use nor_model::opcodes::{READ_SFDP, READ_UNIQUE};
 use nor_model::{Bus, History, Stopped};
-
-const READ_UNIQUE: u8 = 0x4B;
-
-const READ_SFDP: u8 = 0x5A;
 
 // The number of bytes of the SFDP table that identify a chip: double words 1 to 9.
 const TABLE: usize = 36;
 
-/// A bus that changes two replies of other makers' chips. It passes each transaction on unchanged.
+// The number of bytes of double words 1 to 11. Double word 11 contains the size of a page.
+const LONGER_TABLE: usize = 44;
+
+// The number of double words that the table must have to contain the size of a page.
+const WORDS: u8 = 11;
+
+/// A bus that changes two replies of other makers' chips. It passes each transaction on unchanged, except that it may
+/// read more bytes of an SFDP table.
 ///
 /// - A unique ID (4Bh with eight reply bytes) that is FFh or 00h in all bytes is no unique ID: the chip ignores 4Bh,
 ///   and the line keeps the level to which it is pulled, which another clip may change. In place of either, each byte
@@ -26,6 +31,11 @@ const TABLE: usize = 36;
 ///   everywhere, and 11b that it isn't (JESD216, double word 1). Then the four opcodes of the table's erase types are
 ///   returned as 00h, so that the table describes no erase of 4 KiB. Spansion S25FL128S, for example, has sectors of
 ///   4 KiB only at one end, ignores their erase elsewhere, and could be neither written nor restored.
+/// - If `refuses_uneven` is true, a page must also have at least 256 bytes, because the engine programs that many bytes
+///   at once, and in a smaller page they would wrap. Bits 7 to 4 of double word 11 are the binary logarithm of the size
+///   of a page (JESD216A, double word 11). If the header of the table, at address 8, was read before and gives at least
+///   11 double words, this bus reads 44 bytes in place of the 36 of the table. If the page is smaller, then the four
+///   opcodes are returned as 00h, too.
 /// - If several erase types of the table have the same opcode, the size of the erase depends on the address: D8h of
 ///   Microchip SST26VF064B erases 8, 32 or 64 KiB. Then these opcodes are returned as 00h, so that they aren't used.
 ///
@@ -36,22 +46,29 @@ pub struct OtherMakers<B> {
     bus: B,
     missing: u8,
     refuses_uneven: bool,
+    // True if the last header of the table that was read gives a double word 11.
+    has_word_11: bool,
+    has_small_pages: bool,
     history: History,
 }
 
 impl<B: Bus + Drop> OtherMakers<B> {
     /// Returns a bus over `bus`. `missing` is each byte of a unique ID that the chip doesn't have. `refuses`
-    /// says whether a chip must erase sectors of 4 KiB everywhere.
+    /// says whether a chip must erase sectors of 4 KiB everywhere, and have pages of at least 256 bytes.
     pub fn new(bus: B, missing: u8, refuses: bool) -> OtherMakers<B>
         ensures bus { adapted_by result ≡ bus }
         ensures missing { missing_as result ≡ missing }
         ensures uneven { refuses_uneven result ≡ refuses }
+        ensures word_11 { has_word_11 result ≡ false }
+        ensures pages { has_small_pages result ≡ false }
         ensures history { history_of result ≡ [] }
     {
         OtherMakers {
             bus,
             missing,
             refuses_uneven: refuses,
+            has_word_11: false,
+            has_small_pages: false,
             history: History::new(),
         }
     }
@@ -61,6 +78,71 @@ impl<B: Bus + Drop> OtherMakers<B> {
         ensures { result.now ≡ adapted_by self.now }
     {
         &self.bus
+    }
+
+    /// Returns whether the last SFDP table that was read for a chip that must not have them says that its pages have
+    /// fewer than 256 bytes.
+    pub fn has_small_pages(&self) -> bool
+        ensures { result ≡ has_small_pages self.now }
+    {
+        self.has_small_pages
+    }
+}
+
+impl<B: Bus> OtherMakers<B> {
+    // Makes one transaction, and does not add it to the history.
+    fn carry(&mut self, out: &[u8], reply: &mut [u8]) -> Result<(), Stopped>
+        ensures history { history_of self.new ≡ history_of self.old }
+        ensures missing { missing_as self.new ≡ missing_as self.old }
+        ensures uneven { refuses_uneven self.new ≡ refuses_uneven self.old }
+        ensures passes { begins_with 0x4B out.now ≡ false → begins_with 0x5A out.now ≡ false
+            → Transfers out.now reply.old reply.new result
+            (B.state (adapted_by self.old)) (B.state (adapted_by self.new)) }
+        ensures len { length reply.new ≡ length reply.old }
+        ensures ok { OnOk result (ShowsReply (missing_as self.old) (refuses_uneven self.old)
+            (looks_further self.old out.now reply.old) out.now reply.new
+            (B.state (adapted_by self.old)).history (B.state (adapted_by self.new)).history) }
+        ensures stops { OnErr result ((B.state (adapted_by self.new)).history
+            ≡ stopped out.now ∷ (B.state (adapted_by self.old)).history) }
+    {
+        if self.refuses_uneven && self.has_word_11 && is_table_read(out, reply) {
+            return self.judge(out, reply);
+        }
+        self.bus.transfer(out, reply)?;
+        self.remember(out, reply);
+        show(self.missing, self.refuses_uneven, out, reply);
+        Ok(())
+    }
+
+    // Records what the reply to a transaction says about the table.
+    fn remember(&mut self, out: &[u8], reply: &[u8])
+        ensures bus { adapted_by self.new ≡ adapted_by self.old }
+        ensures history { history_of self.new ≡ history_of self.old }
+        ensures missing { missing_as self.new ≡ missing_as self.old }
+        ensures uneven { refuses_uneven self.new ≡ refuses_uneven self.old }
+    {
+        if let [READ_SFDP, 0, 0, 8, _] = out {
+            self.has_word_11 = has_word_11_in(reply);
+        }
+    }
+
+    // Reads an SFDP table with its double word 11, and fills `reply` with what this bus returns of it.
+    fn judge(&mut self, out: &[u8], reply: &mut [u8]) -> Result<(), Stopped>
+        requires { length reply.old ≡ 36 }
+        ensures history { history_of self.new ≡ history_of self.old }
+        ensures missing { missing_as self.new ≡ missing_as self.old }
+        ensures uneven { refuses_uneven self.new ≡ refuses_uneven self.old }
+        ensures len { length reply.new ≡ length reply.old }
+        ensures ok { OnOk result (ShowsReply (missing_as self.old) (refuses_uneven self.old) true out.now reply.new
+            (B.state (adapted_by self.old)).history (B.state (adapted_by self.new)).history) }
+        ensures stops { OnErr result ((B.state (adapted_by self.new)).history
+            ≡ stopped out.now ∷ (B.state (adapted_by self.old)).history) }
+    {
+        let mut longer = [0; LONGER_TABLE];
+        self.bus.transfer(out, &mut longer)?;
+        self.has_small_pages = is_small_page(&longer);
+        show_judged(&longer, reply);
+        Ok(())
     }
 }
 
@@ -77,22 +159,15 @@ impl<B: Bus> Bus for OtherMakers<B> {
         ensures passes { begins_with 0x4B out.now ≡ false → begins_with 0x5A out.now ≡ false
             → Transfers out.now reply.old reply.new result
             (B.state (adapted_by self.old)) (B.state (adapted_by self.new)) }
-        ensures ok { OnOk result (ShowsReply (missing_as self.old) (refuses_uneven self.old) out.now reply.new
+        ensures ok { OnOk result (ShowsReply (missing_as self.old) (refuses_uneven self.old)
+            (looks_further self.old out.now reply.old) out.now reply.new
             (B.state (adapted_by self.old)).history (B.state (adapted_by self.new)).history) }
         ensures stops { OnErr result ((B.state (adapted_by self.new)).history
             ≡ stopped out.now ∷ (B.state (adapted_by self.old)).history) }
     {
-        match self.bus.transfer(out, reply) {
-            Ok(()) => {
-                show(self.missing, self.refuses_uneven, out, reply);
-                self.history = self.history.replied(out, reply);
-                Ok(())
-            }
-            Err(Stopped) => {
-                self.history = self.history.stopped(out);
-                Err(Stopped)
-            }
-        }
+        let outcome = self.carry(out, reply);
+        self.history = self.history.ended(out, reply, outcome);
+        outcome
     }
 
     fn has_further_types(&self) -> bool {
@@ -111,10 +186,21 @@ fn show(missing: u8, refuses_uneven: bool, out: &[u8], reply: &mut [u8])
     }
 }
 
+// Fills `reply` with what this bus returns of an SFDP table that it read with its double word 11.
+fn show_judged(longer: &[u8; LONGER_TABLE], reply: &mut [u8])
+    requires { length reply.old ≡ 36 }
+    ensures shown { reply.new ≡ judged_table longer.now }
+    ensures len { length reply.new ≡ 36 }
+{
+    reply.copy_from_slice(&longer[..TABLE]);
+    show_table(is_uneven(longer) || is_small_page(longer), reply);
+}
+
 // Clears the opcodes of an SFDP table that several erase types have. If `all` is true, clears all four.
 fn show_table(all: bool, table: &mut [u8])
     requires { length table.old ≡ 36 }
-    ensures { table.new ≡ shown_table all table.old }
+    ensures shown { table.new ≡ shown_table all table.old }
+    ensures len { length table.new ≡ 36 }
 {
     let (one, two, three, four) = (table[29], table[31], table[33], table[35]);
     clear_if(all || shares(one, two, three, four), table, 29);
@@ -168,9 +254,22 @@ fn is_missing(reply: &[u8]) -> bool
     unique == [0xFF; 8] || unique == [0; 8]
 }
 
+// Returns whether the header of a basic table of major revision 1 gives at least 11 double words (JESD216A, parameter
+// headers).
+fn has_word_11_in(header: &[u8]) -> bool {
+    matches!(header, [0, _, 1, words, _, _, _, _] if *words >= WORDS)
+}
+
+// Returns whether double word 11 of an SFDP table says that a page has fewer than 2^8 bytes.
+fn is_small_page(table: &[u8; LONGER_TABLE]) -> bool
+    ensures { result ≡ is_small_page table.now }
+{
+    table[40] / 16 < 8
+}
+
 // Returns whether an SFDP table doesn't say that sectors of 4 KiB can be erased everywhere.
 fn is_uneven(table: &[u8]) -> bool
-    requires { length table.now ≡ 36 }
+    requires { 0 < length table.now }
     ensures { result ≡ is_uneven table.now }
 {
     table[0] % 4 != 1

@@ -8,32 +8,20 @@ ghost use Rattle.nor_buses.specs.Parts.{further, address_bytes, can_split_read, 
 ghost use Rattle.nor_buses.specs.Parts.{WaitsReady, PollsOnce, EndsReady};
 
 use arrayvec::ArrayVec;
+use nor_model::opcodes::{
+    PAGE_PROGRAM, READ_DATA, READ_SFDP, READ_STATUS1, READ_STATUS2, WRITE_ENABLE,
+};
 use nor_model::{Bus, Stopped};
-
-const WRITE_ENABLE: u8 = 0x06;
-
-const PAGE_PROGRAM: u8 = 0x02;
-
-const READ_DATA: u8 = 0x03;
-
-const READ_SFDP: u8 = 0x5A;
-
-const READ_STATUS1: u8 = 0x05;
-
-const READ_STATUS2: u8 = 0x35;
 
 const PAGE_LEN: usize = 256;
 
 // The number of bytes that a program sends before its data: an opcode and three address bytes.
 const HEADER_LEN: usize = 4;
 
-// The length of a program of a whole page: opcode, address and data.
 const LONGEST_PROGRAM: usize = HEADER_LEN + PAGE_LEN;
 
-// The least address that doesn't fit in three bytes.
 const ADDRESSES_END: usize = 1 << 24;
 
-// The greatest number of polls that wait for the end of a part of a program.
 const MOST_POLLS: u32 = 65536;
 
 // Carries out the read `out` in parts of at most `longest` bytes each, and fills `reply`. Returns `Stopped` and sends
@@ -58,7 +46,6 @@ pub(crate) fn split_read<B: Bus>(
     }
 }
 
-// Returns the address of a read that can be split, 0 for a read without address (05h, 35h), otherwise `None`.
 fn first_address(out: &[u8]) -> Option<u32>
     ensures address { IfSome result (λ address. address ≡ address_in out.now) }
     ensures fits { IfSome result (λ address. address ≤ 16777215) }
@@ -92,7 +79,6 @@ fn read_parts<B: Bus>(
     Ok(())
 }
 
-// Reads the bytes of the reply to `out` from the index `from` on, as many as `part` holds.
 fn read_part<B: Bus>(bus: &mut B, out: &[u8], from: u32, part: &mut [u8]) -> Result<(), Stopped>
     requires { address_in out.now + from ≤ 16777215 }
     ensures nature { SameNature (B.state bus.old) (B.state bus.new) }
@@ -115,7 +101,6 @@ fn read_part<B: Bus>(bus: &mut B, out: &[u8], from: u32, part: &mut [u8]) -> Res
     }
 }
 
-// Adds `from` to the address with these bytes, and returns the sum as three bytes, high byte first.
 fn address_from(high: u8, middle: u8, low: u8, from: u32) -> [u8; 3]
     requires { 65536 * high + 256 * middle + low + from ≤ 16777215 }
     ensures { result ≡ address_bytes (65536 * high + 256 * middle + low + from) }
@@ -158,7 +143,6 @@ pub(crate) fn split_program<B: Bus>(
     }
 }
 
-// Returns whether a program of `bytes` ends in the page in which it begins. `low` is the low byte of its address.
 fn fits_page(low: u8, bytes: &[u8]) -> bool
     ensures { result ≡ true → low + length bytes.now ≤ 256 }
 {
@@ -227,7 +211,6 @@ fn wait<B: Bus>(bus: &mut B, polled: usize) -> Result<(), Stopped>
     Err(Stopped)
 }
 
-// Polls once. Returns whether all status bytes show that the chip is ready.
 fn poll<B: Bus>(bus: &mut B, polled: usize) -> Result<bool, Stopped>
     requires polled { 1 ≤ polled }
     requires few { polled ≤ 2 }

@@ -15,13 +15,8 @@ mod reads;
 
 use crate::counts::{ByteCounts, ChangedByte};
 use crate::known::{CheckFault, Known, are_same, kept_status};
+use nor_model::opcodes::{READ_STATUS1, READ_STATUS2, WRITE_STATUS};
 use nor_model::{Bus, History, Status, Stopped, is_changing};
-
-const WRITE_STATUS: u8 = 0x01;
-
-const READ_STATUS1: u8 = 0x05;
-
-const READ_STATUS2: u8 = 0x35;
 
 const BUSY: u8 = 0x01;
 
@@ -72,9 +67,8 @@ pub struct CheckedStatus<B: Bus + Drop> {
     fault: Option<CheckFault>,
     history: History,
     counts: ByteCounts,
-    // True if the first modifying command is refused if the port seems to change bytes.
+    // True if this bus refuses the first modifying command over a port that seems to change bytes.
     guards: bool,
-    // Each known status byte was read twice over the bus inside, and an ID was read after each of the two reads.
     ghost one_read: { ForSome known.one (λ byte. was_read_twice 0x05 byte (B.state bus).history ≡ true) },
     ghost two_read: { ForSome known.two (λ byte. was_read_twice 0x35 byte (B.state bus).history ≡ true) },
 }
@@ -174,8 +168,6 @@ impl<B: Bus + Drop> CheckedStatus<B> {
     ghost use Rattle.nor_buses.specs.Checked.{check_fault_of, has_begun, history_of, inner_state, known_of, locks_of};
     ghost use Rattle.nor_buses.specs.Checked.{written_of};
 
-    // Reads status 2 twice, and the ID after each read. Stops if the replies differ, or an ID differs from the known
-    // one. Otherwise records the byte in `known`.
     #[tactic(auto, using(crate::proofs::StatusRead::second_read))]
     fn read_second(&mut self) -> Result<u8, Stopped>
         ensures history { history_of self.new ≡ history_of self.old }
@@ -197,9 +189,6 @@ impl<B: Bus + Drop> CheckedStatus<B> {
         Ok(status)
     }
 
-    // Polls, and returns status 1. Before the first modifying command, and while a status write is not read back yet,
-    // polls twice unless the first poll shows BUSY. Otherwise polls once. If a status write is not read back yet, and
-    // the chip is ready, reads it back.
     #[tactic(auto, using(crate::proofs::StatusRead::pair_read, crate::proofs::StatusRead::still_known))]
     fn poll(&mut self) -> Result<u8, Stopped>
         ensures history { history_of self.new ≡ history_of self.old }
@@ -231,8 +220,6 @@ impl<B: Bus + Drop> CheckedStatus<B> {
         Ok(status)
     }
 
-    // If a status write is not read back yet, reads status 2, and compares it and `one`, the value of status 1, with
-    // the bytes of the status write.
     fn read_back(&mut self, one: u8) -> Result<(), Stopped>
         ensures history { history_of self.new ≡ history_of self.old }
         ensures locks { locks_of self.new ≡ locks_of self.old }
@@ -263,8 +250,6 @@ impl<B: Bus + Drop> CheckedStatus<B> {
         Ok(())
     }
 
-    // Passes a status write on if both status registers are known, and the write keeps the bits that it must keep, with
-    // BUSY, WEL and SUS clear (`kept_status`). Otherwise stops.
     fn write(&mut self, out: &[u8], reply: &mut [u8]) -> Result<(), Stopped>
         ensures history { history_of self.new ≡ history_of self.old }
         ensures locks { locks_of self.new ≡ locks_of self.old }
@@ -295,7 +280,6 @@ impl<B: Bus + Drop> CheckedStatus<B> {
 impl<B: Bus + Drop> CheckedStatus<B> {
     ghost use Rattle.nor_buses.specs.Checked.{check_fault_of, history_of, inner_state, known_of, locks_of};
 
-    // Makes one transaction, and does not add it to the history.
     fn carry(&mut self, out: &[u8], reply: &mut [u8]) -> Result<(), Stopped>
         ensures history { history_of self.new ≡ history_of self.old }
         ensures locks { locks_of self.new ≡ locks_of self.old }
@@ -332,8 +316,6 @@ impl<B: Bus + Drop> CheckedStatus<B> {
         }
     }
 
-    // Returns why `out` is refused: it would be the first modifying command over a bus that `guarding` made, and the
-    // port seems to change bytes. Returns `None` if it isn't refused for this reason.
     fn refusal(&self, out: &[u8]) -> Option<CheckFault>
         ensures { begins_change out.now ≡ false → result ≡ None }
     {

@@ -10,21 +10,13 @@ ghost use Rattle.nor_buses.specs.Twice.{EndsTwice, ReadsTwice, RepeatsUnexpected
 
 use crate::again::{is_repeated, is_repeated_or_expected};
 use crate::ahead::data_address;
+use nor_model::opcodes::{READ_DATA, READ_ID, READ_SFDP, READ_UNIQUE};
 use nor_model::{Bus, History, Stopped};
 
 // The greatest length of a read, which is that of a block of `ReadAhead`.
 const LONGEST_READ: usize = 65536;
 
-// The least address that doesn't fit in three bytes.
 const ADDRESSES_END: usize = 1 << 24;
-
-const READ_DATA: u8 = 0x03;
-
-const READ_UNIQUE: u8 = 0x4B;
-
-const READ_SFDP: u8 = 0x5A;
-
-const READ_ID: u8 = 0x9F;
 
 /// A bus that carries out each read of data (03h), of the ID (9Fh), of SFDP (5Ah) and of the unique ID (4Bh) twice, and
 /// stops if the replies differ. A poor contact flips bits in some reads. Without a second read a flipped bit could get
@@ -229,8 +221,6 @@ impl<B: Bus> Bus for ReadTwice<B> {
     }
 }
 
-// Returns whether a transaction begins with the opcode of a read of data, of the ID, of the unique ID or of SFDP, even
-// with an incomplete address.
 fn is_read(out: &[u8]) -> bool
     ensures { result ≡ begins_read out.now }
 {

@@ -1,22 +1,20 @@
 //! A bus that notices that a chip which seems to be busy has lost its contact or its supply.
-ghost use Rattle.std.specs.Prelude.{◌≡◌, ◌⊎◌, ◌∷◌, [], true, false, OnErr, OnOk};
-ghost use Rattle.std.proofs.lemmas.Bool.{false≢true};
-ghost use Rattle.nor_model.specs.Bus.{Transfers};
+ghost use Rattle.std.specs.Prelude.{◌≡◌, ◌⊎◌, ◌∷◌, [], true, false, length, OnErr, OnOk};
+ghost use Rattle.nor_model.specs.Bus.{IsHonestFor, SameNature, AtStop, Transfers};
 ghost use Rattle.nor_model.specs.History.{replied, stopped};
+ghost use Rattle.nor_buses.specs.Keeps.{KeepsAll, StopsUnread, MakesStep};
 ghost use Rattle.nor_buses.specs.Watched.{watched_by, is_lost, row_in, has_status, history_of, watched_state};
 ghost use Rattle.nor_buses.specs.Watched.{is_undriven, row_after, status_after, looks_after, HasLooked, HasFoundLost};
+ghost use Rattle.nor_buses.specs.Watched.{unsteady};
 
+use nor_model::opcodes::{READ_ID, READ_STATUS1};
 use nor_model::{Bus, History, Stopped};
-
-const READ_STATUS1: u8 = 0x05;
-
-const READ_ID: u8 = 0x9F;
 
 // Each received byte if no chip drives the line, and a pull-up does.
 const UNDRIVEN: u8 = 0xFF;
 
-// After this number of polls in a row with only FFh the ID is read. With the pauses of `Paced` they take 1.5 seconds,
-// and longer over a slow wire.
+// After this number of polls in a row with only FFh the ID is read. With the pauses of `Paced` they take 1.1 to 1.8
+// seconds, and longer over a slow wire.
 const LOOK_AFTER: u32 = 256;
 
 // A status 1 of at least this value has all bits set except WEL and BUSY, so it becomes FFh while the chip is busy.
@@ -37,8 +35,11 @@ const ALL_SET: u8 = 0xFC;
 /// A line that is pulled low reads as 00h. That shows that the chip is ready, so the wait ends at once, and
 /// `CheckedStatus` finds the other ID.
 ///
+/// This bus is well-behaved if the bus inside is. It is neither punctual nor steady, because it may stop after a poll
+/// that the chip carried out.
+///
 /// The history lists each transaction over this bus with its reply. In contracts, the chip is that of the bus inside.
-/// This bus is not claimed to be well-behaved.
+/// The modifying commands and the result of the last poll are those of this bus's own history.
 #[derive(Drop)]
 pub struct Watched<B> {
     bus: B,
@@ -107,6 +108,11 @@ impl<B: Bus> Watched<B> {
         ensures found { is_lost self.old ≡ false → is_lost self.new ≡ true → (B.state (watched_by self.new)).history
             ≡ replied (0x9F ∷ []) (255 ∷ 255 ∷ 255 ∷ []) ∷ (B.state (watched_by self.old)).history }
         ensures there { is_lost self.old ≡ false → OnOk result (is_lost self.new ≡ false) }
+        ensures nature { SameNature (B.state (watched_by self.old)) (B.state (watched_by self.new)) }
+        ensures keeps { (B.state (watched_by self.old)).honest ≡ true
+            → OnOk result (KeepsAll (B.state (watched_by self.old)) (B.state (watched_by self.new))) }
+        ensures stops { (B.state (watched_by self.old)).honest ≡ true
+            → OnErr result (StopsUnread (B.state (watched_by self.old)) (B.state (watched_by self.new))) }
     {
         let mut id = [0; 3];
         self.bus.transfer(&[READ_ID], &mut id)?;
@@ -137,6 +143,11 @@ impl<B: Bus> Watched<B> {
             → HasFoundLost out.now reply.new (row_in self.old) (has_status self.old)
             (B.state (watched_by self.old)).history (B.state (watched_by self.new)).history }
         ensures there { OnOk result (is_lost self.new ≡ false) }
+        ensures nature { SameNature (B.state (watched_by self.old)) (B.state (watched_by self.new)) }
+        ensures steps { IsHonestFor out.now (length reply.old) (B.state (watched_by self.old)) → OnOk result
+            (MakesStep out.now reply.new (B.state (watched_by self.old)) (B.state (watched_by self.new))) }
+        ensures at_stop { IsHonestFor out.now (length reply.old) (B.state (watched_by self.old)) → OnErr result
+            (AtStop out.now (unsteady (B.state (watched_by self.old))) (unsteady (B.state (watched_by self.new)))) }
     {
         if self.is_lost {
             return Err(Stopped);
@@ -154,7 +165,7 @@ impl<B: Bus> Watched<B> {
 impl<B: Bus> Bus for Watched<B> {
     ghost state = { watched_state B.state };
 
-    ghost reaches = { λ watched honest. absurd (false≢true honest) };
+    ghost reaches = { λ watched honest. B.reaches watched.bus honest };
 
     fn transfer(&mut self, out: &[u8], reply: &mut [u8]) -> Result<(), Stopped>
         ensures law { Transfers out.now reply.old reply.new result

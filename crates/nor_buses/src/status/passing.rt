@@ -8,15 +8,8 @@ ghost use Rattle.nor_buses.specs.Keeps.{MakesStep};
 ghost use Rattle.nor_buses.specs.StatusRead.{IsConfirmed, KeepsId, begins_confirmed};
 
 use super::CheckedStatus;
+use nor_model::opcodes::{READ_DATA, READ_ID, READ_SFDP, READ_UNIQUE};
 use nor_model::{Bus, Stopped, is_changing};
-
-const READ_DATA: u8 = 0x03;
-
-const READ_UNIQUE: u8 = 0x4B;
-
-const READ_SFDP: u8 = 0x5A;
-
-const READ_ID: u8 = 0x9F;
 
 impl<B: Bus + Drop> CheckedStatus<B> {
     ghost use Rattle.nor_buses.specs.Checked.{history_of, inner_state, known_of, locks_of};
@@ -47,7 +40,6 @@ impl<B: Bus + Drop> CheckedStatus<B> {
         }
     }
 
-    // Makes a transaction whose own reply is not checked, and reads the ID after it if `is_confirmed`.
     fn pass_confirmed(&mut self, out: &[u8], reply: &mut [u8]) -> Result<(), Stopped>
         ensures history { history_of self.new ≡ history_of self.old }
         ensures locks { locks_of self.new ≡ locks_of self.old }
@@ -76,7 +68,6 @@ impl<B: Bus + Drop> CheckedStatus<B> {
     }
 }
 
-// Returns whether a transaction begins with the opcode of a read of data (03h), SFDP (5Ah) or the unique ID (4Bh).
 fn is_confirmed(out: &[u8]) -> bool
     ensures { result ≡ begins_confirmed out.now }
 {

@@ -10,13 +10,8 @@ ghost use Rattle.nor_buses.specs.StatusRead.{ends_busy, ends_in_poll, read_id_wh
 
 use super::CheckedStatus;
 use crate::known::CheckFault;
+use nor_model::opcodes::{READ_ID, READ_STATUS1, READ_STATUS2};
 use nor_model::{Bus, Stopped};
-
-const READ_STATUS1: u8 = 0x05;
-
-const READ_STATUS2: u8 = 0x35;
-
-const READ_ID: u8 = 0x9F;
 
 const BUSY: u8 = 0x01;
 
@@ -92,7 +87,8 @@ impl<B: Bus + Drop> CheckedStatus<B> {
         }
     }
 
-    // Polls once, with two reply bytes. Returns one that shows BUSY, if any; otherwise both must be equal.
+    // Polls once, with two reply bytes. Returns a byte that shows BUSY, if there is one; otherwise both must
+    // be equal.
     pub(super) fn poll_once(&mut self) -> Result<u8, Stopped>
         ensures history { history_of self.new ≡ history_of self.old }
         ensures status { KeepsStatus (known_of self.old) (known_of self.new) }
@@ -158,7 +154,6 @@ impl<B: Bus + Drop> CheckedStatus<B> {
         Ok(status)
     }
 
-    // Reads status 2 twice, and the ID after each read. Both replies must be equal.
     pub(super) fn second_twice(&mut self) -> Result<u8, Stopped>
         ensures history { history_of self.new ≡ history_of self.old }
         ensures status { KeepsStatus (known_of self.old) (known_of self.new) }
