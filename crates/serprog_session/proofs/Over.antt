@@ -1,11 +1,14 @@
--- What nor_session promises for the chip of a bus over a port holds for the chip of the programmer at this port.
-use Rattle.std.proofs.Common.{◌≡◌, ◌∙◌, ◌/◌, ℕ, false, List, [], length, refl, sym, ap, subst, arith, inl, inr}
+-- What nor_session promises for the chip of a bus over a port holds for the chip of the programmer at this port. The bus
+-- is a `SerprogBus`, or the layers over a `BatchingBus`.
+use Rattle.std.proofs.Common.{◌≡◌, ◌∙◌, ◌<◌, ◌/◌, ℕ, Bool, true, false, List, [], length, refl, sym, ap, subst, arith, inl, inr}
 use Rattle.std.specs.Prelude.{Option, Result, Ok, Err}
 use Rattle.std.proofs.lemmas.List.{append-nil}
-use Rattle.std.proofs.lemmas.Bool.{false≢true}
+use Rattle.std.specs.Prelude.{◌&&◌}
+use Rattle.std.proofs.lemmas.Bool.{false≢true, or_right}
 use Rattle.std.specs.Prelude.{IfErr}
 use Rattle.nor_model.specs.Chip.{Chip, IsSame}
 use Rattle.nor_model.specs.Power.{PowerLost}
+use Rattle.nor_model.specs.Step.{is_idle}
 use Rattle.nor_model.specs.Bus.{BusState}
 use Rattle.nor_model.specs.Exchange.{Exchange}
 use Rattle.nor_model.specs.Sent.{sent_in}
@@ -23,20 +26,76 @@ use Rattle.nor_request.specs.declared.refusal.Refusal.{Refusal}
 use Rattle.nor_request.specs.declared.refusal.Refusal.TheVariants.{NoChip, UnknownChip, OtherName, ImageSize, RegionOutside, NoProtection, UndefinedProtection, RangeNotOffered, StatusLocked, Protected, Vault, Stopped, Timeout, Mismatch, BadJournal, OtherChip, StatusDiffers, Memory, Output, OtherUnit}
 use Rattle.nor_session.specs.Bounds.{most_of, most_reads}
 use Rattle.nor_session.specs.Headline.{CanRestore, KeepsOriginal, RestoresOriginal, RewritesOriginal, open_addresses}
+use Rattle.nor_session.specs.Made.{IsTargetChip}
 use Rattle.nor_session.specs.Session.{HonestErrors, SessionErrors, SessionModelled, SessionAlways}
 use Rattle.nor_session.specs.Restore.{Choice, IsCheckedFirst, AlwaysBy, ErrorsBy, RestoreErrors, RestoreHonest, RestoreModelled, RewriteHonest, RewriteModelled, differing, every_saved}
 use Rattle.nor_session.specs.Backup.{BackupErrors, BackupHonest, BackupModelled}
 use Rattle.nor_session.proofs.InTurn.{lost_can_restore}
 use Rattle.nor_serprog.specs.Device.{PortState}
 use Rattle.nor_serprog.specs.Bus.{over_port}
-use Rattle.serprog_session.specs.Headline.{ReachesGenuine, CanRestoreChip, CanRestoreChipFrom, HadFewCalls, SessionFails, KeepsOriginalChip, SessionResults, FailsBy, RefusesUnsent, RestoresOriginalChip, RewritesOriginalChip, BackupFails, SavesChipOver}
+use Rattle.nor_serprog.specs.Enabled.{enabled}
+use Rattle.serprog_session.specs.Headline.{ReachesGenuine, CanRestoreChip, CanRestoreChipFrom, HadFewCalls, SessionFails, KeepsOriginalChip, SessionResults, FailsBy, RefusesUnsent, RestoresOriginalChip, RewritesOriginalChip, BackupFails, SavesChipOver, uncounted}
 
-pub modelled : (port : PortState) (history : List Exchange) → ReachesGenuine port → IsModelled (over_port port history)
-modelled port history reaches = record { honest = reaches.honest; genuine = reaches.genuine }
+-- The state of a bus to the chip at the port, with this write enable latch. `waits` is true if a write enable waits.
+abbrev pub seen : BusState → (waits : Bool) → PortState → BusState
+seen state waits port = record state { chip = enabled waits port.device.chip }
 
-pub on_every_bus : (journal : Content) (first : Chip) (state : BusState) → state.steady ≡ false
-    → CanRestore journal first state → CanRestoreChip journal first state.chip
-on_every_bus journal first state unsteady can = λ other same. record {
+-- Holds if a bus over a port can be in the states `seen bus waits old` and `seen bus' waits' new` before and after a
+-- call.
+pub record IsOver (old new : PortState) (waits waits' : Bool) (bus bus' : BusState) : Type 0 where
+  pub empty : waits ≡ false
+  pub honest : old.honest ≡ true → bus.honest ≡ true
+  pub unsteady : bus'.steady ≡ false
+  pub few : (transactions : ℕ) → 0 < transactions
+      → RanOut transactions (seen bus waits old) (seen bus' waits' new) → HadFewCalls transactions old
+
+-- A `SerprogBus` is over its port: a transaction takes three calls.
+pub serprog : (old new : PortState) (history history' : List Exchange)
+    → IsOver old new false false (over_port old history) (over_port new history')
+serprog old new history history' = record {
+  empty = refl;
+  honest = λ honest. honest;
+  unsteady = refl;
+  few = λ transactions some ran. let below = (ran refl).below in omega arith;
+}
+
+-- A bus that isn't punctual may stop at any transaction, as if the port had no call left.
+pub unpunctual : (old new : PortState) (waits waits' : Bool) (bus bus' : BusState) → waits ≡ false
+    → (old.honest ≡ true → bus.honest ≡ true) → bus'.steady ≡ false
+    → IsOver (uncounted old) new waits waits' bus bus'
+unpunctual old new waits waits' bus bus' empty honest unsteady = record {
+  empty = empty;
+  honest = honest;
+  unsteady = unsteady;
+  few = λ transactions some ran. omega (arith, some);
+}
+
+pub still_reaches : (port : PortState) → ReachesGenuine port → ReachesGenuine (uncounted port)
+still_reaches port reaches = record { honest = reaches.honest; genuine = reaches.genuine }
+
+pub modelled : (old new : PortState) (waits waits' : Bool) (bus bus' : BusState)
+    → IsOver old new waits waits' bus bus' → ReachesGenuine old → IsModelled (seen bus waits old)
+modelled old new waits waits' bus bus' over reaches =
+    record { honest = over.honest reaches.honest; genuine = reaches.genuine }
+
+same_seen : (waits : Bool) (first chip : Chip) → IsSame first (enabled waits chip) → IsSame first chip
+same_seen waits first chip same = record { config = same.config; bytes = same.bytes; kept = same.kept }
+
+target_seen : (waits : Bool) (wanted : ℕ → ℕ) (first chip : Chip) → IsTargetChip wanted first (enabled waits chip)
+    → IsTargetChip wanted first chip
+target_seen waits wanted first chip made = record {
+  config = made.config;
+  bytes = made.bytes;
+  fixed = made.fixed;
+  idle = made.idle;
+  latch = λ set. made.latch (or_right (waits && is_idle chip) chip.latch set);
+}
+
+-- The latch of the chip plays no part in what a journal can restore.
+pub on_every_bus : (journal : Content) (first : Chip) (bus : BusState) (waits : Bool) (port : PortState)
+    → bus.steady ≡ false → CanRestore journal first (seen bus waits port)
+    → CanRestoreChip journal first port.device.chip
+on_every_bus journal first bus waits port unsteady can = λ other same. record {
   known = can.known;
   saves = can.saves;
   within = record {
@@ -50,6 +109,10 @@ on_every_bus journal first state unsteady can = λ other same. record {
         (can.within.runs unsteady (λ idle. busy (ap (λ (c : Chip). c.busy) same ∙ idle)));
   };
 }
+
+from_every_bus : (journal : Content) (first : Chip) (bus : BusState) (port : PortState)
+    → CanRestoreChip journal first port.device.chip → CanRestore journal first (seen bus false port)
+from_every_bus journal first bus port can = can (seen bus false port) refl
 
 -- Each content has its own encoding, so the journal that is read is the one that the bytes encode.
 pub read_from : (bytes : List ℕ) (first chip : Chip) (journal : Content) → CanRestoreChipFrom bytes first chip
@@ -71,43 +134,53 @@ lost_from_chip journal first old new can lost = λ state same.
     lost_can_restore journal first before state (can before refl)
     (record { known = inl refl; lost = subst P (sym same) lost })
 
-few_calls : (transactions : ℕ) (old new : PortState) (history history' : List Exchange)
-    → RanOut transactions (over_port old history) (over_port new history') → HadFewCalls transactions old
-few_calls transactions old new history history' ran = let below = (ran refl).below in omega arith
+some_calls : (sectors : ℕ) → 0 < most_of sectors
+some_calls sectors = omega arith
+
+some_reads : (sectors : ℕ) → 0 < most_reads sectors
+some_reads sectors = omega arith
+
+waits_never : (old new : PortState) (waits' : Bool) (bus bus' : BusState) → IsOver old new true waits' bus bus' → ⊥
+waits_never old new waits' bus bus' over = false≢true (sym over.empty)
 
 -- ---- a session
 
-pub keeps : (old new : PortState) (history history' : List Exchange) (vault : VaultState)
-    → KeepsOriginal (over_port old history) (over_port new history') vault
-    → KeepsOriginalChip old new (sent_in history) (sent_in history') vault
-keeps old new history history' vault keep = record {
+pub keeps : (old new : PortState) (waits waits' : Bool) (bus bus' : BusState) (vault : VaultState)
+    → IsOver old new waits waits' bus bus'
+    → KeepsOriginal (seen bus waits old) (seen bus' waits' new) vault
+    → KeepsOriginalChip old new bus.sent bus'.sent vault
+keeps old new true waits' bus bus' vault over keep = absurd (waits_never old new waits' bus bus' over)
+keeps old new false waits' bus bus' vault over keep = record {
   unsent = keep.unsent;
-  same = λ unsealed honest idle. keep.same unsealed honest (inr idle);
+  same = λ unsealed honest idle.
+      same_seen waits' old.device.chip new.device.chip (keep.same unsealed (over.honest honest) (inr idle));
   restorable = λ sealed telling reaches.
-      let from = keep.restorable sealed telling (modelled old history reaches) in
+      let from = keep.restorable sealed telling (modelled old new false waits' bus bus' over reaches) in
       record {
         journal = from.journal;
-        back = on_every_bus from.journal.content old.device.chip (over_port new history') refl from.back;
+        back = on_every_bus from.journal.content old.device.chip bus' waits' new over.unsteady from.back;
       };
 }
 
-fails : (request : Request) (image : List ℕ) (old new : PortState) (history history' : List Exchange)
-    (vault vault' : VaultState) (refusal : Refusal)
-    → SessionErrors request image (over_port old history) (over_port new history') vault vault' refusal
+fails : (request : Request) (image : List ℕ) (old new : PortState) (waits' : Bool) (bus bus' : BusState)
+    (vault vault' : VaultState) (refusal : Refusal) → IsOver old new false waits' bus bus'
+    → SessionErrors request image (seen bus false old) (seen bus' waits' new) vault vault' refusal
     → SessionFails request image old vault vault' refusal
-fails request image old new history history' vault vault' Vault is = is
-fails request image old new history history' vault vault' Stopped is =
-    few_calls (most_of (old.device.chip.config.size / 4096)) old new history history' is
-fails request image old new history history' vault vault' _ is = is
+fails request image old new waits' bus bus' vault vault' Vault over is = is
+fails request image old new waits' bus bus' vault vault' Stopped over is =
+    over.few _ (some_calls (old.device.chip.config.size / 4096)) is
+fails request image old new waits' bus bus' vault vault' _ over is = is
 
-pub results : (request : Request) (image : List ℕ) (old new : PortState) (history history' : List Exchange)
-    (vault vault' : VaultState) (result : Result Report Refusal)
-    → SessionAlways request image (over_port old history) (over_port new history') vault vault' result
-    → SessionModelled request image (over_port old history) (over_port new history') vault vault' result
+pub results : (request : Request) (image : List ℕ) (old new : PortState) (waits waits' : Bool) (bus bus' : BusState)
+    (vault vault' : VaultState) (result : Result Report Refusal) → IsOver old new waits waits' bus bus'
+    → SessionAlways request image (seen bus waits old) (seen bus' waits' new) vault vault' result
+    → SessionModelled request image (seen bus waits old) (seen bus' waits' new) vault vault' result
     → SessionResults request image old new vault vault' result
-results request image old new history history' vault vault' (Ok report) always made = record {
+results request image old new true waits' bus bus' vault vault' result over always made =
+    absurd (waits_never old new waits' bus bus' over)
+results request image old new false waits' bus bus' vault vault' (Ok report) over always made = record {
   done = record {
-    made = made.done.made;
+    made = target_seen waits' _ old.device.chip new.device.chip made.done.made;
     code = made.done.code;
     is_wanted = made.done.is_wanted;
     kept = made.done.kept;
@@ -117,10 +190,10 @@ results request image old new history history' vault vault' (Ok report) always m
   unsealed = tt;
   accepted = λ sealed. (made.undo sealed).accepted;
 }
-results request image old new history history' vault vault' (Err refusal) always made = record {
+results request image old new false waits' bus bus' vault vault' (Err refusal) over always made = record {
   done = tt;
   sealed = tt;
-  errors = fails request image old new history history' vault vault' refusal made.errors;
+  errors = fails request image old new waits' bus bus' vault vault' refusal over made.errors;
   unsealed = always.answers.unsealed;
   accepted = λ sealed. (made.undo sealed).accepted;
 }
@@ -151,12 +224,13 @@ refuses choice journal old new (Err (BadJournal fault)) always = absurd (false�
 refuses choice journal old new (Err Memory) always = absurd (false≢true always.answers)
 refuses choice journal old new (Err (Output written)) always = absurd (false≢true always.answers)
 
-restore_fails : (choice : Choice) (journal : Content) (old new : PortState) (history history' : List Exchange)
-    (refusal : Refusal) → ErrorsBy choice journal (over_port old history) (over_port new history') refusal
+restore_fails : (choice : Choice) (journal : Content) (old new : PortState) (waits' : Bool) (bus bus' : BusState)
+    (refusal : Refusal) → IsOver old new false waits' bus bus'
+    → ErrorsBy choice journal (seen bus false old) (seen bus' waits' new) refusal
     → FailsBy choice journal old refusal
-restore_fails choice journal old new history history' Stopped is =
-    few_calls (most_of (length journal.saved)) old new history history' is
-restore_fails choice journal old new history history' _ is = is
+restore_fails choice journal old new waits' bus bus' Stopped over is =
+    over.few _ (some_calls (length journal.saved)) is
+restore_fails choice journal old new waits' bus bus' _ over is = is
 
 same_refused : (most : ℕ) (old new : BusState) (refusal : Refusal) → HonestErrors most IsCheckedFirst old new refusal
     → IsCheckedFirst refusal → IsSame old.chip new.chip
@@ -164,106 +238,120 @@ same_refused most old new Stopped is checked = absurd (false≢true checked)
 same_refused most old new (Timeout address) is checked = absurd is
 same_refused most old new _ is checked = is checked
 
-pub restores : (journal : Content) (old new : PortState) (history history' : List Exchange)
-    (result : Result Report Refusal)
-    → RestoresOriginal journal (over_port old history) (over_port new history') result
-    → RestoreHonest journal (over_port old history) (over_port new history') result
-    → RestoreModelled journal (over_port old history) (over_port new history') result
+pub restores : (journal : Content) (old new : PortState) (waits waits' : Bool) (bus bus' : BusState)
+    (result : Result Report Refusal) → IsOver old new waits waits' bus bus'
+    → RestoresOriginal journal (seen bus waits old) (seen bus' waits' new) result
+    → RestoreHonest journal (seen bus waits old) (seen bus' waits' new) result
+    → RestoreModelled journal (seen bus waits old) (seen bus' waits' new) result
     → RestoresOriginalChip journal old new result
-restores journal old new history history' (Ok report) back fair made = record {
+restores journal old new true waits' bus bus' result over back fair made =
+    absurd (waits_never old new waits' bus bus' over)
+restores journal old new false waits' bus bus' (Ok report) over back fair made = record {
   within = λ first can.
-      on_every_bus journal first (over_port new history') refl
-      (back.within first (can (over_port old history) refl));
-  back = λ first can. back.back first (can (over_port old history) refl);
+      on_every_bus journal first bus' waits' new over.unsteady
+      (back.within first (from_every_bus journal first bus old can));
+  back = λ first can.
+      same_seen waits' first new.device.chip (back.back first (from_every_bus journal first bus old can));
   idle = made.done.made.idle;
   only_stops = λ first can. tt;
-  made = made.done.made;
+  made = target_seen waits' _ old.device.chip new.device.chip made.done.made;
   kept = made.done.kept;
   errors = tt;
   same = tt;
 }
-restores journal old new history history' (Err refusal) back fair made = record {
+restores journal old new false waits' bus bus' (Err refusal) over back fair made = record {
   within = λ first can.
-      on_every_bus journal first (over_port new history') refl
-      (back.within first (can (over_port old history) refl));
+      on_every_bus journal first bus' waits' new over.unsteady
+      (back.within first (from_every_bus journal first bus old can));
   back = λ first can. tt;
   idle = tt;
   only_stops = λ first can.
-      let stopped = back.only_stops first (can (over_port old history) refl) in
+      let stopped = back.only_stops first (from_every_bus journal first bus old can) in
       let P : Refusal → Type 0 =
-      λ r. RestoreErrors journal (over_port old history) (over_port new history') r in
+      λ r. RestoreErrors journal (seen bus false old) (seen bus' waits' new) r in
       let ran = subst P stopped made.errors in
-      (stopped, few_calls (most_of (length journal.saved)) old new history history' ran);
+      (stopped, over.few (most_of (length journal.saved)) (some_calls (length journal.saved)) ran);
   made = tt;
   kept = tt;
-  errors = restore_fails differing journal old new history history' refusal made.errors;
-  same = same_refused (most_of (length journal.saved)) (over_port old history) (over_port new history') refusal
-      fair.honest_errors;
+  errors = restore_fails differing journal old new waits' bus bus' refusal over made.errors;
+  same = λ checked.
+      same_seen waits' old.device.chip new.device.chip
+      (same_refused (most_of (length journal.saved)) (seen bus false old) (seen bus' waits' new) refusal
+      fair.honest_errors checked);
 }
 
-pub rewrites : (journal : Content) (old new : PortState) (history history' : List Exchange)
-    (result : Result Report Refusal)
-    → RewritesOriginal journal (over_port old history) (over_port new history') result
-    → RewriteHonest journal (over_port old history) (over_port new history') result
-    → RewriteModelled journal (over_port old history) (over_port new history') result
+pub rewrites : (journal : Content) (old new : PortState) (waits waits' : Bool) (bus bus' : BusState)
+    (result : Result Report Refusal) → IsOver old new waits waits' bus bus'
+    → RewritesOriginal journal (seen bus waits old) (seen bus' waits' new) result
+    → RewriteHonest journal (seen bus waits old) (seen bus' waits' new) result
+    → RewriteModelled journal (seen bus waits old) (seen bus' waits' new) result
     → RewritesOriginalChip journal old new result
-rewrites journal old new history history' (Ok report) back fair made = record {
+rewrites journal old new true waits' bus bus' result over back fair made =
+    absurd (waits_never old new waits' bus bus' over)
+rewrites journal old new false waits' bus bus' (Ok report) over back fair made = record {
   within = λ first can.
-      on_every_bus journal first (over_port new history') refl
-      (back.within first (can (over_port old history) refl));
-  back = λ first can. back.back first (can (over_port old history) refl);
+      on_every_bus journal first bus' waits' new over.unsteady
+      (back.within first (from_every_bus journal first bus old can));
+  back = λ first can.
+      same_seen waits' first new.device.chip (back.back first (from_every_bus journal first bus old can));
   idle = made.done.made.idle;
   only_stops = λ first can unlocked. tt;
-  made = made.done.made;
+  made = target_seen waits' _ old.device.chip new.device.chip made.done.made;
   kept = made.done.kept;
   errors = tt;
   same = tt;
 }
-rewrites journal old new history history' (Err refusal) back fair made = record {
+rewrites journal old new false waits' bus bus' (Err refusal) over back fair made = record {
   within = λ first can.
-      on_every_bus journal first (over_port new history') refl
-      (back.within first (can (over_port old history) refl));
+      on_every_bus journal first bus' waits' new over.unsteady
+      (back.within first (from_every_bus journal first bus old can));
   back = λ first can. tt;
   idle = tt;
   only_stops = λ first can unlocked.
-      let stopped = back.only_stops first (can (over_port old history) refl) unlocked in
+      let stopped = back.only_stops first (from_every_bus journal first bus old can) unlocked in
       let P : Refusal → Type 0 =
-      λ r. ErrorsBy every_saved journal (over_port old history) (over_port new history') r in
+      λ r. ErrorsBy every_saved journal (seen bus false old) (seen bus' waits' new) r in
       let ran = subst P stopped made.errors in
-      (stopped, few_calls (most_of (length journal.saved)) old new history history' ran);
+      (stopped, over.few (most_of (length journal.saved)) (some_calls (length journal.saved)) ran);
   made = tt;
   kept = tt;
-  errors = restore_fails every_saved journal old new history history' refusal made.errors;
-  same = same_refused (most_of (length journal.saved)) (over_port old history) (over_port new history') refusal
-      fair.honest_errors;
+  errors = restore_fails every_saved journal old new waits' bus bus' refusal over made.errors;
+  same = λ checked.
+      same_seen waits' old.device.chip new.device.chip
+      (same_refused (most_of (length journal.saved)) (seen bus false old) (seen bus' waits' new) refusal
+      fair.honest_errors checked);
 }
 
 -- ---- a backup
 
-backup_fails : (named : Option ChipName) (old new : PortState) (history history' : List Exchange) (refusal : Refusal)
-    → BackupErrors (most_reads (old.device.chip.config.size / 4096)) named (over_port old history)
-    (over_port new history') refusal → BackupFails named old refusal
-backup_fails named old new history history' Stopped is =
-    few_calls (most_reads (old.device.chip.config.size / 4096)) old new history history' is
-backup_fails named old new history history' _ is = is
+backup_fails : (named : Option ChipName) (old new : PortState) (waits' : Bool) (bus bus' : BusState)
+    (refusal : Refusal) → IsOver old new false waits' bus bus'
+    → BackupErrors (most_reads (old.device.chip.config.size / 4096)) named (seen bus false old)
+    (seen bus' waits' new) refusal → BackupFails named old refusal
+backup_fails named old new waits' bus bus' Stopped over is =
+    over.few _ (some_reads (old.device.chip.config.size / 4096)) is
+backup_fails named old new waits' bus bus' _ over is = is
 
-pub saves : (named : Option ChipName) (old new : PortState) (history history' : List Exchange) (vault : VaultState)
-    (result : Result Report Refusal) → BackupHonest named (over_port old history) (over_port new history') result
-    → BackupModelled named (over_port old history) (over_port new history') vault result
+pub saves : (named : Option ChipName) (old new : PortState) (waits waits' : Bool) (bus bus' : BusState)
+    (vault : VaultState) (result : Result Report Refusal) → IsOver old new waits waits' bus bus'
+    → BackupHonest named (seen bus waits old) (seen bus' waits' new) result
+    → BackupModelled named (seen bus waits old) (seen bus' waits' new) vault result
     → SavesChipOver named old new vault result
-saves named old new history history' vault (Ok report) fair made = record {
+saves named old new true waits' bus bus' vault result over fair made =
+    absurd (waits_never old new waits' bus bus' over)
+saves named old new false waits' bus bus' vault (Ok report) over fair made = record {
   errors = tt;
-  same = fair.same;
+  same = same_seen waits' old.device.chip new.device.chip fair.same;
   saves = made.saves;
   restorable = λ telling.
       let from = made.restorable telling in
       record {
         journal = from.journal;
-        back = on_every_bus from.journal.content old.device.chip (over_port new history') refl from.back;
+        back = on_every_bus from.journal.content old.device.chip bus' waits' new over.unsteady from.back;
       };
 }
-saves named old new history history' vault (Err refusal) fair made = record {
-  errors = backup_fails named old new history history' refusal made.errors;
+saves named old new false waits' bus bus' vault (Err refusal) over fair made = record {
+  errors = backup_fails named old new waits' bus bus' refusal over made.errors;
   same = tt;
   saves = tt;
   restorable = tt;

@@ -25,9 +25,9 @@ worn_then n out replies old mid worn allows after s =
     subst P allows.chip
     (after s ∙ ap (λ (w : Bool). w || wears (done_of mid.chip out replies) s) (allows.worn s))
 
-pub cut : (out : List ℕ) (old mid new : BusState) (bus_type : Option ℕ) (pending : List ℕ) → Allows 0 old mid
-    → AtStop out mid new → IsCut out (device_over old bus_type pending) (device_over new bus_type pending)
-cut out old mid new bus_type pending allows stop =
+pub cut : (out : List ℕ) (old mid new : BusState) (bus_type : Option ℕ) (pending pending' : List ℕ) → Allows 0 old mid
+    → AtStop out mid new → IsCut out (device_over old bus_type pending) (device_over new bus_type pending')
+cut out old mid new bus_type pending pending' allows stop =
     let P : Chip → Type 0 = λ c. Step c (take stop.count out) stop.read stop.reached in
     record {
       count = stop.count;

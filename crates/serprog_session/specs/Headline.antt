@@ -42,6 +42,11 @@ pub record CanRestoreChipFrom (bytes : List ℕ) (first chip : Chip) : Type 0 wh
 abbrev pub HadFewCalls : (transactions : ℕ) → PortState → Type 0
 HadFewCalls transactions port = port.left < 3 * transactions
 
+-- The port as if it had no call left. Over layers that aren't punctual a call may stop at any transaction, even if
+-- calls of the port are left. Promises with this state say so: `HadFewCalls` excludes no stop.
+abbrev pub uncounted : PortState → PortState
+uncounted port = record port { left = 0 }
+
 -- ---- a session
 
 -- Holds if a session that succeeded made the chip what `request` asks for.

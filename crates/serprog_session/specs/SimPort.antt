@@ -1,9 +1,10 @@
 -- The simulated port, as contracts see it.
-use Rattle.std.specs.Prelude.{◌==◌, ◌||◌, ℕ, true, false, List, [], ◌∷◌, Option, None, Some, replicate, slice_index, if◌then◌else◌}
+use Rattle.std.specs.Prelude.{◌≡◌, ◌≤◌, ◌++◌, ◌==◌, ◌||◌, ℕ, true, false, List, [], ◌∷◌, Option, None, Some, length, replicate, slice_index, if◌then◌else◌}
 use Rattle.std.proofs.Common.{refl, lit<}
 use Rattle.nor_model.specs.Bus.{BusState}
 use Rattle.nor_chip.specs.declared.sim.SimBus.{SimBus}
 use Rattle.nor_serprog.specs.Device.{Device, PortState}
+use Rattle.nor_serprog.specs.Frame.{IsFrame, replies_in}
 use Rattle.nor_serprog.specs.Firmware.{Firmware, ProgrammerSettings, nak}
 use Rattle.serprog_session.specs.declared.sim_port.SimPort.{SimPort}
 
@@ -13,13 +14,14 @@ simulated_chip port = port.chip
 abbrev pub left_of : SimPort → ℕ
 left_of port = port.left
 
--- The firmware of the simulated programmer: version 1 of the protocol and SPI, without a name or limits.
+-- The firmware of the simulated programmer: version 1 of the protocol, SPI and a serial buffer of 512 bytes, without a
+-- name or limits.
 abbrev pub simulated_firmware : Firmware
 simulated_firmware = record {
   version = 1;
-  commands = 0x07 ∷ 0 ∷ 0x0D ∷ replicate 29 0;
+  commands = 0x17 ∷ 0 ∷ 0x0D ∷ replicate 29 0;
   name = replicate 16 0;
-  buffer = 0;
+  buffer = 512;
   buses = 8;
   longest_write = 0;
   longest_read = 0;
@@ -37,13 +39,30 @@ simulated_firmware = record {
   clock_fits = λ hertz. tt;
 }
 
--- The reply of the simulated programmer to a frame that begins with `opcode`. An O_SPIOP that is sent alone has another
--- reply: ACK and the bytes that the chip returned.
+-- Holds if the bytes are one whole frame of O_SPIOP.
+abbrev pub IsOneFrame : List ℕ → Type 0
+IsOneFrame bytes = IsFrame bytes × (slice_index bytes 0 ≡ 0x13)
+
+-- Holds for two whole frames of O_SPIOP, of which the first requests no reply bytes.
+pub record AreOperations (first second : List ℕ) : Type 0 where
+  pub former : IsOneFrame first
+  pub unanswered : replies_in first ≡ 0
+  pub latter : IsOneFrame second
+
+-- Holds if `bytes` are these two frames of O_SPIOP, and fit into the serial buffer.
+pub record ArePair (first second bytes : List ℕ) : Type 0 where
+  pub is : bytes ≡ first ++ second
+  pub operations : AreOperations first second
+  pub fits : length bytes ≤ 512
+
+-- The reply of the simulated programmer to a frame that begins with `opcode`. An O_SPIOP that is sent alone, or with
+-- one other (`ArePair`), has another reply: ACK and the bytes that the chip returned.
 abbrev pub simulated_reply : (opcode : ℕ) → List ℕ
 simulated_reply opcode =
     if opcode == 0x00 || opcode == 0x12 then 0x06 ∷ []
     else if opcode == 0x01 then 0x06 ∷ 1 ∷ 0 ∷ []
-    else if opcode == 0x02 then 0x06 ∷ 0x07 ∷ 0 ∷ 0x0D ∷ replicate 29 0
+    else if opcode == 0x02 then 0x06 ∷ 0x17 ∷ 0 ∷ 0x0D ∷ replicate 29 0
+    else if opcode == 0x04 then 0x06 ∷ 0 ∷ 2 ∷ []
     else if opcode == 0x10 then 0x15 ∷ 0x06 ∷ []
     else nak
 

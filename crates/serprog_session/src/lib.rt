@@ -30,7 +30,8 @@
 //! - `calls.rt`: a session, a restore, a rewrite and a backup over a `SerprogBus`
 //! - `laws.rt`: laws (theorems) about what happens between a session and its restores
 //! - `sim_port.rt`: a simulated port to a simulated programmer with a simulated chip
-//! - `stack.rt`: the layers of nor_buses over a `BatchingBus`, which are a well-behaved bus
+//! - `stack.rt`: nine layers of nor_buses over a `BatchingBus`, which are a well-behaved bus
+//! - `stacked.rt`: the same calls over these layers
 //!
 //! `specs/Headline.antt` has the promises of these calls.
 #![tactic(auto)]
@@ -39,8 +40,12 @@ mod calls;
 mod laws;
 mod sim_port;
 mod stack;
+mod stacked;
 
 pub use calls::{backup_over, restore_over, rewrite_over, session_over};
 pub use laws::{disconnected_restores_chip, read_restores_chip};
 pub use sim_port::{SimFailure, SimPort};
 pub use stack::{Stack, stack_is_well_behaved};
+pub use stacked::{
+    backup_over_layers, restore_over_layers, rewrite_over_layers, session_over_layers,
+};

@@ -1,13 +1,14 @@
 //! A simulated port to a simulated programmer with a simulated chip, all in memory.
 ghost use Rattle.std.specs.Prelude.{◌≡◌, ◌≤◌, ◌+◌, ◌++◌, ◌∷◌, true, false, [], ℕ, List, Option, None, length, slice_index};
-ghost use Rattle.std.specs.Prelude.{OnOk, OnErr};
+ghost use Rattle.std.specs.Prelude.{OnOk, OnErr, MatchOption};
 ghost use Rattle.nor_serprog.specs.Device.{IsIdle, IsSent, IsCutOff, IsCut, StepsOnce};
 ghost use Rattle.nor_serprog.specs.Firmware.{HaveReplies, frames_of, replies_of, settings_after_all};
-ghost use Rattle.nor_serprog.specs.Frame.{IsFrame, out_in, replies_in};
+ghost use Rattle.nor_serprog.specs.Frame.{out_in, replies_in};
 ghost use Rattle.nor_serprog.specs.Wire.{asked_on, received_on};
 ghost use Rattle.nor_serprog.specs.declared.command.Command.{Command};
 ghost use Rattle.serprog_session.specs.SimPort.{simulated_chip, simulated_firmware, simulated_reply, left_of};
 ghost use Rattle.serprog_session.specs.SimPort.{bus_type_after, simulated_settings, device_over, port_over};
+ghost use Rattle.serprog_session.specs.SimPort.{IsOneFrame, AreOperations, ArePair};
 
 use arrayvec::ArrayVec;
 use nor_chip::{Bus, Meter, SimBus};
@@ -23,11 +24,18 @@ const O_SPIOP: u8 = 0x13;
 // The greatest number of bytes that a transaction may read: the length of a sector.
 const MOST_READ: usize = 4096;
 
-const MOST_PENDING: usize = 1 + MOST_READ;
+// Two ACKs and the bytes of a read, after two frames of O_SPIOP.
+const MOST_PENDING: usize = 2 + MOST_READ;
 
-// The reply to Q_CMDMAP: ACK, and the map with the commands 00h, 01h, 02h, 10h, 12h and 13h.
+// The size of the serial buffer.
+const SERIAL_BUFFER: usize = 512;
+
+// The reply to Q_SERBUF: ACK and the size of the serial buffer, low byte first.
+const BUFFER: [u8; 3] = [ACK, 0x00, 0x02];
+
+// The reply to Q_CMDMAP: ACK, and the map with the commands 00h, 01h, 02h, 04h, 10h, 12h and 13h.
 const COMMANDS: [u8; 33] = [
-    ACK, 0x07, 0, 0x0D, 0, 0, 0, 0, 0, 0, 0, 0, 0, 0, 0, 0, 0, 0, 0, 0, 0, 0, 0, 0, 0, 0, 0, 0, 0,
+    ACK, 0x17, 0, 0x0D, 0, 0, 0, 0, 0, 0, 0, 0, 0, 0, 0, 0, 0, 0, 0, 0, 0, 0, 0, 0, 0, 0, 0, 0, 0,
     0, 0, 0, 0,
 ];
 
@@ -44,12 +52,16 @@ pub enum SimFailure {
 /// of calls, and then fails; after any failure no call succeeds.
 ///
 /// The programmer replies to the queries of a handshake (`Programmer::identify`), accepts any type of bus (S_BUSTYPE),
-/// and carries out an O_SPIOP frame only if one call of `send` sends that frame and nothing else. If the port fails
-/// while it sends an O_SPIOP, the chip stops as `SimBus::tear` and `SimBus::lose` specify. If it fails later, the chip
-/// has carried out the transaction.
+/// and has a serial buffer of 512 bytes (Q_SERBUF). It carries out an O_SPIOP frame only if one call of `send` sends
+/// that frame and nothing else, or two such frames that fit into the buffer, of which the first requests no reply
+/// bytes. If the port fails while it sends an O_SPIOP, the chip stops as `SimBus::tear` and `SimBus::lose` specify. If
+/// it fails later, the chip has carried out the transaction.
+///
+/// The last call can't send two frames: it carries out the first one and stops in the second. If no call is left, the
+/// chip stops in the first one.
 ///
 /// A call also fails if an O_SPIOP frame is sent while a reply is pending or requests more than 4,096 bytes, if other
-/// frames would make more than 4,097 reply bytes pending, or if more bytes are received than are pending.
+/// frames would make more than 4,098 reply bytes pending, or if more bytes are received than are pending.
 #[derive(Drop)]
 pub struct SimPort {
     chip: SimBus,
@@ -100,7 +112,7 @@ impl SimPort {
     // Carries out a frame of O_SPIOP with one transaction of the chip. If no call is left, a reply is pending, or the
     // frame requests more than 4,096 bytes, stops the chip at the transaction (`cut`) and returns `Cut`.
     fn operate(&mut self, frame: &[u8]) -> Result<(), SimFailure>
-        requires { slice_index frame.now 0 ≡ 0x13 }
+        requires { IsOneFrame frame.now }
         ensures asked { (⟦<SimPort as Port>⟧.state self.new).asked
             ≡ frame.now ∷ (⟦<SimPort as Port>⟧.state self.old).asked }
         ensures unreceived { (⟦<SimPort as Port>⟧.state self.new).received
@@ -125,6 +137,42 @@ impl SimPort {
         self.pending = acknowledged(reply);
         Ok(())
     }
+
+    // Carries out two frames of O_SPIOP, which one call sends (`bytes`). If no call is left, a reply is pending, or
+    // the second frame requests more than 4,096 bytes, stops the chip at the first transaction. If one call is left,
+    // stops the chip at the second.
+    fn operate_both(&mut self, bytes: &[u8], first: &[u8], second: &[u8]) -> Result<(), SimFailure>
+        requires { ArePair first.now second.now bytes.now }
+        ensures asked { (⟦<SimPort as Port>⟧.state self.new).asked
+            ≡ bytes.now ∷ (⟦<SimPort as Port>⟧.state self.old).asked }
+        ensures unreceived { (⟦<SimPort as Port>⟧.state self.new).received
+            ≡ (⟦<SimPort as Port>⟧.state self.old).received }
+        ensures sent { OnOk result (IsSent bytes.now (⟦<SimPort as Port>⟧.state self.old)
+            (⟦<SimPort as Port>⟧.state self.new)) }
+        ensures cut_off { OnErr result (IsCutOff bytes.now (⟦<SimPort as Port>⟧.state self.old)
+            (⟦<SimPort as Port>⟧.state self.new)) }
+    {
+        self.wire.asked(bytes);
+        let mut reply = [0; MOST_READ];
+        let reply = match reply.get_mut(..reply_len(second)) {
+            Some(reply) if self.left > 0 && self.pending.is_empty() => reply,
+            _ => {
+                self.left = 0;
+                cut(&mut self.chip, sent_by(first));
+                return Err(SimFailure::Cut);
+            }
+        };
+        transact(&mut self.chip, sent_by(first), &mut []);
+        if self.left == 1 {
+            self.left = 0;
+            cut(&mut self.chip, sent_by(second));
+            return Err(SimFailure::Cut);
+        }
+        self.left -= 1;
+        transact(&mut self.chip, sent_by(second), reply);
+        self.pending = both_acknowledged(reply);
+        Ok(())
+    }
 }
 
 impl Port for SimPort {
@@ -140,9 +188,13 @@ impl Port for SimPort {
       bytes = port.chip.flash.bytes_in;
     } };
 
+    #[tactic(auto, using(crate::proofs::Pairs::never_both))]
     fn send(&mut self, bytes: &[u8]) -> Result<(), SimFailure> {
         if is_operation(bytes) {
             return self.operate(bytes);
+        }
+        if let Some((first, second)) = pair_in(bytes) {
+            return self.operate_both(bytes, first, second);
         }
         self.wire.asked(bytes);
         if self.left == 0 {
@@ -175,10 +227,33 @@ impl Port for SimPort {
 
 // Returns whether `bytes` are one whole frame of O_SPIOP.
 fn is_operation(bytes: &[u8]) -> bool
-    ensures opcode { result ≡ true → slice_index bytes.now 0 ≡ 0x13 }
-    ensures other { result ≡ false → ¬ (IsFrame bytes.now × (slice_index bytes.now 0 ≡ 0x13)) }
+    ensures operation { result ≡ true → IsOneFrame bytes.now }
+    ensures other { result ≡ false → ¬ IsOneFrame bytes.now }
 {
     bytes.first() == Some(&O_SPIOP) && frame_len(bytes) == Some(bytes.len())
+}
+
+// Returns whether `first` and `second` are whole frames of O_SPIOP, of which the first requests no reply bytes.
+fn are_operations(first: &[u8], second: &[u8]) -> bool
+    ensures operations { result ≡ true → AreOperations first.now second.now }
+    ensures other { result ≡ false → ¬ AreOperations first.now second.now }
+{
+    is_operation(first) && reply_len(first) == 0 && is_operation(second)
+}
+
+// Returns the two frames of O_SPIOP of which `bytes` consist, if the first requests no reply bytes and both fit into
+// the serial buffer.
+fn pair_in(bytes: &[u8]) -> Option<(&[u8], &[u8])>
+    ensures { MatchOption result ((first second : List ℕ) → ¬ ArePair first second bytes.now)
+        (λ pair. ArePair pair.0.now pair.1.now bytes.now) }
+{
+    let len = frame_len(bytes).unwrap_or(usize::MAX);
+    let (first, second) = bytes.split_at_checked(len)?;
+    if bytes.len() <= SERIAL_BUFFER && are_operations(first, second) {
+        Some((first, second))
+    } else {
+        None
+    }
 }
 
 fn sent_by(frame: &[u8]) -> &[u8]
@@ -210,6 +285,17 @@ fn acknowledged(bytes: &[u8]) -> ArrayVec<u8, MOST_PENDING>
     reply
 }
 
+fn both_acknowledged(bytes: &[u8]) -> ArrayVec<u8, MOST_PENDING>
+    requires { length bytes.now ≤ 4096 }
+    ensures { result.items ≡ 0x06 ∷ 0x06 ∷ bytes.now }
+{
+    let mut reply = ArrayVec::new();
+    let _ = reply.try_push(ACK);
+    let _ = reply.try_push(ACK);
+    let _ = reply.try_extend_from_slice(bytes);
+    reply
+}
+
 fn transact(chip: &mut SimBus, out: &[u8], reply: &mut [u8])
     ensures { (bus_type : Option ℕ) (pending pending' : List ℕ) → StepsOnce out.now reply.new
         (device_over (⟦<SimBus as Bus>⟧.state chip.old) bus_type pending)
@@ -222,9 +308,9 @@ fn transact(chip: &mut SimBus, out: &[u8], reply: &mut [u8])
 // Stops the chip in a transaction that sends `out`. The chip receives as many bytes of it as `SimBus::tear` set, and
 // loses its power if `SimBus::lose` set that.
 fn cut(chip: &mut SimBus, out: &[u8])
-    ensures { (bus_type : Option ℕ) (pending : List ℕ) → IsCut out.now
+    ensures { (bus_type : Option ℕ) (pending pending' : List ℕ) → IsCut out.now
         (device_over (⟦<SimBus as Bus>⟧.state chip.old) bus_type pending)
-        (device_over (⟦<SimBus as Bus>⟧.state chip.new) bus_type pending) }
+        (device_over (⟦<SimBus as Bus>⟧.state chip.new) bus_type pending') }
 {
     chip.allow(0);
     let _ = chip.transfer(out, &mut []);
@@ -281,6 +367,7 @@ fn reply_to(frame: &[u8]) -> &'static [u8]
         0x00 | 0x12 => &[ACK],
         0x01 => &[ACK, 1, 0],
         0x02 => &COMMANDS,
+        0x04 => &BUFFER,
         0x10 => &[NAK, ACK],
         _ => &[NAK],
     }

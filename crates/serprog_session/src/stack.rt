@@ -1,37 +1,42 @@
 //! The layers of `flashnor-serprog` over a port, and that they are together a well-behaved bus.
 ghost use Rattle.std.specs.Prelude.{◌≡◌, ◌≤◌, ◌+◌, true, false};
-ghost use Rattle.nor_buses.specs.Ahead.{ahead_of, longest_of};
-ghost use Rattle.nor_buses.specs.Checked.{bus_of};
-ghost use Rattle.nor_buses.specs.Paced.{paced_of};
-ghost use Rattle.nor_buses.specs.SameChip.{checked_by};
-ghost use Rattle.nor_buses.specs.Splitting.{split_of, sends_most, receives_most, reads_longer, takes_whole};
-ghost use Rattle.nor_buses.specs.Twice.{twice_of};
-ghost use Rattle.nor_serprog.specs.Batching.{port_in, waits_of, has_further};
+ghost use Rattle.nor_buses.specs.Ahead.{longest_of};
+ghost use Rattle.nor_buses.specs.Bit6.{keeps_bit6};
+ghost use Rattle.nor_buses.specs.KeptQuad.{rows_of, hides_of};
+ghost use Rattle.nor_buses.specs.KnownStatus2.{ids_of, before_of};
+ghost use Rattle.nor_buses.specs.Listed.{is_listed_chip};
+ghost use Rattle.nor_buses.specs.Splitting.{sends_most, receives_most, reads_longer, takes_whole};
+ghost use Rattle.nor_serprog.specs.Batching.{waits_of, has_further};
 ghost use Rattle.nor_serprog.specs.Enabled.{enabled};
+ghost use Rattle.serprog_session.specs.Stack.{kept_below, known_in, splitting_in, batching_below, port_below};
 
 use nor_buses::{Layered, layers_are_well_behaved};
 use nor_model::Bus;
 use nor_serprog::{BatchingBus, Port};
 use std::time::Clock;
 
-/// The layers of `Layered` over a `BatchingBus`, in the order of `flashnor-serprog`. The program has four more layers
-/// between them (`OtherMakers`, `KeptQuad`, `KnownStatus2`, `Watched`), of which this law says nothing.
+/// The nine layers of `Layered` over a `BatchingBus`, in the order of `flashnor-serprog`. The program has one more
+/// layer between them (`OtherMakers`), of which this law says nothing.
 pub type Stack<P, C> = Layered<BatchingBus<P>, C>;
 
-/// States that the layers are together a well-behaved bus if the port is well-behaved and the `BatchingBus` is one that
-/// `BatchingBus::emulated` returned. The programmer must take a page program, the read of a sector and that of the
-/// longest block. The chip is the programmer's, with the write enable latch set while a write enable waits.
+/// States that the layers are together a well-behaved bus if the port is well-behaved, the `BatchingBus` is one that
+/// `BatchingBus::emulated` returned, and the programmer and its chip fit them.
+///
+/// The programmer must take a page program, the read of a sector and that of the longest block. The chip must have an
+/// ID that `KnownStatus2` knows and, if `KeptQuad` hides QE, one of its `rows`. The chip of the bus is the
+/// programmer's, with the write enable latch set while a write enable waits.
 pub fn stack_is_well_behaved<P: Port + Drop, C: Clock + Drop>(bus: &Stack<P, C>)
-    ensures honest { (P.state (port_in (paced_of (split_of (bus_of (twice_of (checked_by (ahead_of bus.now)))))))).honest ≡ true
-        → has_further (paced_of (split_of (bus_of (twice_of (checked_by (ahead_of bus.now)))))) ≡ false
-        → takes_whole (sends_most (bus_of (twice_of (checked_by (ahead_of bus.now)))))
-        (receives_most (bus_of (twice_of (checked_by (ahead_of bus.now))))) ≡ true
-        → longest_of bus.now ≤ 4096 + reads_longer
-        (receives_most (bus_of (twice_of (checked_by (ahead_of bus.now))))) true 0
+    ensures honest { let port = P.state (port_below bus.now) in
+        let splitting = splitting_in bus.now in
+        let known = known_in bus.now in
+        port.honest ≡ true → has_further (batching_below bus.now) ≡ false
+        → takes_whole (sends_most splitting) (receives_most splitting) ≡ true
+        → longest_of bus.now ≤ 4096 + reads_longer (receives_most splitting) true 0
+        → is_listed_chip (ids_of known) (before_of known) port.device.chip.config ≡ true
+        → keeps_bit6 (rows_of (kept_below bus.now)) (hides_of (kept_below bus.now)) port.device.chip.config ≡ true
         → (⟦<Stack<P, C> as Bus>⟧.state bus.now).honest ≡ true }
     ensures chip { (⟦<Stack<P, C> as Bus>⟧.state bus.now).chip
-        ≡ enabled (waits_of (paced_of (split_of (bus_of (twice_of (checked_by (ahead_of bus.now)))))))
-        (P.state (port_in (paced_of (split_of (bus_of (twice_of (checked_by (ahead_of bus.now)))))))).device.chip }
+        ≡ enabled (waits_of (batching_below bus.now)) (P.state (port_below bus.now)).device.chip }
 {
     layers_are_well_behaved(bus);
 }

@@ -1,5 +1,5 @@
 use Rattle.std.proofs.Common.{◌≡◌, ◌∙◌, ◌++◌, ◌∷◌, rules, refl, sym, ap, List, [], ℕ}
-use Rattle.serprog_session.proofs.Pairs.{none_both}
+use Rattle.serprog_session.proofs.Pairs.{both_not_one}
 use Rattle.serprog_session.proofs.Replying.{no_operation}
 use Rattle.serprog_session.proofs.Simulated.{empty}
 use Rattle.serprog_session.proofs.sim_port.SimPort.operate.Goals as goal
@@ -13,8 +13,8 @@ returns-clause-sent c =
       left = search rules;
       firmware = refl;
       replies = λ commands asks.
-          absurd (no_operation commands c.args.frame.now asks.frames asks.replies c.requires);
-      both = λ first second both. absurd (none_both first second c.args.frame.now _ refl both);
+          absurd (no_operation commands c.args.frame.now asks.frames asks.replies c.requires.1);
+      both = λ first second both. absurd (both_not_one first second c.args.frame.now _ both c.requires.0);
       done = λ whole. record {
         answer = c.transact.new.reply;
         len = search rules;
@@ -30,10 +30,10 @@ pub returns-in_default-clause-cut_off : goal.returns-in_default-clause-cut_off
 returns-in_default-clause-cut_off c = record {
   firmware = refl;
   none_left_for_commands = λ commands asks short.
-      absurd (no_operation commands c.args.frame.now asks.frames asks.replies c.requires);
-  power = λ commands asks. absurd (no_operation commands c.args.frame.now asks.frames asks.replies c.requires);
+      absurd (no_operation commands c.args.frame.now asks.frames asks.replies c.requires.1);
+  power = λ commands asks. absurd (no_operation commands c.args.frame.now asks.frames asks.replies c.requires.1);
   none_left = search rules;
   left = search rules;
   cut = search rules;
-  cut_both = λ first second both. absurd (none_both first second c.args.frame.now _ refl both);
+  cut_both = λ first second both. absurd (both_not_one first second c.args.frame.now _ both c.requires.0);
 }
