@@ -1,11 +1,14 @@
-//! Sessions and restores over all layers of nor_buses around a serprog bus, as `flashnor-serprog` uses them. The port
-//! fails at each of its calls in turn.
+//! Sessions and restores over nine layers of nor_buses around a serprog bus, in the order of `flashnor-serprog`. The
+//! port fails at each of its calls in turn.
 
 use crate::held::{assert_held, assert_that};
 use crate::row::{Row, Start};
 use crate::runs::{Runs, keep};
 use crate::serprog_wrappers::Timer;
-use nor_buses::{CheckedStatus, Layered, Paced, ReadAhead, ReadTwice, SameChip, SplittingBus};
+use nor_buses::{
+    CheckedStatus, KeptQuad, KnownStatus2, Layered, Paced, ReadAhead, ReadTwice, SameChip,
+    SplittingBus, Watched,
+};
 use nor_chip::{Config, SimBus};
 use nor_journal::{Journal, MemVault};
 use nor_serprog::{Link, Programmer, SerprogBus};
@@ -18,6 +21,9 @@ use std::process::Abort;
 const LONGEST_WRITE: u32 = 260;
 
 const LONGEST_READ: u32 = 4096;
+
+// The ID of TINY64, which has status 2, and SEC as bit 6 of status 1.
+const IDS: [[u8; 3]; 1] = [[0xFE, 0x10, 0x10]];
 
 // More calls than a handshake and any session or restore takes.
 const AMPLE: u64 = 100_000;
@@ -33,22 +39,23 @@ fn open<'a>(rt: &impl Abort, now: &'a Cell<u64>, port: SimPort) -> Bench<'a> {
     assert!(rt; link.port().is_idle());
     let clock = Timer { now, fails: false };
     let paced = Paced::new(SerprogBus::new(link, programmer), clock);
-    let splitting = SplittingBus::new(paced, LONGEST_WRITE, LONGEST_READ);
-    let checked = SameChip::new(ReadTwice::new(CheckedStatus::new(splitting)));
-    ReadAhead::new(checked, LONGEST_READ)
+    let splitting = SplittingBus::new(Watched::new(paced), LONGEST_WRITE, LONGEST_READ);
+    let twice = ReadTwice::new(CheckedStatus::new(splitting));
+    let kept = KeptQuad::new(KnownStatus2::new(twice, &IDS, None), &IDS, true);
+    ReadAhead::new(SameChip::new(kept), LONGEST_READ)
 }
 
-fn chip_of<'a>(bus: &'a Bench<'_>) -> &'a SimBus {
-    let splitting = bus.inner().inner().inner().inner();
-    splitting.inner().inner().port().chip()
+fn port_of<'a>(bus: &'a Bench<'_>) -> &'a SimPort {
+    let twice = bus.inner().inner().inner().inner();
+    let splitting = twice.inner().inner();
+    splitting.inner().inner().inner().port()
 }
 
 fn handshake(rt: &impl Abort, alloc: Global) -> u64 {
     let now = Cell::new(0);
     let chip = Row::AByteIsProgrammed.bus(rt, alloc, Start::IDLE);
     let bus = open(rt, &now, SimPort::new(chip, AMPLE));
-    let port = bus.inner().inner().inner().inner().inner().inner().port();
-    AMPLE.saturating_sub(port.left())
+    AMPLE.saturating_sub(port_of(&bus).left())
 }
 
 // After the handshake, `calls` calls succeed. Of a frame that fails the chip receives the first `cut` bytes.
@@ -84,7 +91,7 @@ fn stop_session(
     let refusal = keep(rt, alloc, row, &mut bus, &mut vault).err();
     assert_held(rt, matches!(refusal, None | Some(Refusal::Stopped)), calls);
     Left {
-        chip: copy_of(rt, alloc, chip_of(&bus)),
+        chip: copy_of(rt, alloc, port_of(&bus).chip()),
         vault,
         ended: refusal.is_none(),
     }
@@ -109,7 +116,7 @@ fn stop_restore(
     let refusal = restore(&mut bus, &journal).err();
     assert_held(rt, matches!(refusal, None | Some(Refusal::Stopped)), calls);
     Left {
-        chip: copy_of(rt, alloc, chip_of(&bus)),
+        chip: copy_of(rt, alloc, port_of(&bus).chip()),
         vault,
         ended: refusal.is_none(),
     }
