@@ -32,7 +32,7 @@ const POWER_LOCKED: &str =
 
 // Before that line, if QE is set and the job may write the status.
 const QUAD: &str =
-    "Keep its power on: a status write that is cut off may clear QE, and a restore then ends with error 17.";
+    "Keep its power on: a status write that is cut off may clear QE, and a restore doesn't set it again.";
 
 const BUSY_CHIP: &str =
     "The chip shows BUSY. If no erase is running, it has no contact or no supply: press Ctrl-C, and check both. \

@@ -120,8 +120,8 @@ const IGNORED: &str =
 const KEPT: u8 = 0x3F;
 
 const KEEPS: &str =
-    "With another tool, set these bits as they were, because this program never changes them, and a \
-    restore would end with error 17 (see Chip fault 3 in the manual page):";
+    "With another tool, set these bits as they were, because this program never changes them, not even in a \
+    restore (see Chip fault 3 in the manual page):";
 
 /// True if a status write was to clear SRP0, and SRP0 is still set.
 pub fn keeps_srp0(sent: [u8; 2], found: [u8; 2]) -> bool {
