@@ -7,7 +7,7 @@ use Rattle.sha2.specs.Sha256.{sha256}
 use Rattle.nor_journal.specs.Saved.{saved_in}
 use Rattle.nor_journal.specs.Text.{Content, SavedSector, body, end_mark, front, head, record_text, records_text, text}
 use Rattle.nor_journal.proofs.SectorRecords.{records_text-push}
-use Rattle.board_files.specs.Images.{first_sectors, without_unique}
+use Rattle.board_files.specs.Images.{first_sectors}
 
 pub first_none : (journal : Content) → [] ≡ first_sectors journal 0
 unfolding first_sectors
@@ -38,7 +38,7 @@ encoded_more header bytes saved i s inside at is =
     rw (is, here, records_text-push (take i saved) s) (append_assoc header (records_text (take i saved)) (record_text s))
 
 pub encoded_all : (journal : Content) (bytes : List ℕ) (i : ℕ) → length journal.saved ≤ i
-    → bytes ≡ head (without_unique journal) ++ records_text (take i journal.saved)
-    → (bytes ++ end_mark) ++ sha256 (bytes ++ end_mark) ≡ text (without_unique journal)
+    → bytes ≡ head journal ++ records_text (take i journal.saved)
+    → (bytes ++ end_mark) ++ sha256 (bytes ++ end_mark) ≡ text journal
 unfolding text body front
 encoded_all journal bytes i long is = rw (is, take_all i journal.saved long) refl

@@ -75,7 +75,11 @@ FailsAsJournal bytes _ = ⊥
 abbrev pub FailsToUnpack : (bytes : List ℕ) → (name : Bor Text) → EarlyEnd → Type 0
 FailsToUnpack bytes name fault = FailsAsJournal bytes fault ⊎ FailsInJournal bytes name fault
 
--- ---- another device
+-- ---- another header
+
+-- the journal with this unique ID (None: in format 1, which has none) and these status bytes
+abbrev pub with_unique_and_status : (unique : Option (List ℕ)) → (status : List ℕ) → Content → Content
+with_unique_and_status unique status journal = record journal { unique = unique; status = status }
 
 -- the journal in format 1, which has no unique ID, so that a restore accepts any chip with its ID and size
 abbrev pub without_unique : Content → Content

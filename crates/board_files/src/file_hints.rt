@@ -2,31 +2,30 @@
 
 use crate::journals::advice;
 use nor_console::{Cause, Fault, FileFault, SystemReason};
+use nor_journal::JournalFault;
 use nor_session::Refusal;
 use std::io::Write;
 
-/// Prints the line that follows the line of a fault, if there is one that needs no more than the fault.
+/// Prints the line that follows the line of a fault, if the fault has such a line.
 pub fn print_hint<E: Write>(errors: &mut E, fault: &Fault<'_>) {
     if let Some(text) = hint_for(fault) {
         let _ = writeln!(errors, "{text}");
     }
 }
 
-// Returns the text that follows a fault, if there is one that needs no more than the fault.
 fn hint_for(fault: &Fault<'_>) -> Option<&'static str> {
     match fault {
         Fault::File { fault, cause, .. } => file_fault_hint(*fault, *cause),
         Fault::Refused(Refusal::BadJournal(why)) => Some(advice(*why)),
+        Fault::NoJournal => Some(advice(JournalFault::Magic)),
         _ => None,
     }
 }
 
-// Returns the text that follows a file fault with this cause, if there is one.
 fn file_fault_hint(fault: FileFault, cause: Cause) -> Option<&'static str> {
     cause_hint(cause).or(file_hint(fault))
 }
 
-// Returns the text for a file fault whose cause is known.
 fn cause_hint(cause: Cause) -> Option<&'static str> {
     match cause {
         Cause::System(reason) => Some(reason_hint(reason)),
@@ -36,7 +35,7 @@ fn cause_hint(cause: Cause) -> Option<&'static str> {
     }
 }
 
-/// Returns the text for a file of which a call of the system failed for this reason.
+/// Returns the advice for a file on which a system call failed for this reason.
 pub fn reason_hint(reason: SystemReason) -> &'static str {
     match reason {
         SystemReason::Missing => "There is no such file: correct its name.",

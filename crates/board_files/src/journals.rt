@@ -11,13 +11,13 @@ use crate::quoted::Quoted;
 use nor_console::{Escaped, Fault, print_fault, read_journal};
 use nor_files::Store;
 use nor_geometry::SECTOR_LEN;
+use nor_jobs::journal_in;
 use nor_journal::{Journal, JournalFault};
 use nor_probe::{ChipName, part_for};
-use nor_session::Refusal;
 use std::io::Write;
 use std::{fmt, io};
 
-/// What a sealed and undamaged journal says.
+/// The contents of a sealed and undamaged journal.
 #[derive(Drop)]
 pub struct Description {
     /// The three bytes of the chip's ID.
@@ -28,7 +28,6 @@ pub struct Description {
     pub unique: Option<[u8; 8]>,
     /// Status 1 and status 2.
     pub status: [u8; 2],
-    /// The number of saved sectors.
     pub saved: usize,
     /// The first and the last of the saved addresses, or `None` if no sector is saved.
     pub ends: Option<(u64, u64)>,
@@ -36,8 +35,8 @@ pub struct Description {
     pub blank: usize,
 }
 
-/// Prints the description of the journal in the named file to `output`, or to `errors` why there is none. Returns exit
-/// status 0 if the journal is sealed and undamaged, and all was printed. Each file is as it was.
+/// Prints the description of the journal in the named file to `output`, or the reason why there is none to `errors`.
+/// Returns exit status 0 if the journal is sealed and undamaged, and everything was printed. Changes no file.
 pub fn check_journal<R: Store, O: Write, E: Write>(
     files: &mut R,
     name: &str,
@@ -67,9 +66,9 @@ fn describe<'a, R: Store>(files: &mut R, name: &'a str) -> Result<Description, F
     ensures err { IfErr result (FailsToDescribe (R.state files.old).view name.now) }
 {
     let bytes = read_journal(files, name)?;
-    match Journal::read(&bytes) {
+    match journal_in(&bytes) {
         Ok(journal) => Ok(description_of(&journal)),
-        Err(fault) => Err(Fault::Refused(Refusal::BadJournal(fault))),
+        Err(fault) => Err(fault),
     }
 }
 

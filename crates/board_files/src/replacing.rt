@@ -1,16 +1,16 @@
-//! The journal of a whole chip for another device of the same type, for `--replaced-chip`.
+//! Journals with another header: for another device of the same type (`--replaced-chip`), or with other status bytes.
 ghost use Rattle.std.specs.Prelude.{◌≡◌, ◌++◌, IfErr, IfOk, OnOk};
 ghost use Rattle.nor_journal.specs.Text.{end_mark, head, record_text, text};
 ghost use Rattle.sha2.specs.Sha256.{sha256};
 ghost use Rattle.board_files.specs.Images.{AreAdapted, FailsToAdapt, FailsToUnpack, IsForAnyDevice};
-ghost use Rattle.board_files.specs.Images.{without_unique};
+ghost use Rattle.board_files.specs.Images.{with_unique_and_status};
 
 use crate::early_ends::EarlyEnd;
 use crate::images::{check_whole, unpacked};
 use nor_args::{Operation, Task};
 use nor_console::Fault;
 use nor_jobs::journal_in;
-use nor_journal::{FIRST_MAGIC, Journal};
+use nor_journal::{FIRST_MAGIC, Journal, MAGIC};
 use nor_session::Refusal;
 use sha2::{Digest, Sha256};
 use std::alloc::{AllocError, Global};
@@ -54,16 +54,33 @@ fn for_any_device<'a>(alloc: Global, name: &'a str, bytes: &[u8]) -> Result<Vec<
 {
     let journal = journal_in(bytes)?;
     check_whole(name, &journal)?;
-    match encode(alloc, &journal) {
+    match encode(alloc, &journal, None, journal.status()) {
         Ok(new) => Ok(new),
         Err(_) => Err(EarlyEnd::Fault(Fault::Refused(Refusal::Memory))),
     }
 }
 
-fn encode(alloc: Global, journal: &Journal<'_>) -> Result<Vec<u8>, AllocError>
-    ensures { IfOk result (λ new. new.items ≡ text (without_unique journal.now)) }
+/// Returns the encoding of `journal` with these status bytes, status 1 first. All else is as in `journal`. Returns an
+/// error if memory runs out.
+pub fn encode_with_status(
+    alloc: Global,
+    journal: &Journal<'_>,
+    status: [u8; 2],
+) -> Result<Vec<u8>, AllocError>
+    ensures { IfOk result (λ new. new.items ≡ text (with_unique_and_status journal.now.unique status journal.now)) }
 {
-    let mut bytes = encode_header(alloc, journal)?;
+    encode(alloc, journal, journal.unique(), status)
+}
+
+fn encode(
+    alloc: Global,
+    journal: &Journal<'_>,
+    unique: Option<[u8; 8]>,
+    status: [u8; 2],
+) -> Result<Vec<u8>, AllocError>
+    ensures { IfOk result (λ new. new.items ≡ text (with_unique_and_status unique status journal.now)) }
+{
+    let mut bytes = encode_header(alloc, journal, unique, status)?;
     for index in 0..journal.count() {
         let (number, saved) = journal.sector(index);
         append_record(&mut bytes, number, saved)?;
@@ -92,13 +109,27 @@ fn append_end(bytes: &mut Vec<u8>) -> Result<(), AllocError>
 }
 
 #[tactic(auto, unfolding(nor_journal::specs::Text::head, nor_journal::specs::Number::number_text))]
-fn encode_header(alloc: Global, journal: &Journal<'_>) -> Result<Vec<u8>, AllocError>
-    ensures { IfOk result (λ header. header.items ≡ head (without_unique journal.now)) }
+fn encode_header(
+    alloc: Global,
+    journal: &Journal<'_>,
+    unique: Option<[u8; 8]>,
+    status: [u8; 2],
+) -> Result<Vec<u8>, AllocError>
+    ensures { IfOk result (λ header. header.items ≡ head (with_unique_and_status unique status journal.now)) }
 {
     let mut bytes = Vec::new(alloc);
-    bytes.extend_from_slice(&FIRST_MAGIC)?;
-    bytes.extend_from_slice(&journal.id())?;
-    bytes.extend_from_slice(&journal.status())?;
+    match unique {
+        Some(unique) => {
+            bytes.extend_from_slice(&MAGIC)?;
+            bytes.extend_from_slice(&journal.id())?;
+            bytes.extend_from_slice(&unique)?;
+        }
+        None => {
+            bytes.extend_from_slice(&FIRST_MAGIC)?;
+            bytes.extend_from_slice(&journal.id())?;
+        }
+    }
+    bytes.extend_from_slice(&status)?;
     bytes.extend_from_slice(&journal.size().to_le_bytes())?;
     Ok(bytes)
 }

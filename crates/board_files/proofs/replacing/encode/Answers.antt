@@ -1,4 +1,5 @@
 use Rattle.std.proofs.Common.{arith}
+use Rattle.board_files.specs.Images.{with_unique_and_status}
 use Rattle.board_files.proofs.Whole.{encoded_all, encoded_more, encoded_none}
 use Rattle.board_files.proofs.replacing.encode.Goals as goal
 
@@ -12,4 +13,4 @@ loop-index-preserved c = rw c.in_ok-append_record.ensures
 
 pub returns : goal.returns
 returns c = rw c.in_ok-append_end.ensures
-    (encoded_all c.args.journal.now _ c.loop-index.index (omega arith) c.loop-index.invariant)
+    (encoded_all (with_unique_and_status c.args.unique c.args.status c.args.journal.now) _ c.loop-index.index (omega arith) c.loop-index.invariant)
