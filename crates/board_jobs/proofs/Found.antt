@@ -45,31 +45,31 @@ module _ {T : Type 0} (P : T → Type 0) (Q : Refusal → Type 0) where
 -- Holds for the faults of making the target of a change.
 abbrev IsBefore : JobFault → Type 0
 IsBefore (ended.Fault fault) = ⊤
-IsBefore (ended.Protected byte) = ⊤
+IsBefore (ended.Protected byte id) = ⊤
 IsBefore _ = ⊥
 
 module _ (named : Option ChipName) (old new : BusState) where
-  refused : (target : Wanted) (ranges : Option (List Span)) (bytes : List ℕ) (byte : ℕ)
-      → FailsToTarget named target ranges bytes old new (ended.Protected byte) → IsProtected named old new byte
-  refused target ranges bytes byte (inl is) = is
-  refused target ranges bytes byte (inr made) = absurd (cc made.2)
+  refused : (target : Wanted) (ranges : Option (List Span)) (bytes : List ℕ) (byte : ℕ) (id : List ℕ)
+      → FailsToTarget named target ranges bytes old new (ended.Protected byte id) → IsProtected named old new byte id
+  refused target ranges bytes byte id (inl is) = is
+  refused target ranges bytes byte id (inr made) = absurd (cc made.2)
 
   refuses : (target : Wanted) (ranges : Option (List Span)) (bytes : List ℕ) (file : Bor Text) (view : View)
-      (after : FilesState) (byte : ℕ) → after.view ≡ view
-      → FailsToFill named target ranges bytes old new (ended.Protected byte)
-      → IsRefusedAsProtected named target (uses.Journal file) view after old new byte
-  refuses (wanted.Range start len) ranges bytes file view after byte same fails = absurd fails
-  refuses target ranges bytes file view after byte same fails = record {
+      (after : FilesState) (byte : ℕ) (id : List ℕ) → after.view ≡ view
+      → FailsToFill named target ranges bytes old new (ended.Protected byte id)
+      → IsRefusedAsProtected named target (uses.Journal file) view after old new byte id
+  refuses (wanted.Range start len) ranges bytes file view after byte id same fails = absurd fails
+  refuses target ranges bytes file view after byte id same fails = record {
     changes = refl;
     journalled = refl;
-    protected = refused target ranges bytes byte fails;
+    protected = refused target ranges bytes byte id fails;
     unmade = same;
   }
 
   targets_before : (target : Wanted) (ranges : Option (List Span)) (bytes : List ℕ) (fault : JobFault)
       → FailsToTarget named target ranges bytes old new fault → IsBefore fault
   targets_before target ranges bytes (ended.Fault fault) fails = tt
-  targets_before target ranges bytes (ended.Protected byte) fails = tt
+  targets_before target ranges bytes (ended.Protected byte id) fails = tt
   targets_before target ranges bytes _ (inl fails) = fails
   targets_before target ranges bytes _ (inr made) = absurd (cc made.2)
 
@@ -100,8 +100,8 @@ module _ (operation : Operation) (old new : BusState) (change : Change) (ranges 
       → FailsToFill operation.named change.wanted (ranges_of operation change ranges) bytes old new fault
       → FailsChange operation change ranges bytes kept view after old new fault
   fill_fails kept (ended.Fault fault) is same fails = rw is (inl fails)
-  fill_fails kept (ended.Protected byte) is same fails =
-      rw is (refuses operation.named old new change.wanted _ bytes file view after byte same fails)
+  fill_fails kept (ended.Protected byte id) is same fails =
+      rw is (refuses operation.named old new change.wanted _ bytes file view after byte id same fails)
   fill_fails kept _ is same fails = absurd (fills_before operation.named old new change.wanted _ bytes _ fails)
 
 module _ (operation : Operation) (old new : BusState) (change : Change) (ranges : Option (List Span))

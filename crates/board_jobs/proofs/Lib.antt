@@ -5,3 +5,4 @@ pub mod RestRead
 pub mod Restored
 pub mod Named
 pub mod Locks
+pub mod Fitted

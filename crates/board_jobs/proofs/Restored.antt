@@ -1,5 +1,5 @@
 -- Lemmas that compose a restore from its steps, with or without the comparison after it.
-use Rattle.std.proofs.Common.{◌≡◌, ℕ, Bool, List, None, Result, IfErr, IfOk, inl, inr}
+use Rattle.std.proofs.Common.{◌≡◌, ℕ, Bool, List, None, Result, IfErr, IfOk, inl}
 use Rattle.std.proofs.lemmas.Result.{IfOk-weaker, MatchResult-weaker}
 use Rattle.nor_model.specs.Bus.{BusState}
 use Rattle.nor_journal.specs.Text.{Content as Journal, IsContent, text}
@@ -7,7 +7,7 @@ use Rattle.nor_request.specs.declared.refusal.Refusal.{Refusal}
 use Rattle.nor_args.specs.declared.job.Operation.{Operation}
 use Rattle.nor_console.specs.declared.answers.Answer.{Answer}
 use Rattle.board_jobs.specs.Rest.{FailsToFollowRestore, FollowsRestore, is_followed}
-use Rattle.nor_jobs.specs.Restoring.{HasRestoredNamed, HasRunRestore}
+use Rattle.board_jobs.specs.Fitting.{HasRestoredFitting}
 use Rattle.board_jobs.specs.Restoring.{FailsBy, FailsCompared, FailsRestore, HasReadBefore, HasRestored}
 use Rattle.board_jobs.specs.Restoring.{HasRestoredAndCompared, HasRestoredBy}
 use Rattle.board_jobs.specs.declared.chip_faults.JobFault.{JobFault}
@@ -25,14 +25,9 @@ module _ (operation : Operation) (bytes : List ℕ) (journal : Journal) (sound :
   fails_from fails = MatchResult-weaker result fails (λ outcome is. is)
       (λ fault is. inl (record { journal = journal; sound = sound; read = read; fails = is }))
 
-pub ran_unnamed : (quick : Bool) (journal : Journal) (old new : BusState) (outcome : Result Answer Refusal)
-    → HasRestoredNamed quick None journal old new outcome → HasRunRestore quick journal old new outcome
-ran_unnamed quick journal old new outcome (inl has) = rw has.first at has.ran
-ran_unnamed quick journal old new outcome (inr failed) = absurd failed.1
-
 module _ (operation : Operation) (journal : Journal) (rest : List ℕ) (old found restored new : BusState)
     (first : HasReadBefore operation.named journal rest old found) (outcome : Result Answer Refusal)
-    (ran : HasRunRestore operation.is_quick journal found restored outcome)
+    (ran : HasRestoredFitting operation.is_quick None journal found restored outcome)
     (result : Result (Result Answer Refusal) JobFault) where
   ends : (ended' : Result Answer Refusal)
       → (ended' ≡ outcome) × FollowsRestore (is_followed outcome) journal rest restored new

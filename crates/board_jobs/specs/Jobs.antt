@@ -1,6 +1,6 @@
 -- What a job does to the chip over any bus: its call to the engine, the result, and the faults before and after it.
 use Rattle.std.specs.Prelude.{◌≡◌, ◌&&◌, ◌⊎◌, ℕ, Bool, true, false, List, Option, Result, Ok, Err}
-use Rattle.std.specs.Prelude.{bit_and, nat_eq, not}
+use Rattle.std.specs.Prelude.{◌==◌, ◌||◌, bit_and, if◌then◌else◌, nat_eq, not, slice_index}
 use Rattle.nor_model.specs.Bus.{BusState}
 use Rattle.nor_files.specs.Files.{FilesState, View}
 use Rattle.nor_layout.specs.declared.ranges.Span.{Span}
@@ -70,27 +70,35 @@ FailsToRead named file view old new fault =
 
 -- ---- chips that may be protected
 
--- true for a chip of an unknown type with one of the bits 2 to 6 of status 1 set. On nearly every chip these bits
--- protect sectors, which then ignore erases and programs.
+-- The bits of status 1 that may protect sectors on a chip of an unknown type with this ID: bits 2 to 6, except bit 6 of
+-- Macronix (C2h) and ISSI (9Dh), and bit 5 of Microchip's SST26 (BFh 26h).
+abbrev pub protecting_bits : (id : List ℕ) → ℕ
+protecting_bits id =
+    if slice_index id 0 == 0xC2 || slice_index id 0 == 0x9D then 0x3C
+    else if slice_index id 0 == 0xBF && slice_index id 1 == 0x26 then 0x5C else 0x7C
+
+-- true for a chip of an unknown type with a bit of status 1 set that may protect sectors. These would then ignore
+-- erases and programs.
 abbrev pub may_be_protected : Found → Bool
-may_be_protected chip = not chip.scheme && not (nat_eq (bit_and chip.status1 0x7C) 0)
+may_be_protected chip = not chip.scheme && not (nat_eq (bit_and chip.status1 (protecting_bits chip.id)) 0)
 
 pub record IsChangeable (named : Option ChipName) (old new : BusState) (chip : Found) : Type 0 where
   pub identified : HasIdentified named old new (Ok chip)
   pub unprotected : may_be_protected chip ≡ false
 
--- Holds if the chip was identified and may be protected, and `byte` is its status 1.
-pub record IsProtected (named : Option ChipName) (old new : BusState) (byte : ℕ) : Type 0 where
+-- Holds if the chip was identified and may be protected, and `byte` and `id` are its status 1 and its ID.
+pub record IsProtected (named : Option ChipName) (old new : BusState) (byte : ℕ) (id : List ℕ) : Type 0 where
   pub chip : Found
   pub identified : HasIdentified named old new (Ok chip)
   pub protected : may_be_protected chip ≡ true
   pub shown : byte ≡ chip.status1
+  pub names : id ≡ chip.id
 
 -- Holds if a write or an erase failed before its target was made: the identification failed, or the chip may be
 -- protected (chip fault 1).
 abbrev pub FailsToAdmit : Option ChipName → (old new : BusState) → JobFault → Type 0
 FailsToAdmit named old new (ended.Fault fault) = FailsToFind named old new fault
-FailsToAdmit named old new (ended.Protected status1) = IsProtected named old new status1
+FailsToAdmit named old new (ended.Protected status1 id) = IsProtected named old new status1 id
 FailsToAdmit named old new _ = ⊥
 
 -- ---- changes
@@ -186,12 +194,12 @@ abbrev pub has_journal_file : JournalUse → Bool
 has_journal_file (uses.Journal file) = true
 has_journal_file (uses.Rehearse stops) = false
 
--- Holds if a change was refused with chip fault 1, with the chip's status 1 as `byte`. No file was changed.
+-- Holds if a change was refused with chip fault 1, with the chip's status 1 as `byte`, and its ID. No file was changed.
 pub record IsRefusedAsProtected (named : Option ChipName) (target : Wanted) (kept : JournalUse) (before : View)
-    (after : FilesState) (old new : BusState) (byte : ℕ) : Type 0 where
+    (after : FilesState) (old new : BusState) (byte : ℕ) (id : List ℕ) : Type 0 where
   pub changes : changes_bytes target ≡ true
   pub journalled : has_journal_file kept ≡ true
-  pub protected : IsProtected named old new byte
+  pub protected : IsProtected named old new byte id
   pub unmade : after.view ≡ before
 
 abbrev pub FailsComparison : Operation → Change → Option (List Span) → (bytes : List ℕ) → JournalUse
@@ -205,8 +213,8 @@ abbrev pub FailsChange : Operation → Change → Option (List Span) → (bytes 
     → (before : View) → (after : FilesState) → (old new : BusState) → JobFault → Type 0
 FailsChange operation change ranges bytes kept before after old new (ended.Fault fault) =
     FailsToChange operation change ranges bytes kept before old new fault
-FailsChange operation change ranges bytes kept before after old new (ended.Protected status1) =
-    IsRefusedAsProtected operation.named change.wanted kept before after old new status1
+FailsChange operation change ranges bytes kept before after old new (ended.Protected status1 id) =
+    IsRefusedAsProtected operation.named change.wanted kept before after old new status1 id
 FailsChange operation change ranges bytes kept before after old new (ended.NotCompared refusal) =
     FailsComparison operation change ranges bytes kept before after old new refusal
 FailsChange operation change ranges bytes kept before after old new _ = ⊥

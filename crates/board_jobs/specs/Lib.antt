@@ -8,3 +8,5 @@ pub mod Further
 pub mod StatusLocks
 pub mod Strays
 pub mod Ending
+pub mod BoardBits
+pub mod Fitting

@@ -1,5 +1,5 @@
 -- A restore: its call to the engine, the reads before and after the call, and the faults.
-use Rattle.std.specs.Prelude.{◌≡◌, ◌⊎◌, ℕ, Bool, true, false, List, Option, Result, Ok}
+use Rattle.std.specs.Prelude.{◌≡◌, ◌⊎◌, ℕ, Bool, true, false, List, Option, None, Result, Ok}
 use Rattle.nor_model.specs.Bus.{BusState}
 use Rattle.nor_journal.specs.Text.{Content as Journal, IsContent, text}
 use Rattle.nor_probe.specs.declared.probes.Found.{Found}
@@ -11,8 +11,9 @@ use Rattle.nor_args.specs.declared.job.Operation.{Operation}
 use Rattle.nor_console.specs.declared.answers.Answer.{Answer}
 use Rattle.nor_console.specs.declared.messages.Fault.{Fault}
 use Rattle.nor_console.specs.declared.messages.Fault.TheVariants as end
-use Rattle.nor_jobs.specs.Restoring.{HasRestoredNamed, HasRunRestore, IsNoJournal}
+use Rattle.nor_jobs.specs.Restoring.{IsNoJournal}
 use Rattle.nor_jobs.specs.Finding.{FailsToFind, HasIdentified}
+use Rattle.board_jobs.specs.Fitting.{HasRestoredFitting}
 use Rattle.board_jobs.specs.Rest.{FailsRest, FollowsRestore, HasReadRest, HasStoppedInRest, is_followed}
 use Rattle.board_jobs.specs.declared.chip_faults.JobFault.{JobFault}
 use Rattle.board_jobs.specs.declared.chip_faults.JobFault.TheVariants as ended
@@ -34,7 +35,7 @@ pub record HasRestoredAndCompared (operation : Operation) (journal : Journal) (o
   pub found : BusState
   pub restored : BusState
   pub first : HasReadBefore operation.named journal rest old found
-  pub ran : HasRunRestore operation.is_quick journal found restored outcome
+  pub ran : HasRestoredFitting operation.is_quick None journal found restored outcome
   pub followed : FollowsRestore (is_followed outcome) journal rest restored new
 
 -- Holds if a restore from this journal was run, with the comparison or, with `-N`, after a check of the name.
@@ -42,7 +43,7 @@ abbrev pub HasRestoredBy : (compared : Bool) → Operation → Journal → (old 
     → Type 0
 HasRestoredBy true operation journal old new outcome = HasRestoredAndCompared operation journal old new outcome
 HasRestoredBy false operation journal old new outcome =
-    HasRestoredNamed operation.is_quick operation.named journal old new outcome
+    HasRestoredFitting operation.is_quick operation.named journal old new outcome
 
 pub record HasRestored (operation : Operation) (bytes : List ℕ) (old new : BusState)
     (outcome : Result Answer Refusal) : Type 0 where
@@ -75,7 +76,7 @@ pub record HasNotComparedRest (operation : Operation) (journal : Journal) (old n
   pub found : BusState
   pub restored : BusState
   pub first : HasReadBefore operation.named journal rest old found
-  pub ran : HasRunRestore operation.is_quick journal found restored outcome
+  pub ran : HasRestoredFitting operation.is_quick None journal found restored outcome
   pub followed : is_followed outcome ≡ true
   pub fails : FailsRest journal rest restored new refusal
 

@@ -2,6 +2,7 @@
 use Rattle.std.specs.Prelude.{◌≡◌, ◌⊎◌, ℕ, true, List, Some}
 use Rattle.nor_model.specs.Bus.{BusState}
 use Rattle.nor_files.specs.Files.{FilesState, IsDurable, is_lawful}
+use Rattle.nor_journal.specs.Text.{Content as Journal}
 use Rattle.nor_request.specs.declared.request.What.{What}
 use Rattle.nor_scan.specs.SavedScan.{IsJournal}
 use Rattle.nor_session.specs.Session.{IsSavedCode, IsWrittenCode, SendsSaved}
@@ -11,6 +12,7 @@ use Rattle.nor_args.specs.declared.job.JournalUse.TheVariants as uses
 use Rattle.nor_args.specs.declared.job.Task.{Task}
 use Rattle.nor_args.specs.declared.job.Task.TheVariants as task
 use Rattle.nor_console.specs.Requests.{what_of}
+use Rattle.board_jobs.specs.BoardBits.{IsFitted}
 
 abbrev pub KeepsSent : (old new : BusState) → Type 0
 KeepsSent old new = new.sent ≡ old.sent
@@ -32,10 +34,12 @@ SendsChange what (uses.Rehearse stops) old new after = KeepsSent old new
 
 -- Holds if what was sent fits the journal in `bytes`: each sector that was targeted is saved (or lies past the end of a
 -- chip that is saved whole), and each new status write has the saved status bits, or these with all protection bits
--- clear.
+-- clear. QE, the reserved bit and LB1 to LB3 may instead be as they were read from the chip (`fitted_to`).
 pub record SendsRestore (bytes : List ℕ) (old new : BusState) : Type 0 where
   pub journal : IsJournal bytes
-  pub sends : SendsSaved (IsSavedCode journal.content) 1 journal.content old new
+  pub fitted : Journal
+  pub fits : IsFitted journal.content fitted
+  pub sends : SendsSaved (IsSavedCode fitted) 1 fitted old new
 
 -- Holds if a job sent only what it may send: a change or a restore what its journal allows, any other job nothing that
 -- modifies the chip.

@@ -1,6 +1,7 @@
 //! The faults with which a job ends, and the lines of those that only this program has.
 ghost use Rattle.std.specs.Prelude.{◌≡◌};
 
+use crate::status_bits::status_bits;
 use board_progress::StatusLine;
 use nor_buses::CheckFault;
 use nor_console::{Fault, Outcome};
@@ -14,9 +15,9 @@ use std::fmt;
 pub enum JobFault<'a> {
     /// A fault that `flashnor` reports too, with the same line.
     Fault(Fault<'a>),
-    /// Chip fault 1, before a write or an erase: the chip has no row, and one of the bits 2 to 6 of its status 1 is
-    /// set. Nothing was changed, and the journal was not created.
-    Protected { status1: u8 },
+    /// Chip fault 1, before a write or an erase: the chip with this ID has no row, and a bit of its status 1 is set
+    /// that may protect sectors. Nothing was changed, and the journal was not created.
+    Protected { status1: u8, id: [u8; 3] },
     /// Chip fault 3, of a change of SRP0: `sent` was written, and the status registers were read back as `found`.
     NotStored { sent: [u8; 2], found: [u8; 2] },
     /// The change was made and read back; then the comparison of the whole chip returned this error (14: chip fault 4).
@@ -125,14 +126,12 @@ impl fmt::Display for JobFault<'_> {
     fn fmt<W: fmt::Write>(&self, f: &mut fmt::Formatter<W>) -> fmt::Result {
         match self {
             JobFault::Fault(fault) => write!(f, "{fault}"),
-            JobFault::Protected { status1 } => {
-                let advice = match *status1 & 0x7C {
-                    0x40 => MAYBE_QUAD,
-                    _ => PROTECTED,
-                };
+            JobFault::Protected { status1, id } => {
+                let bits = status_bits(*id, *status1);
                 write!(
                     f,
-                    "Chip fault 1: status 1 of this chip is {status1:02X}h. {advice}"
+                    "Chip fault 1: status 1 of this chip is {status1:02X}h. {} Nothing was changed. {}",
+                    bits.meaning, bits.advice
                 )
             }
             JobFault::NotStored { sent, found } => {
@@ -167,15 +166,6 @@ impl fmt::Display for JobFault<'_> {
 fn write_error<W: fmt::Write>(f: &mut fmt::Formatter<W>, error: &Refusal) -> fmt::Result {
     write!(f, "Error {}: {error}.", error.number())
 }
-
-const PROTECTED: &str = "On nearly every chip its bits 2 to 6 protect sectors, and this program \
-    doesn't know what they mean on this chip. Nothing was changed. Clear these bits with another \
-    tool (flashrom --wp-disable, then flashrom --wp-range=0,0), and try again.";
-
-const MAYBE_QUAD: &str =
-    "Its bit 6 may protect sectors, as on Winbond's chips. Or it is QE, as on those of Macronix and ISSI, but \
-    then this chip's SFDP doesn't say so. Nothing was changed. If the datasheet says that bit 6 is QE, write \
-    this chip with another tool (flashrom), or clear QE if the board doesn't need it, and try again.";
 
 const DIFFERS: &str = "The sectors of this change were verified, so this address is probably in \
     another sector, which a disturbed address on the wire has erased or programmed. Restore the chip \

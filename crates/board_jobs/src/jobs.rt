@@ -15,6 +15,7 @@ use crate::backups::backup_chip;
 use crate::chip_faults::JobFault;
 use crate::following::{complete, follow, ranges_if, sectors_before_change, sectors_to_read};
 use crate::restoring::restore_chip;
+use crate::status_bits::status_bits;
 use board_files::{changes_bytes, is_compared};
 use board_progress::{Progress, StatusWrite, Terminal};
 use nor_args::{Change, JournalUse, Operation, Reason, Task, UsageFault, Wanted};
@@ -68,7 +69,8 @@ fn perform<'a, R: Store, B: Progress>(
     }
 }
 
-/// Performs a job, and returns its answer or its fault.
+/// Performs a job, and returns its answer or its fault. With lawful files, only the file that the task creates or
+/// truncates changes.
 pub fn end_job<'a, R: Store, B: Progress>(
     files: &mut R,
     bus: &mut B,
@@ -80,6 +82,9 @@ pub fn end_job<'a, R: Store, B: Progress>(
         (R.state files.new) (B.state bus.old) (B.state bus.new) result }
     ensures sends { SendsOnly operation.now.task sources.bytes.items (B.state bus.old) (B.state bus.new)
         (R.state files.new) }
+    ensures others { is_lawful (R.state files.old).view ≡ true → (name : Name)
+        → IsNot (R.state files.old).view.nature (made_by operation.now.task) name
+        → KeepsFile name (R.state files.old) (R.state files.new) }
 {
     let outcome = perform(files, bus, terminal, operation, sources)?;
     end_call(outcome)
@@ -103,6 +108,7 @@ fn find_changeable<'a, B: Bus>(bus: &mut B, named: Option<ChipName>) -> Result<F
     if may_be_protected(&found) {
         return Err(JobFault::Protected {
             status1: found.status1,
+            id: found.id,
         });
     }
     Ok(found)
@@ -111,11 +117,9 @@ fn find_changeable<'a, B: Bus>(bus: &mut B, named: Option<ChipName>) -> Result<F
 fn may_be_protected(found: &Found) -> bool
     ensures { result ≡ may_be_protected found.now }
 {
-    !found.scheme && found.status1 & PROTECTION_BITS != 0
+    let bits = status_bits(found.id, found.status1);
+    !found.scheme && found.status1 & bits.may_protect != 0
 }
-
-// Bits 2 to 6 of status 1, which protect sectors on nearly every chip.
-const PROTECTION_BITS: u8 = 0x7C;
 
 fn read_chip<'a, R: Store, B: Progress>(
     rt: &mut R,

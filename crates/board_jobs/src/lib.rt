@@ -1,25 +1,16 @@
 //! The jobs on a chip, over any bus that shows its progress, and what a run prints after them.
-//!
-//! - `jobs.rt`: performs a job on the chip
-//! - `following.rt`: the target of a change, and the comparison of the whole chip with it
-//! - `backups.rt`: saves a whole chip in a new journal
-//! - `restoring.rt`: restores the chip from a journal
-//! - `rest.rt`: the sectors that a restore's journal does not save
-//! - `strays.rt`: the sectors that a run changed by accident, which the notes of the run show
-//! - `status_lock.rt`: sets and clears SRP0, for `--wp-enable` and `--wp-disable`
-//! - `lock_lines.rt`: what a run of `--wp-enable` or `--wp-disable` prints
-//! - `chip_faults.rt`: the faults with which a job ends, and the lines of those that `flashnor` lacks
-//! - `ending.rt`: the end of a run that succeeded: prints its answer
 #![tactic(auto)]
 
 mod backups;
 mod chip_faults;
 mod ending;
+mod fitting;
 mod following;
 mod jobs;
 mod lock_lines;
 mod rest;
 mod restoring;
+mod status_bits;
 mod status_lock;
 mod strays;
 

@@ -2,26 +2,27 @@
 ghost use Rattle.std.specs.Prelude.{◌≡◌, ◌<◌, ◌^◌, IfErr, IfOk, MatchBool, OnOk, false, length, replicate, true};
 ghost use Rattle.nor_session.specs.Restore.{IsOfTypeFound};
 ghost use Rattle.nor_jobs.specs.Finding.{FailsToFind};
-ghost use Rattle.nor_jobs.specs.Restoring.{HasRestoredNamed};
 ghost use Rattle.board_jobs.specs.Rest.{AreUnsaved, FailsToFollowRestore, FollowsRestore, is_followed};
 ghost use Rattle.board_jobs.specs.Restoring.{FailsBy, FailsCompared, FailsRestore, FailsToReadRest};
 ghost use Rattle.board_jobs.specs.Restoring.{HasReadBefore, HasRestored};
 ghost use Rattle.board_jobs.specs.Restoring.{HasRestoredAndCompared, HasRestoredBy};
 
 use crate::chip_faults::JobFault;
+use crate::fitting::restore_fitting;
 use crate::rest::{compare_rest, is_followed, read_rest};
 use board_files::sectors_of;
 use board_progress::{Progress, Terminal};
 use nor_args::Operation;
 use nor_console::{Fault, Outcome, erased};
-use nor_jobs::{find_first, journal_in, restore_named};
+use nor_jobs::{find_first, journal_in};
 use nor_journal::Journal;
 use nor_probe::{ChipName, Found};
 use nor_session::Refusal;
 use std::alloc::Global;
 
 /// Restores the chip from the bytes of a journal: every saved sector without reading it before or, with `--quick`, only
-/// those that differ. If `-c` is given, the chip must have that name.
+/// those that differ. If `-c` is given, the chip must have that name. Status bits that the board changed may stay as
+/// they are (`restore_fitting`).
 ///
 /// Without `-N`, the other sectors are read before the restore, and after it if it succeeded or returned error 14. They
 /// must be the same. An error of the restore itself is in the `Outcome`. Other faults are error 15 if the bytes are no
@@ -56,7 +57,7 @@ fn restore_from<'a, B: Progress>(
     if operation.verifies_all {
         restore_compared(bus, terminal, operation, journal, alloc)
     } else {
-        Ok(restore_saved(bus, terminal, operation.named, journal, operation.is_quick))
+        Ok(restore_fitting(bus, terminal, operation, operation.named, journal, alloc))
     }
 }
 
@@ -74,7 +75,7 @@ fn restore_compared<'a, B: Progress>(
     let mut rest = erased(alloc, journal.size())?;
     let mut again = erased(alloc, journal.size())?;
     read_before(bus, operation, journal, &mut rest)?;
-    let outcome = restore_saved(bus, terminal, None, journal, operation.is_quick);
+    let outcome = restore_fitting(bus, terminal, operation, None, journal, alloc);
     follow_restore(bus, outcome, journal, &rest, &mut again)
 }
 
@@ -139,21 +140,4 @@ fn follow_restore<'a, B: Progress>(
         Ok(()) => Ok(outcome),
         Err(refusal) => Err(JobFault::RestNotCompared { outcome, refusal }),
     }
-}
-
-fn restore_saved<B: Progress>(
-    bus: &mut B,
-    terminal: Terminal<'_>,
-    named: Option<ChipName>,
-    journal: &Journal<'_>,
-    quick: bool,
-) -> Outcome
-    ensures { HasRestoredNamed quick named journal.now (B.state bus.old) (B.state bus.new) result }
-{
-    if quick {
-        bus.expect_reads(journal.count());
-    }
-    restore_named(bus, named, journal, quick, |announcement| {
-        terminal.print_restore(announcement)
-    })
 }

@@ -80,7 +80,8 @@ fn read_open<B: Bus>(bus: &mut B, found: &Found) -> Result<[u8; 2], Refusal>
     Ok(bytes)
 }
 
-fn read_status<B: Bus>(bus: &mut B) -> Result<[u8; 2], OperationError>
+/// Reads status 1, after a wait for a chip that is ready, and status 2.
+pub(crate) fn read_status<B: Bus>(bus: &mut B) -> Result<[u8; 2], OperationError>
     ensures kept { KeepsSent (B.state bus.old) (B.state bus.new) }
     ensures ok { IfOk result (ReadsStatus (B.state bus.old) (B.state bus.new)) }
     ensures err { IfErr result (λ error. EndsAt error (B.state bus.new).history) }

@@ -1,7 +1,7 @@
 use Rattle.std.proofs.Common.{◌≡◌, ◌∙◌, ap, arith, inl, inr, length, refl}
 use Rattle.std.proofs.lemmas.Result.{err_from_is_err_and}
 use Rattle.board_jobs.proofs.Merged.{whole_again}
-use Rattle.board_jobs.proofs.Restored.{compared, compares_fails, ran_unnamed}
+use Rattle.board_jobs.proofs.Restored.{compared, compares_fails}
 use Rattle.board_jobs.proofs.restoring.restore_compared.Goals as goal
 
 pub returns-in_err-rest-clause-err : goal.returns-in_err-rest-clause-err
@@ -26,7 +26,7 @@ returns-clause-ok g c =
     = c.read_before.auto.rest ∙ ap length c.deref_mut.ensures.value in
     let is : c.in_ok-rest.rest.len ≡ length c.read_before.new.rest = omega (arith, c.in_ok-rest.rest.ok.0, long) in
     compared c.args.operation.now c.args.journal.now _ _ _ _ _ c.in_ok-read_before.ensures.ok _
-    (ran_unnamed _ _ _ _ _ c.restore_saved-outcome.ensures) c.follow_restore.result
+    c.restore_fitting-outcome.ensures c.follow_restore.result
     (rw (c.deref.ensures.value, whole_again c.read_before.new.rest c.in_ok-rest.rest.items _ is)
     at c.follow_restore.ensures.ok)
 
@@ -36,6 +36,6 @@ returns-clause-err g c =
     = c.read_before.auto.rest ∙ ap length c.deref_mut.ensures.value in
     let is : c.in_ok-rest.rest.len ≡ length c.read_before.new.rest = omega (arith, c.in_ok-rest.rest.ok.0, long) in
     compares_fails c.args.operation.now c.args.journal.now _ _ _ _ _ c.in_ok-read_before.ensures.ok _
-    (ran_unnamed _ _ _ _ _ c.restore_saved-outcome.ensures) c.follow_restore.result
+    c.restore_fitting-outcome.ensures c.follow_restore.result
     (rw (c.deref.ensures.value, whole_again c.read_before.new.rest c.in_ok-rest.rest.items _ is)
     at c.follow_restore.ensures.err)

@@ -1,0 +1,124 @@
+//! Which of the bits 2 to 6 of status 1 protect sectors, by maker, and what to do if such a bit is set.
+ghost use Rattle.std.specs.Prelude.{◌≡◌};
+ghost use Rattle.board_jobs.specs.Jobs.{protecting_bits};
+
+/// What bits 2 to 6 of status 1 mean on the chips of a maker.
+#[derive(Clone, Copy)]
+pub(crate) struct StatusBits {
+    /// The bits that protect sectors on one of these chips, or of which this program doesn't know that they don't.
+    pub may_protect: u8,
+    pub meaning: &'static str,
+    /// What to do if one of the bits `may_protect` is set.
+    pub advice: &'static str,
+}
+
+/// Returns what the bits mean on a chip with this ID and status 1, if its ID has no row in nor_probe and its SFDP says
+/// that it erases 4 KiB everywhere. A chip of any other maker is refused if one of its bits 2 to 6 is set.
+///
+/// A bit is missing in `may_protect` only if it protects nothing on each chip of the maker that has SFDP: QE of
+/// Macronix and ISSI, and SEC of Microchip's SST26, which says that its one-time area is locked. The source of each row
+/// is the section Status Register of the datasheets that its comment names, from memory.
+pub(crate) fn status_bits(id: [u8; 3], status1: u8) -> StatusBits
+    ensures { result.may_protect ≡ protecting_bits id }
+{
+    match (id, status1 & 0x7C) {
+        ([0xEF, ..], _) => WINBOND,
+        ([0xC8, ..], _) => GIGADEVICE,
+        ([0xC2, ..], _) => MACRONIX,
+        ([0x9D, ..], _) => ISSI,
+        ([0x20, ..], _) => MICRON,
+        ([0x1C, ..], _) => EON,
+        ([0x01, ..], _) => SPANSION,
+        ([0x1F, ..], _) => ADESTO,
+        ([0xBF, 0x26, _], _) => SST26,
+        (_, 0x40) => MAYBE_QUAD,
+        _ => OTHERS,
+    }
+}
+
+// W25Q16JV, W25Q80DV: SEC TB BP2 BP1 BP0. (W25Q256JV: TB BP3 BP2 BP1 BP0.)
+const WINBOND: StatusBits = StatusBits {
+    may_protect: 0x7C,
+    meaning: "On Winbond's chips its bits 2 to 6 (BP0 to BP2, TB, SEC) protect sectors.",
+    advice: CLEAR,
+};
+
+// GD25Q64C, GD25Q128E: BP4 BP3 BP2 BP1 BP0.
+const GIGADEVICE: StatusBits = StatusBits {
+    may_protect: 0x7C,
+    meaning: "On GigaDevice's chips its bits 2 to 6 (BP0 to BP4) protect sectors.",
+    advice: CLEAR,
+};
+
+// MX25L12835F, MX25U6435F, MX25R6435F: QE BP3 BP2 BP1 BP0. (MX25L6405D: CP, which shows continuous programming.)
+const MACRONIX: StatusBits = StatusBits {
+    may_protect: 0x3C,
+    meaning: "On Macronix's chips its bits 2 to 5 (BP0 to BP3) protect sectors.",
+    advice: LIFT,
+};
+
+// IS25LP128, IS25WP064, IS25LQ032: QE BP3 BP2 BP1 BP0.
+const ISSI: StatusBits = StatusBits {
+    may_protect: 0x3C,
+    meaning: "On ISSI's chips its bits 2 to 5 (BP0 to BP3) protect sectors.",
+    advice: LIFT,
+};
+
+// N25Q064A, MT25QL128: BP3 TB BP2 BP1 BP0. XMC's chips have the same first byte: XM25QH64C: SEC TB BP2 BP1 BP0.
+const MICRON: StatusBits = StatusBits {
+    may_protect: 0x7C,
+    meaning: "On the chips of Micron and XMC its bits 2 to 6 (BP, TB, SEC) protect sectors.",
+    advice: LIFT,
+};
+
+// EN25QH64: WHDIS BP3 BP2 BP1 BP0. On other chips bit 6 may have another meaning.
+const EON: StatusBits = StatusBits {
+    may_protect: 0x7C,
+    meaning: "On Eon's chips its bits 2 to 5 (BP0 to BP3) protect sectors, and on some perhaps bit 6.",
+    advice: LIFT,
+};
+
+// S25FL128L, S25FL164K: SEC TB BP2 BP1 BP0. (S25FL128S, which is refused before: P_ERR E_ERR BP2 BP1 BP0.)
+const SPANSION: StatusBits = StatusBits {
+    may_protect: 0x7C,
+    meaning: "On Spansion's chips its bits 2 to 6 (BP0 to BP2, TB, SEC) protect sectors.",
+    advice: LIFT,
+};
+
+// AT25SF128A: SEC TB BP2 BP1 BP0. AT25DF321A: RES EPE WPP SWP SWP, where SWP says whether sectors are protected.
+const ADESTO: StatusBits = StatusBits {
+    may_protect: 0x7C,
+    meaning: "On Adesto's chips its bits 2 to 6 protect sectors, or bits 2 and 3 say that some are protected.",
+    advice: LIFT,
+};
+
+// SST26VF064B: RES SEC WPLD WSP WSE.
+const SST26: StatusBits = StatusBits {
+    may_protect: 0x5C,
+    meaning: "On SST26 chips its bits 2 and 3 say that an erase or a program is suspended, and bit 4 that the locks of \
+    the blocks can't be changed.",
+    advice: "Disconnect the chip from power, and try again.",
+};
+
+const MAYBE_QUAD: StatusBits = StatusBits {
+    may_protect: 0x7C,
+    meaning: "Its bit 6 may protect sectors, as on Winbond's chips. Or it is QE, as on those of Macronix and ISSI, but \
+    then this chip's SFDP doesn't say so.",
+    advice: "If the datasheet says that bit 6 is QE, write this chip with another tool (flashrom), or clear QE if the \
+    board doesn't need it, and try again.",
+};
+
+const OTHERS: StatusBits = StatusBits {
+    may_protect: 0x7C,
+    meaning: "On nearly every chip its bits 2 to 6 protect sectors, and this program doesn't know what they mean on \
+    this chip.",
+    advice: LIFT,
+};
+
+// flashrom has --wp options for chips of these makers.
+const CLEAR: &str =
+    "Clear these bits with another tool (flashrom --wp-disable, then flashrom --wp-range=0,0), and try again.";
+
+// flashrom lifts the protection of the chips that it knows before it writes or erases (its manual page, -w and -E).
+const LIFT: &str =
+    "Write this chip with another tool that lifts its protection (flashrom -w), or clear these bits, and try again.";
