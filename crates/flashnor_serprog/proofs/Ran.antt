@@ -1,6 +1,6 @@
 -- Lemmas on the run of the operation that the arguments ask for.
 use Rattle.std.proofs.Common.{◌≡◌, ◌≤◌, ℕ, Bool, IfOk, IfSome, List, None, Ok, Option, Result, Some, is_some, subst, sym, true}
-use Rattle.std.specs.Prelude.{IsSomeAnd}
+use Rattle.std.specs.Prelude.{Err, IsErrAnd, IsSomeAnd}
 use Rattle.std.proofs.lemmas.Bool.{false≢true}
 use Rattle.std.specs.Borrow.{Bor}
 use Rattle.std.specs.Global.{Global}
@@ -31,6 +31,11 @@ pub is_used : (P : Connected → Type 0) (used : Option Connected) → is_some u
     → IsSomeAnd used P
 is_used P None none holds = absurd (false≢true none)
 is_used P (Some connected) some holds = holds
+
+pub none_connected : {E : Type 0} (P : Connected → Type 0) (Q : E → Type 0) (result : Result Connected E)
+    → IsErrAnd result Q → IfOk result P
+none_connected P Q (Ok connected) failed = absurd failed
+none_connected P Q (Err error) failed = tt
 
 pub unused : (P : Connected → Type 0) (used : Option Connected) → used ≡ None → IfSome used P
 unused P used none = rw none tt

@@ -12,6 +12,7 @@ use crate::contact::{Contact, look_for_chip};
 use crate::port::{DevicePort, PortFault};
 use crate::setting::Setting;
 use crate::trouble::{ProgrammerFault, Trouble};
+use crate::waking::wake;
 use board_progress::{Shown, StatusWrite, Terminal};
 use nor_buses::{
     CheckedStatus, KeptQuad, KnownStatus2, OtherMakers, Paced, ReadAhead, ReadTwice, SameChip,
@@ -21,30 +22,14 @@ use nor_console::{Fault, SystemReason};
 use nor_files::LockFile;
 use nor_model::Bus;
 use nor_probe::SfdpFault;
-use nor_serprog::{AnyProgrammer, BatchingBus, Command, Failure, HandshakeFault, Link};
+use nor_serprog::{AnyProgrammer, BatchingBus, Failure, HandshakeFault, Link};
 use nor_session::Refusal;
 use std::alloc::Global;
 use std::fs::{File, OpenOptions};
 use std::os::unix::fs::FileTypeExt;
 use std::{fmt, fs, io};
 
-// The transaction that wakes the chip and shows whether the port changes bytes that are sent: ABh, and 12 bytes that
-// the chip ignores. If the port changes the length 0Dh in the frame to 0Ah, the programmer takes the last three of
-// these bytes as commands; 10h is SYNCNOP, to which it only replies NAK and ACK.
-const WAKE: [u8; 13] = [
-    0xAB, 0x10, 0x10, 0x10, 0x10, 0x10, 0x10, 0x10, 0x10, 0x10, 0x10, 0x10, 0x10,
-];
-
-// The number of reply bytes that `WAKE` requests.
-const WAKE_REPLIES: u32 = 10;
-
-/// The bus to a chip at a serial programmer. Its layers, from the outside to the programmer: one shows the progress on
-/// standard error; one reads data ahead; one reads the unique ID again before the first modifying command; one hides a
-/// unique ID that is none, and refuses chips without sectors of 4 KiB everywhere; one hides QE if it is bit 6 of status
-/// 1; one reads status 2 only from a chip that is known to have the command; one reads IDs, SFDP and data twice; one
-/// reads status registers twice and checks status writes; one splits commands that are too long for the programmer; one
-/// notices that a chip which seems to be busy has lost its contact; one pauses between the polls of a busy chip, also
-/// between the parts of a split program; and one sends several commands in one write to the port.
+/// The bus to a chip at a serial programmer. ARCHITECTURE describes its layers and their order.
 pub type ChipBus<'a> = Shown<'a, ReadAhead<SameChip<MakersBus<'a>>>>;
 
 // The bus that hides differences between the makers' chips, around the bus that reads twice.
@@ -179,7 +164,7 @@ fn connect<'a>(
     let file = open_device(rt, device.as_str())?;
     terminal.print_waiting();
     let mut link = Link::new(DevicePort::new(file));
-    let programmer = AnyProgrammer::identify(&mut link, hertz).map_err(ProgrammerFault::Handshake)?;
+    let programmer = identify(&mut link, hertz)?;
     report_higher_clock(terminal, hertz, programmer.frequency());
     if let Some(chip_select) = chip_select {
         programmer
@@ -207,6 +192,24 @@ fn connect<'a>(
     })
 }
 
+// The length of a unique ID, which can't be read in parts.
+const UNIQUE_LEN: u32 = 8;
+
+// Identifies the programmer. Returns the fault of `AnyProgrammer::identify`, or `ReadLimit` if a transaction can't read
+// a unique ID.
+fn identify(
+    link: &mut Link<DevicePort>,
+    hertz: Option<u32>,
+) -> Result<AnyProgrammer, ProgrammerFault> {
+    let programmer = AnyProgrammer::identify(link, hertz).map_err(ProgrammerFault::Handshake)?;
+    match programmer.longest_read() {
+        most if most < UNIQUE_LEN => {
+            Err(ProgrammerFault::Handshake(HandshakeFault::ReadLimit(most)))
+        }
+        _ => Ok(programmer),
+    }
+}
+
 /// What the bus to a chip refuses, and how it treats a chip without a row.
 #[derive(Clone, Copy)]
 pub struct Rules {
@@ -217,7 +220,7 @@ pub struct Rules {
     pub hides_quad: bool,
     /// Each byte of the unique ID of a chip that has none (`OtherMakers`).
     pub missing_unique: u8,
-    /// Whether a chip that can't erase sectors of 4 KiB everywhere is refused (`OtherMakers`).
+    /// Whether a chip without sectors of 4 KiB everywhere, or with small pages, is refused (`OtherMakers`).
     pub refuses_uneven: bool,
 }
 
@@ -305,42 +308,6 @@ fn reading_twice<B: Bus + Drop>(bus: B, image: Option<Vec<u8>>) -> ReadTwice<B>
     }
 }
 
-// Sends ABh, which wakes a chip from deep power-down; a chip that is not in deep power-down returns its device ID. The
-// chip is awake after 3 microseconds, before the next frame can reach it (W25Q64FV datasheet, Release Power-down).
-//
-// The frame contains 0Dh, the length of its data, and 0Ah, the length of the reply, so it shows whether the port
-// changes one of these bytes (stty(1), output settings). If the port sends 0Ah in place of 0Dh (`ocrnl`), the
-// programmer takes the last three data bytes as commands. If the port sends 0Dh before 0Ah (`onlcr`), the programmer
-// returns more bytes. In both cases the version that is queried next is read wrongly. If the programmer's limits are
-// too low for this frame, only ABh is sent, and the port isn't checked.
-//
-// Returns the reply of the chip, which is FFh in all bytes if the programmer's limits are too low.
-fn wake(
-    link: &mut Link<DevicePort>,
-    programmer: &AnyProgrammer,
-) -> Result<[u8; WAKE_REPLIES as usize], ProgrammerFault> {
-    let mut reply = [0xFF; WAKE_REPLIES as usize];
-    if programmer.longest_part() < WAKE.len() as u32 || programmer.longest_read() < WAKE_REPLIES {
-        let release = Command::Operate {
-            out: &WAKE[..1],
-            replies: 0,
-        };
-        exchange(link, release, &mut []).map_err(ProgrammerFault::Handshake)?;
-        return Ok(reply);
-    }
-    let release = Command::Operate {
-        out: &WAKE,
-        replies: WAKE_REPLIES,
-    };
-    exchange(link, release, &mut reply).map_err(|fault| of_changed(fault))?;
-    let mut version = [0; 2];
-    exchange(link, Command::QueryInterface, &mut version).map_err(|fault| of_changed(fault))?;
-    if version != [1, 0] {
-        return Err(ProgrammerFault::ChangesBytes);
-    }
-    Ok(reply)
-}
-
 // Returns `NoChip` if no chip answers, and `NoStatus` if a device has an ID, but neither status 1 nor SFDP.
 fn expect_chip(
     rt: &HostRuntime,
@@ -356,24 +323,6 @@ fn expect_chip(
 
 fn of_failure(failure: Failure<PortFault>) -> ProgrammerFault {
     ProgrammerFault::Handshake(HandshakeFault::Failure(failure))
-}
-
-fn exchange(
-    link: &mut Link<DevicePort>,
-    command: Command<'_>,
-    reply: &mut [u8],
-) -> Result<(), HandshakeFault<PortFault>> {
-    link.exchange(command, reply)
-        .map_err(HandshakeFault::Failure)
-}
-
-// Returns the fault for an exchange of `wake` that failed: a failure of the port itself, or otherwise `ChangesBytes`,
-// since the programmer understood all commands before.
-fn of_changed(fault: HandshakeFault<PortFault>) -> ProgrammerFault {
-    match fault {
-        HandshakeFault::Failure(Failure::Port(_)) => ProgrammerFault::Handshake(fault),
-        _ => ProgrammerFault::ChangesBytes,
-    }
 }
 
 // Opens the device, and locks it against a second run. Returns `NoDevice` and opens nothing if the file is no character

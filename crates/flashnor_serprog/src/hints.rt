@@ -1,48 +1,23 @@
 //! The line after that of a fault: what to do, what was found and expected, or where the regions are.
 
 use crate::chip_names::{ChipText, Connected, Hex};
+use crate::saved::Saved;
 use crate::stop_line::Left;
 use board_files::{Farthest, StatusBits, print_hint, reason_hint, regions_of};
 use board_progress::{Lock, Replies, SRP0, SRP1};
 use nor_args::{Change, Operation, Regions, Task, Wanted};
 use nor_console::{Escaped, Fault, FileFault, SystemReason};
-use nor_journal::Journal;
-use nor_model::Status;
 use nor_probe::{ChipName, SfdpFault, part_for};
 use nor_session::Refusal;
 use std::fmt;
 use std::io::Write;
 
-/// What a journal says about its chip.
-#[derive(Clone, Copy)]
-pub struct Saved {
-    pub id: [u8; 3],
-    pub size: u32,
-    /// `None` for a journal of format 1, which doesn't contain the unique ID.
-    pub unique: Option<[u8; 8]>,
-    /// Status 1 and status 2.
-    pub status: [u8; 2],
-}
-
-impl Saved {
-    /// Returns what the journal with these bytes says about its chip, or `None` if they are no journal.
-    pub fn read(bytes: &[u8]) -> Option<Saved> {
-        match Journal::read(bytes) {
-            Ok(journal) => Some(Saved {
-                id: journal.id(),
-                size: journal.size(),
-                unique: journal.unique(),
-                status: journal.status(),
-            }),
-            Err(_) => None,
-        }
-    }
-}
-
 #[derive(Clone, Copy, Drop)]
 pub struct Known<'a> {
     pub saved: Option<Saved>,
     pub replies: Replies,
+    /// Whether the chip's SFDP says that its pages have fewer than 256 bytes.
+    pub has_small_pages: bool,
     pub left: Left<'a>,
     /// Why the last write or sync of the journal or the output failed, if one failed and the reason is known.
     pub unwritten: Option<SystemReason>,
@@ -56,6 +31,7 @@ impl Known<'_> {
         Known {
             saved: None,
             replies: Replies::default(),
+            has_small_pages: false,
             left: Left::Reading,
             unwritten: None,
             farthest: None,
@@ -154,6 +130,9 @@ fn found_and_expected<'a>(
         Refusal::UnknownChip(SfdpFault::NoSector) if replies.is_uneven => {
             Some(Line::Uneven { id: replies.id? })
         }
+        Refusal::UnknownChip(SfdpFault::NoSector) if known.has_small_pages => {
+            Some(Line::SmallPages { id: replies.id? })
+        }
         Refusal::UnknownChip(_) => Some(match replies.id {
             Some(id) => Line::Unknown { id },
             None => Line::NoStatus,
@@ -225,12 +204,13 @@ const SAVE_FIRST: &str =
     ". The journal may be misread, too: first save the chip (--backup left.journal).";
 
 const IF_AGAIN: &str =
-    " If error 14 occurs again, disconnect all power from the chip, and restore with --quick.";
+    " If error 14 occurs again, disconnect all power from the chip, and restore with --quick, then from a backup \
+    without --quick: its erases may be others.";
 
-// Returns what to do before another restore, if outside the protection bits the journal and the chip, whose status is
-// `found`, differ only in SRP0, or only in SRP1, which a power cycle clears if SRP0 is clear. A restore writes the
-// protection bits itself. Otherwise, and for a chip without a row, returns the advice to write an image. Returns an
-// empty text if bits 2 to 5 of status 1 differ on a chip without a row, because these bits may protect sectors.
+// Returns what to do before another restore, if only SRP0 or only SRP1 of the journal and the chip, whose status is
+// `found`, differ. (A power cycle clears SRP1 if SRP0 is clear.) Other bits may differ, since a restore writes or keeps
+// them. Otherwise, and for a chip without a row, returns the advice to write an image. Returns an empty text if bits 2
+// to 5 of status 1 differ on a chip without a row, because these bits may protect sectors.
 fn lock_advice(saved: &Saved, found: [u8; 2]) -> &'static str {
     if part_for(true, saved.id).is_none() {
         return match (saved.status[0] ^ found[0]) & 0x3C {
@@ -238,12 +218,11 @@ fn lock_advice(saved: &Saved, found: [u8; 2]) -> &'static str {
             _ => "",
         };
     }
-    let [one, two] = Status::of(saved.status).fixed().bytes();
-    let [found_one, found_two] = Status::of(found).fixed().bytes();
-    match (one ^ found_one, two ^ found_two) {
-        (SRP0, 0) if one == SRP0 => " Set SRP0 (--wp-enable), and restore again.",
+    let [one, two] = saved.status;
+    match ((one ^ found[0]) & SRP0, (two ^ found[1]) & SRP1) {
+        (SRP0, 0) if one & SRP0 != 0 => " Set SRP0 (--wp-enable), and restore again.",
         (SRP0, 0) => " Clear SRP0 (--wp-disable), and restore again.",
-        (0, SRP1) if one == 0 && two & SRP1 == 0 => {
+        (0, SRP1) if one & SRP0 == 0 && two & SRP1 == 0 => {
             " A power cycle clears SRP1: disconnect the chip from power, and restore again."
         }
         _ => WRITE_IMAGE,
@@ -267,6 +246,9 @@ enum Line<'a> {
     // The device replied an ID before the first transaction of the job, but neither status 1 nor SFDP.
     NoStatus,
     Uneven {
+        id: [u8; 3],
+    },
+    SmallPages {
         id: [u8; 3],
     },
     Image,
@@ -327,6 +309,12 @@ impl fmt::Display for Line<'_> {
                 fail: change this chip with another tool.",
                 Hex(id)
             ),
+            Line::SmallPages { id } => write!(
+                f,
+                "Its ID is {}. Its SFDP says that its pages have fewer than 256 bytes, so a restore could fail: \
+                change this chip with another tool.",
+                Hex(id)
+            ),
             Line::Image => f.write_str(
                 "Give an image of the whole chip. -i NAME:FILE gives the bytes of a region.",
             ),
@@ -358,7 +346,7 @@ impl fmt::Display for Line<'_> {
                 id,
             } => write!(
                 f,
-                "This program knows no chip with the name of -c. {}",
+                "This program knows no chip with the name of -c; -L lists the names. {}",
                 Connected(id)
             ),
             Line::Name { named, id } => {

@@ -1,22 +1,5 @@
 //! `flashnor_serprog` does the jobs of `flashnor`, except rehearsals, on a SPI NOR chip at a serial programmer (serprog
 //! protocol). It uses the engine of `flashnor`, and prints the same error numbers and mostly the same lines.
-//!
-//! - `run.rt`: a run of the program
-//! - `asked.rt`: what the arguments of a run ask for
-//! - `setting.rt`: the value of `-p`
-//! - `preparing.rt`: checks and reads the files of a job, and identifies the programmer
-//! - `connect.rt`: opens the device and identifies the programmer
-//! - `port.rt`: a port over the device of the programmer
-//! - `contact.rt`: finds out that no chip answers
-//! - `chip_layouts.rt`: reads the bytes of a layout on the chip itself, before the job
-//! - `lock_job.rt`: a run of `--wp-enable` or `--wp-disable`
-//! - `trouble.rt`: the reasons why a run ends early, with the faults of the programmer, and their printed lines
-//! - `reports.rt`: what a run prints after an operation failed
-//! - `stop_line.rt`: the line after error 12, with its cause and what the job left
-//! - `hints.rt`: the line after that of a fault
-//! - `chip_names.rt`: how a chip is named in a line
-//! - `chip_list.rt`: the list of chips that `-L` prints
-//! - `help.rt`: the text of the help that `-h` prints
 #![tactic(auto)]
 
 mod asked;
@@ -32,9 +15,11 @@ mod port;
 mod preparing;
 mod reports;
 mod run;
+mod saved;
 mod setting;
 mod stop_line;
 mod trouble;
+mod waking;
 
 use board_progress::{Logged, Screen};
 use nor_console::{by_line, keep_streams};

@@ -4,7 +4,8 @@ ghost use Rattle.std.specs.Prelude.{◌≡◌, ◌≤◌, true};
 ghost use Rattle.flashnor_serprog.specs.declared.stop_line.Left.TheVariants.{Unchanged};
 
 use crate::connect::{ChipBus, twice_in};
-use crate::hints::{Known, Saved, print_operation_hint, unlocks};
+use crate::hints::{Known, print_operation_hint, unlocks};
+use crate::saved::Saved;
 use crate::stop_line::{Left, StopLine};
 use crate::trouble::Trouble;
 use board_files::{Farthest, MapLines};
@@ -50,6 +51,7 @@ pub fn print_job_fault<E: Write>(
         let known = Known {
             saved,
             replies: bus.replies(),
+            has_small_pages: bus.inner().inner().inner().has_small_pages(),
             left,
             unwritten,
             farthest,

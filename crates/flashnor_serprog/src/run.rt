@@ -14,10 +14,10 @@ ghost use Rattle.board_files.specs.Sources.{ArePlainNames};
 use crate::asked::{Asked, read_words};
 use crate::chip_list::print_chip_list;
 use crate::connect::{ChipBus, Connected};
-use crate::hints::Saved;
 use crate::lock_job::run_lock;
 use crate::preparing::{Prepared, prepare};
 use crate::reports::{clear_journal, print_job_fault, print_trouble, report_changed_byte};
+use crate::saved::Saved;
 use crate::setting::Setting;
 use crate::trouble::Trouble;
 use board_files::{
@@ -44,7 +44,8 @@ use std::io::Write;
 /// the exit status: 0, or 1 after any fault or if not all results could be printed.
 ///
 /// The first of the arguments is the program's name, which is skipped. If the system could not provide the arguments,
-/// `given` is an error, which is printed as a fault too.
+/// `given` is an error, which is printed as a fault too. The clauses assume nothing about the system's files;
+/// `run_over`, which performs the job, says more if the files obey their contract.
 ///
 /// `used`, which must be `None`, receives the bus of the job, as it is after the run, if the programmer was identified
 /// for the job. The clauses `done` and `ran` are about this bus. A layout on the chip is read before the job, over
@@ -71,7 +72,7 @@ pub fn run_words<'b, O: Write, E: Write>(
 {
     match given {
         Ok(args) => match arguments_after_name(rt.alloc(), args) {
-            Ok(words) => run_arguments(
+            Ok(words) => run_over(
                 rt,
                 screen,
                 &mut Disk::new(rt),
@@ -94,8 +95,10 @@ pub fn end_without_descriptors<E: Write>(errors: &mut E) -> u8
     end_badly(errors, &unread(DIRECTORY))
 }
 
-// Performs the job given by the arguments, without the program's name, over any store of files.
-fn run_arguments<'b, R: Store<Log = LogFile<File>>, O: Write, E: Write>(
+/// Performs the job given by `words`, the arguments without the program's name, as `run_words` does, but over any store
+/// of files. If the files obey the contract of `Store` (`is_lawful`), the clauses also say what a change sent, what its
+/// journal contains, and what `--check-journal` found.
+pub fn run_over<'b, R: Store<Log = LogFile<File>>, O: Write, E: Write>(
     rt: &'b HostRuntime,
     screen: &'b Screen,
     files: &mut R,

@@ -95,6 +95,10 @@ impl fmt::Display for Trouble<'_> {
                     ProgrammerFault::Handshake(HandshakeFault::Failure(failure)) => {
                         write!(f, "{}. {advice}", FailureText(failure))
                     }
+                    ProgrammerFault::Handshake(HandshakeFault::ReadLimit(most)) => write!(
+                        f,
+                        "the programmer reads at most {most} bytes in a transaction, and a unique ID has 8. {advice}"
+                    ),
                     ProgrammerFault::Handshake(fault) => write!(f, "{fault}. {advice}"),
                     _ => write!(f, "{} {}. {advice}", Escaped(device), fault.reason()),
                 }

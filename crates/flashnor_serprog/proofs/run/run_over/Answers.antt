@@ -1,6 +1,6 @@
 use Rattle.std.proofs.Common.{inr}
 use Rattle.flashnor_serprog.proofs.Ran.{is_used, job_ran, unused}
-use Rattle.flashnor_serprog.proofs.run.run_arguments.Goals as goal
+use Rattle.flashnor_serprog.proofs.run.run_over.Goals as goal
 
 pub returns-in-Ok-clause-ran : goal.returns-in-Ok-clause-ran
 returns-in-Ok-clause-ran g c = job_ran _ _ _ _ _ _ (rw c.in-Ok-Chip.field-0-is at c.in-Ok-Chip.ensures.ok) _ _ _ _ c.run_on_chip.ensures.ran

@@ -1,0 +1,29 @@
+//! What a journal says about its chip, for the lines after a fault.
+
+use nor_journal::Journal;
+
+/// What a journal says about its chip.
+#[derive(Clone, Copy)]
+pub struct Saved {
+    pub id: [u8; 3],
+    pub size: u32,
+    /// `None` for a journal of format 1, which doesn't contain the unique ID.
+    pub unique: Option<[u8; 8]>,
+    /// Status 1 and status 2.
+    pub status: [u8; 2],
+}
+
+impl Saved {
+    /// Returns what the journal with these bytes says about its chip, or `None` if they are no journal.
+    pub fn read(bytes: &[u8]) -> Option<Saved> {
+        match Journal::read(bytes) {
+            Ok(journal) => Some(Saved {
+                id: journal.id(),
+                size: journal.size(),
+                unique: journal.unique(),
+                status: journal.status(),
+            }),
+            Err(_) => None,
+        }
+    }
+}
