@@ -36,7 +36,6 @@ abbrev pub lifting : (unlock : Bool) → (erases programs : ℕ) → Numbers
 lifting unlock erases programs =
     record { erases = erases; programs = programs; status_writes = if unlock then 1 else 0 }
 
--- The bus's state after the unlock, if one was requested.
 abbrev pub LiftedIf : Changes → (ℕ → ℕ) → (old now : BusState) → (transactions : ℕ) → (unlock : Bool) → Type 0
 LiftedIf changes wanted old now transactions unlock =
     SoFar changes wanted old.chip.bytes old.worn (if unlock then 0 else code_read changes) (lifting unlock 0 0) 0
@@ -63,7 +62,6 @@ module _ (changes : Changes) (wanted : ℕ → ℕ) (old : BusState) where
       subst (LiftedIf changes wanted old new (0 + sent)) (sym is)
       (code_written nothing leaves (λ can. can.writable (rw is refl)) does (grind arith))
 
--- The bus's state after the unlock, if one was requested, and the erases of the raised sectors.
 abbrev pub Erased : Changes → (ℕ → ℕ) → (erases : ℕ) → (old now : BusState) → (transactions : ℕ) → Type 0
 Erased changes wanted erases old =
     SoFar changes wanted (once_erased (raised_in changes) old.chip.bytes) (λ s. old.worn s || raised_in changes s)
@@ -104,7 +102,6 @@ module _ {changes : Changes} {wanted : ℕ → ℕ} {old mid new : BusState} {se
       let is = so.intermediate honest can in
       intermediate_changed is (does.done (honest_now so.ran honest) (can_erase_all can is)))
 
--- The bus's state after the unlock, if one was requested, the erases and the programs.
 abbrev pub Programmed : Changes → (ℕ → ℕ) → (erases programs : ℕ) → (old now : BusState) → (transactions : ℕ) → Type 0
 Programmed changes wanted erases programs old =
     SoFar changes wanted

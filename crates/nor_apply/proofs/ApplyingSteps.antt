@@ -21,14 +21,12 @@ use Rattle.nor_apply.specs.Applying.{touched_in, raised_in, writes_code, CanAppl
 use Rattle.nor_apply.proofs.Kept.{code_cleared, coded_again, fixed_coded, locked_same, coded_from_status, writable_same}
 use Rattle.nor_apply.proofs.Changing.{can_after, status_change}
 
--- The protection bits that were read (`code_read`), and those during the erases and programs (`code_once`).
 abbrev pub code_read : Changes → ℕ
 code_read changes = code_of (kept_in (bytes_of changes.status))
 
 abbrev pub code_once : Changes → ℕ
 code_once changes = if changes.unlock then 0 else code_read changes
 
--- Holds for a state between two steps.
 pub record IsIntermediate (bytes : ℕ → ℕ) (worn : ℕ → Bool) (code : ℕ) (old new : BusState) : Type 0 where
   pub config : new.chip.config ≡ old.chip.config
   pub byte : (a : ℕ) → new.chip.bytes a ≡ bytes a

@@ -64,8 +64,6 @@ pub same_change : {t r : ℕ → Bool} {w : ℕ → ℕ} {old new : BusState} �
 same_change {t} {old} {new} same idle worn =
     search (same_within (addresses_of t) old.chip new same idle, same.bytes, inl)
 
--- `MayChange` holds for two successive parts together if it holds for each, and the bus is steady between them if and
--- only if it was steady before.
 pub change_then : {t r : ℕ → Bool} {w : ℕ → ℕ} {old mid new : BusState} → mid.steady ≡ old.steady
     → MayChange t r w old mid → MayChange t r w mid new → MayChange t r w old new
 change_then {t} {old} {mid} {new} steadily before after =

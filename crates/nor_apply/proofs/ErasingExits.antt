@@ -32,7 +32,6 @@ use Rattle.nor_apply.proofs.InTurn.{ran_leaves, honest_now, Listed, listed_after
 use Rattle.nor_apply.proofs.Changing.{can_after, change_then, made_may, made_same, made_then}
 use Rattle.nor_apply.proofs.Targeting.{unit_targets}
 
--- Holds if the erase `unit` may be in the plan for `set` on a chip of `total` sectors.
 record IsOfPlan (kinds : Kinds) (total : ℕ) (set : ℕ → Bool) (unit : Erase) : Type 0 where
   pub is : IsErase kinds total unit
   pub some : 1 ≤ sectors_in total unit.unit

@@ -114,7 +114,6 @@ before_more touched n is s = grind (arith, nat_tests)
 before_skip : (touched : ℕ → Bool) (n : ℕ) → touched n ≡ false → (s : ℕ) → before touched n s ≡ before touched (n + 1) s
 before_skip touched n free s = grind (arith, nat_tests)
 
--- Holds after the touched sectors below `n` were programmed.
 pub record SectorsSoFar (touched raised : ℕ → Bool) (wanted : ℕ → ℕ) (n : ℕ) (first now : BusState)
     (tally : Tally) : Type 0 where
   pub ran : Ran (programming touched tally.count) (count_below n touched) first now tally

@@ -33,19 +33,14 @@ raised_in changes = has changes.raised
 abbrev pub writes_code : Changes → Bool
 writes_code changes = not ((if changes.unlock then 0 else code_of (kept_in (bytes_of changes.status))) == changes.code)
 
--- the number of status writes: one for an unlock, and one at the end if `writes_code` is true
 abbrev pub status_writes : Changes → ℕ
 status_writes changes = (if changes.unlock then 1 else 0) + (if writes_code changes then 1 else 0)
 
--- True if the changes ask for a status write of the bytes `one` and `two`: one that clears the protection bits, or one
--- that writes the target bits. The other bits are as they were read, except that BUSY, WEL and (for target bits below
--- 64) SUS are clear.
 abbrev pub is_status_asked : Changes → (one two : ℕ) → Bool
 is_status_asked changes one two =
     (changes.unlock && is_status_with_code changes.status 0 one two)
     || (writes_code changes && is_status_with_code changes.status changes.code one two)
 
--- The limits of these changes. The only status writes allowed are those for which the changes ask.
 abbrev pub sending : Changes → (erases programs status_writes : ℕ) → Limits
 sending changes erases programs status_writes = record {
   sectors = may_target (touched_in changes) changes.size;
@@ -55,20 +50,16 @@ sending changes erases programs status_writes = record {
   status_writes = status_writes;
 }
 
--- The limits of all changes together: as many erases as raised sectors, 16 times as many page programs as touched
--- sectors, and `status_writes` status writes.
 abbrev pub most_sent : Changes → Limits
 most_sent changes =
     sending changes (sector_count (raised_in changes)) (16 * sector_count (touched_in changes)) (status_writes changes)
 
--- Holds if the changes fit each other and a chip of at most 16 MiB.
 pub record AreConsistent (changes : Changes) : Type 0 where
   pub inside : LiesBelow changes.touched (changes.size / 4096)
   pub raised : (s : ℕ) → raised_in changes s ≡ true → touched_in changes s ≡ true
   pub small : changes.size ≤ 16777216
   pub six_bits : changes.code < 64
 
--- Holds if the changes can be made to this chip.
 pub record CanApply (changes : Changes) (wanted : ℕ → ℕ) (chip : Chip) : Type 0 where
   pub idle : chip.busy ≡ 0
   pub sized : IsSized changes.size changes.kinds chip
@@ -95,14 +86,13 @@ pub record HasApplied (changes : Changes) (wanted : ℕ → ℕ) (old new : BusS
 abbrev pub most_applied : ℕ → ℕ
 most_applied touched = touched + most_operation * (17 * touched + 2)
 
--- Holds at every exit of `apply`.
 abbrev pub LeavesApply : Changes → (wanted : ℕ → ℕ) → (old new : BusState) → Type 0
 LeavesApply changes wanted =
     Leaves (most_applied (sector_count (touched_in changes))) (most_sent changes) (CanApply changes wanted)
     (MayChange (touched_in changes) (raised_in changes) wanted)
 
 -- Holds if each of these sectors was the target of an erase since `old`, and all erases were sent before the first page
--- program. `erasing` and then `later` are the transactions since `old` that may modify the chip.
+-- program.
 pub record ErasesFirst (sectors : ℕ → Bool) (old new : BusState) : Type 0 where
   pub erasing : Sent
   pub later : Sent
@@ -111,8 +101,7 @@ pub record ErasesFirst (sectors : ℕ → Bool) (old new : BusState) : Type 0 wh
   pub unprogrammed : programs_of erasing ≡ 0
   pub unerased : erases_of later ≡ 0
 
--- Holds if `apply` succeeded with the counts `work`. One program was sent for each page of a touched sector that
--- differed from the target after the erases.
+-- Holds if `apply` succeeded with the counts `work`.
 pub record DoesApply (changes : Changes) (wanted : ℕ → ℕ) (old new : BusState) (work : Work) : Type 0 where
   pub erases : work.erases ≡ length (planned changes.kinds (changes.size / 4096) (raised_in changes))
   pub fewer_erases : work.erases ≤ sector_count (raised_in changes)
@@ -126,8 +115,6 @@ pub record DoesApply (changes : Changes) (wanted : ℕ → ℕ) (old new : BusSt
       → work.programs ≡ count_below 65536
       (is_programmed (touched_in changes) (once_erased (raised_in changes) old.chip.bytes) wanted)
 
--- Holds for every stop, and for a timeout that names an address in a touched sector or, if the changes need a status
--- write, address 0.
 abbrev pub NamesChange : Changes → OperationError → Type 0
 NamesChange changes Stopped = ⊤
 NamesChange changes (Timeout address) =

@@ -16,7 +16,6 @@ pub record IsSized (size : ℕ) (kinds : Kinds) (chip : Chip) : Type 0 where
   pub same : chip.config.size ≡ size
   pub same_kinds : chip.config.kinds ≡ kinds
 
--- Holds if turning `content` into the target bytes takes no bit in these sectors from 0 to 1.
 abbrev pub OnlyFalls : (sectors : ℕ → Bool) → (wanted content : ℕ → ℕ) → Type 0
 OnlyFalls sectors wanted content = (a : ℕ) → sectors (a / 4096) ≡ true → bit_and (wanted a) (content a) ≡ wanted a
 

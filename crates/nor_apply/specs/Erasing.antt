@@ -15,8 +15,6 @@ use Rattle.nor_apply.specs.Spending.{Tallies, may_target}
 abbrev pub is_erase_of : (sector : ℕ) → (out : List ℕ) → Bool
 is_erase_of sector out = begins_erase out && targets out sector
 
--- Holds if each of these sectors was the target of an erase since `old`. `later` has the transactions since then that
--- may modify the chip, the last one first.
 pub record SendsErases (sectors : ℕ → Bool) (old new : BusState) : Type 0 where
   pub later : Sent
   pub added : new.sent ≡ later ++ old.sent
@@ -26,7 +24,6 @@ pub record CanEraseAll (sectors : ℕ → Bool) (kinds : Kinds) (size : ℕ) (ch
   pub can : CanChange sectors chip
   pub sized : IsSized size kinds chip
 
--- Holds at every exit of the erases.
 abbrev pub LeavesErases : (sectors : ℕ → Bool) → Kinds → (size : ℕ) → (old new : BusState) → Type 0
 LeavesErases sectors kinds size =
     Leaves (most_operation * sector_count sectors) (erasing (may_target sectors size) (sector_count sectors))

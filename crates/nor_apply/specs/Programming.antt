@@ -20,7 +20,6 @@ use Rattle.nor_apply.specs.Spending.{Tallies}
 abbrev pub most_pages : ℕ
 most_pages = 16 * most_operation
 
--- A bound on the transactions for programming one sector: one read, and an operation for each of its sixteen pages.
 abbrev pub most_sector : ℕ
 most_sector = 1 + most_pages
 
@@ -34,14 +33,12 @@ pub record CanProgramSector (sector : ℕ) (wanted : List ℕ) (erased : Bool) (
   pub blank : erased ≡ true → (a : ℕ) → a / 4096 ≡ sector → chip.bytes a ≡ 255
   pub falls : OnlyFalls (only sector) (byte_of sector wanted) chip.bytes
 
--- Holds at every exit of a call that programs one sector with at most `most` transactions.
 abbrev pub LeavesSector : (most : ℕ) → (Can : Chip → Type 0) → (sector : ℕ) → (wanted : List ℕ) → (old new : BusState)
     → Type 0
 LeavesSector most Can sector wanted =
     Leaves most (programming (only sector) 16) Can (MayChange (only sector) none (byte_of sector wanted))
 
--- Holds after a call with at most `readings` reads programmed one sector. One program was sent for each of its pages
--- that differed from the target bytes.
+-- Holds after a call with at most `readings` reads programmed one sector.
 pub record DoesSector (readings : ℕ) (Can : Chip → Type 0) (sector : ℕ) (wanted : List ℕ) (old new : BusState)
     (tally : Tally) : Type 0 where
   pub fewer : tally.count ≤ 16
@@ -68,13 +65,12 @@ pub record CanProgramAll (touched raised : ℕ → Bool) (wanted : ℕ → ℕ) 
   pub blank : (a : ℕ) → touched (a / 4096) ≡ true → raised (a / 4096) ≡ true → chip.bytes a ≡ 255
   pub falls : OnlyFalls touched wanted chip.bytes
 
--- Holds at every exit of the programs.
 abbrev pub LeavesPrograms : (touched raised : ℕ → Bool) → (wanted : ℕ → ℕ) → (old new : BusState) → Type 0
 LeavesPrograms touched raised wanted =
     Leaves (most_sector * sector_count touched) (programming touched (16 * sector_count touched))
     (CanProgramAll touched raised wanted) (MayChange touched none wanted)
 
--- Holds after the programs succeeded. One program was sent for each page that differed from the target bytes.
+-- Holds after the programs succeeded.
 pub record DoesPrograms (touched raised : ℕ → Bool) (wanted : ℕ → ℕ) (old new : BusState) (tally : Tally) : Type 0 where
   pub fewer : tally.count ≤ 16 * sector_count touched
   pub exactly : SendsExactly 0 tally.count 0 old new

@@ -11,9 +11,9 @@ use Rattle.nor_driver.specs.Polls.{AddsTransactions}
 use Rattle.nor_plan.specs.Planned.{holds_run}
 use Rattle.nor_apply.specs.declared.tally.Tally.{Tally}
 
--- True if the erases and programs of these sectors may target the sector `s`: it is one of them, or they are the whole
--- chip and `s` is past its end. A chip erase (C7h) has no address, and so counts as targeting all 4,096 sectors that an
--- address can lie in.
+-- True if the erases and programs of these sectors may target the sector `s`, because `s` is one of them or lies past
+-- the end of a chip of which they are all sectors. (A chip erase, C7h, has no address, and counts as targeting all
+-- 4,096 sectors.)
 abbrev pub may_target : (sectors : ℕ → Bool) → (size s : ℕ) → Bool
 may_target sectors size s = sectors s || (nat_le (size / 4096) s && holds_run sectors 0 (size / 4096))
 
@@ -22,8 +22,7 @@ NamesTimeoutIn sectors Stopped = ⊤
 NamesTimeoutIn sectors (Timeout address) = sectors (address / 4096) ≡ true
 
 -- Holds after a part of the changes succeeded, with `tally.count` operations and at most `readings` reads. Each
--- operation takes at least 3 transactions, and at most 65,538 including polls that showed BUSY. If `tally.count` is 0,
--- no transaction that may modify the chip was sent.
+-- operation takes at least 3 transactions, and at most 65,538 including polls that showed BUSY.
 pub record Tallies (readings : ℕ) (old new : BusState) (tally : Tally) : Type 0 where
   pub least : 3 * tally.count ≤ tally.transactions
   pub few : tally.transactions ≤ readings + most_operation * tally.count

@@ -11,10 +11,8 @@ use Rattle.nor_driver.specs.StatusWrites.{fixed_of}
 abbrev pub is_writable : Chip → Bool
 is_writable chip = chip.config.scheme && not (is_locked chip.kept)
 
--- Holds if the operation `running` may be in progress on a chip that is to be restored to the original chip, `first`.
--- Its command is known, and it changes no bytes except at these addresses. A status write is allowed only if the status
--- of `first` can be written; the status bits from before this write agree with `first` in the bits that flashnor never
--- changes.
+-- Holds if the operation `running` may be in progress on a chip that can be restored to the original chip, `first`. For
+-- a status write, the bits from before it agree with `first` in all bits other than the protection bits.
 pub record WorksIn (addresses : ℕ → Bool) (first : Chip) (running : Running) : Type 0 where
   pub known : is_known_running running ≡ true
   pub inside : (a : ℕ) → is_in_work running a ≡ true → addresses a ≡ true
@@ -31,6 +29,5 @@ pub record IsWithin (addresses : ℕ → Bool) (first : Chip) (state : BusState)
   pub kept : is_writable first ≡ false → state.chip.kept ≡ first.kept
   pub runs : state.steady ≡ false → state.chip.busy ≢ 0 → WorksIn addresses first state.chip.running
 
--- True if the address `a` lies in one of these sectors.
 abbrev pub addresses_of : (sectors : ℕ → Bool) → (a : ℕ) → Bool
 addresses_of sectors a = sectors (a / 4096)

@@ -32,7 +32,6 @@ pub struct Changes {
 }
 
 impl Changes {
-    /// Returns whether the present protection bits (0 after an unlock) differ from the target bits.
     fn writes_code(&self) -> bool
         ensures { result ≡ writes_code self.now }
     {

@@ -43,15 +43,6 @@
 //! assert_eq!(rt; (work.erases, work.programs), (0, 16));
 //! assert_eq!(rt; (bus.bytes()[0x2FFF], bus.bytes()[0x3000]), (0xFF, 0x5A));
 //! ```
-//!
-//! The target bytes come from a `Source`, sector by sector. `specs/Applying.antt` defines the effect of `apply`, at
-//! every exit and after success.
-//!
-//! - `changes.rt`: all changes of a session or restore, in order
-//! - `erases.rt`: erases of a set of sectors
-//! - `programs.rt`: page programs of a set of sectors
-//! - `source.rt`: the trait `Source` of the target bytes
-//! - `tally.rt`: counts operations and transactions
 #![tactic(auto)]
 
 mod changes;

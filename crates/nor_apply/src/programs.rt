@@ -50,7 +50,6 @@ pub fn program_all<B: Bus, S: Source>(
     Ok(tally)
 }
 
-// Programs the pages that differ from `wanted`. If `erased` is set, the sector is taken to be FFh and isn't read.
 fn program_sector<B: Bus>(
     bus: &mut B,
     sector: u32,
@@ -92,7 +91,6 @@ fn load<B: Bus>(
     Ok(1)
 }
 
-// Programs, for each page in which `old` differs from `wanted`, the span from the first to the last byte that differs.
 fn program_spans<B: Bus>(
     bus: &mut B,
     sector: u32,

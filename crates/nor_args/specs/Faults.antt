@@ -19,11 +19,9 @@ use Rattle.nor_args.specs.declared.words.UsageFault.TheVariants as why
 abbrev pub Case : Type 0
 Case = Bool × UsageFault
 
--- true if the option has a value, and the value passes `test`
 abbrev pub passes_test : (Text → Bool) → Option Text → Bool
 passes_test test text = option_map_or test text false
 
--- true if the option has a value, and the value fails `test`
 abbrev pub is_no : (Text → Bool) → Option Text → Bool
 is_no test = passes_test (λ text. not (test text))
 
@@ -86,7 +84,6 @@ abbrev pub has_unneeded_for_hardware : Texts → Bool
 has_unneeded_for_hardware given = (given.no_verify_all && not (is_new_content given || is_some given.restore))
     || ((given.quick && not (is_some given.restore)) || has_unneeded_for_journal given)
 
--- fault 8: an option without the operation that it needs
 abbrev pub has_unneeded : Texts → Bool
 has_unneeded given =
     ((given.no_verify || given.unlock) && not (is_new_content given)) || has_unneeded_for_hardware given

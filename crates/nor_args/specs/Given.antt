@@ -225,14 +225,11 @@ output_of given = option_or given.read given.backup
 abbrev pub is_new_content : Texts → Bool
 is_new_content given = is_some given.write || given.erase
 
--- true for a change of the chip, which needs a journal or a rehearsal
 abbrev pub asks_change : Texts → Bool
 asks_change given = is_new_content given || is_some given.wp_range
 
--- true if the job needs a chip
 abbrev pub is_on_chip : Texts → Bool
 is_on_chip given = not (is_some given.check_journal) && not given.list
 
--- true if the operation can be limited to regions of the chip
 abbrev pub takes_regions : Texts → Bool
 takes_regions given = is_some given.read || (is_some given.verify || is_new_content given)

@@ -54,13 +54,11 @@ abbrev pub number_or_length : Text → Option ℕ
 number_or_length text = if starts_with nat_eq text (codes "0x") then numeral 16 8 4294967295 (drop 2 text)
     else numeral 10 10 4294967295 text
 
--- a start and a length with a comma between them
 abbrev pub range_of : Text → Option (ℕ × ℕ)
 range_of text =
     option_and_then (λ start. option_map (λ len. (start, len)) (number_or_length (rest_of text)))
     (number_or_length (front_of text))
 
--- the eight bytes that 16 hexadecimal digits encode
 abbrev pub unique_number : Text → Option (List ℕ)
 unique_number text = result_ok (decode_sized text 8)
 

@@ -38,7 +38,6 @@ may_have key value = list_any (λ known. bytes_eq key known.0 && known.1 value) 
 abbrev pub is_setting : Text → Bool
 is_setting setting = may_have (key_of setting) (value_of setting)
 
--- true if at most one of `settings` has the same key as `setting`
 abbrev pub is_alone_in : List Text → Text → Bool
 is_alone_in settings setting = nat_le (count_by (has_key (key_of setting)) settings) 1
 

@@ -68,7 +68,6 @@ flaw_by known valid = if not known then flaw.Key else if valid then flaw.Twice e
 abbrev pub flaw_of : Text → Flaw
 flaw_of setting = flaw_by (has_known_key setting) (is_setting setting)
 
--- Holds if this is the reason why the value of `-p` is wrong.
 abbrev pub IsWrongProgrammer : Text → Reason → Type 0
 IsWrongProgrammer text because.NoPrefix = starts_with nat_eq text (codes "dummy:") ≡ false
 IsWrongProgrammer text (because.Setting setting wrong) = (starts_with nat_eq text (codes "dummy:") ≡ true)
@@ -120,7 +119,6 @@ IsWrongValue false false given reason = reason ≡ dash_reason (dashed given)
 abbrev pub change_option : Texts → OptionName
 change_option given = if is_some given.write then option.Write else if given.erase then option.Erase else option.WpRange
 
--- the reason of fault 6
 abbrev pub journal_reason : Texts → Reason
 journal_reason given =
     if is_some given.journal && is_some given.rehearse then because.JournalAndRehearse
@@ -138,7 +136,6 @@ names_reason (Some layout) (Some names) = because.NoRegions layout
 names_reason (Some layout) None = because.NoNames layout
 names_reason None names = because.NoLayout
 
--- the reason of fault 7
 abbrev pub regions_reason : Texts → Reason
 regions_reason given =
     if has_two_layouts given
@@ -161,7 +158,6 @@ unneeded_reason given =
     else if given.unlock then because.NoContent option.Unlock
     else journal_option_reason given
 
--- the first part of the value of `--rehearse` that isn't a number
 abbrev pub first_unread : Text → Option Text
 first_unread text = find (λ piece. not (reads decimal_number piece)) (pieces_of text)
 

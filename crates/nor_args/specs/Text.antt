@@ -3,7 +3,6 @@ use Rattle.std.specs.Prelude.{◌==◌, ◌||◌, ◌&&◌, ℕ, Bool, List, Opt
 use Rattle.std.specs.Char.{is_control}
 use Rattle.std.specs.List.{slice_split, before_first, after_first}
 
--- a text, as its bytes
 abbrev pub Text : Type 0
 Text = List ℕ
 
@@ -12,7 +11,6 @@ abbrev pub is_hidden : (character : ℕ) → Bool
 is_hidden character = is_control character
     || ((nat_le 0x202A character && nat_le character 0x202E) || (nat_le 0x2066 character && nat_le character 0x2069))
 
--- the parts of the text between its commas
 abbrev pub pieces_of : Text → List Text
 pieces_of = slice_split (λ byte. byte == 44)
 

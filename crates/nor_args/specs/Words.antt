@@ -71,7 +71,6 @@ HasNoJob given fault =
     ((is_on_chip given ≡ false) × (first_fault (operation_faults given) ≡ Some fault))
     ⊎ ((is_on_chip given ≡ true) × ((fault ≡ why.NoProgrammer) × (given.programmer ≡ None)))
 
--- Holds if a run of this program for hardware may report this fault for these arguments.
 abbrev pub IsHardwareFault : (program : Text) → List Text → UsageFault → Type 0
 IsHardwareFault program words (why.Words error) = IsAmong (kind_of error) (hardware_refusals_of program words)
 IsHardwareFault program words why.Memory = ⊤

@@ -181,10 +181,11 @@ impl<'a> Given<'a> {
     }
 
     /// Returns the job of a program for hardware: with `--check-journal` the check of a journal, with `-L` the list of
-    /// chips, otherwise the value of `-p` and the operation or the first of the faults 4 to 9.
+    /// chips, otherwise the value of `-p` and the operation or the first of the faults 4 to 9. `named` must be the
+    /// result of `chip_named`.
     ///
     /// With `--check-journal` or `-L`, returns the first of the faults 4 to 9 if the options have one. Returns fault 2
-    /// if `-p` is missing, too. `named` must be the result of `chip_named`.
+    /// if `-p`, `--check-journal` and `-L` are all missing.
     pub fn hardware_job(
         self,
         named: Option<ChipName>,

@@ -23,7 +23,6 @@ pub struct ChipJob<'a> {
     pub programmer: Programmer<'a>,
     /// `-c NAME`: the name that the chip must have.
     pub named: Option<ChipName>,
-    /// The operation on the chip.
     pub task: Task<'a>,
 }
 
@@ -74,7 +73,6 @@ pub struct Operation<'a> {
     pub is_verbose: bool,
     /// `-o FILE`: the name of the file into which the log of the run is written.
     pub log: Option<&'a str>,
-    /// The operation on the chip.
     pub task: Task<'a>,
 }
 
@@ -143,13 +141,11 @@ pub enum Task<'a> {
 pub struct Regions<'a> {
     /// The file that `-l`, `--fmap-file` or `--ifd-file` names, or `None` if the layout is read from the chip.
     pub layout: Option<&'a str>,
-    /// The form of the layout.
     pub form: LayoutForm,
     /// `-i NAMES`: the names of the regions, separated by commas.
     pub names: &'a str,
 }
 
-/// The form of a layout.
 #[derive(Clone, Copy)]
 pub enum LayoutForm {
     /// `-l` of flashnor: lines `START:END NAME`.
@@ -173,7 +169,6 @@ pub struct Change<'a> {
     pub unlock: bool,
     /// True without `-n`: read back what was written, and compare it.
     pub verify: bool,
-    /// What is done with the journal of this change.
     pub journal_use: JournalUse<'a>,
 }
 

@@ -216,7 +216,6 @@ pub fn make_options<'a>(alloc: Global) -> Result<Command<'a>, AllocError>
 /// The name and the version of a program, and the texts of its help above and below the options.
 #[derive(Clone, Copy)]
 pub struct Help {
-    /// The name of the program.
     pub program: &'static str,
     /// The version, which `--version` of a program for hardware prints after the name.
     pub version: &'static str,

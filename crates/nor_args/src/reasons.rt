@@ -160,9 +160,7 @@ pub enum Reason<'a> {
 /// A usage fault with its reason.
 #[derive(Drop)]
 pub struct WrongArguments<'a> {
-    /// The fault that the arguments have.
     pub fault: UsageFault,
-    /// What is wrong with the arguments.
     pub reason: Reason<'a>,
 }
 

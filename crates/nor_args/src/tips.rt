@@ -82,7 +82,6 @@ fn message_of_value(alloc: Global, text: &str) -> Result<Option<String>, AllocEr
     Ok(Some(message))
 }
 
-// Writes each byte of a character that a terminal doesn't show as itself as `\xNN`.
 fn push_escaped(text: &mut String, said: &str) -> Result<(), AllocError> {
     for character in said.chars() {
         if is_hidden(character) {

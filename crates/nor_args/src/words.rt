@@ -155,7 +155,7 @@ pub fn operation_of<'a>(
     Given::of_hardware(&matches, names.as_deref()).hardware_job(named)
 }
 
-// Parses the arguments. The text of an error has each argument escaped (`reword`).
+// The text of an error has each argument escaped (`reword`).
 fn parse_words<'a>(
     alloc: Global,
     program: Program,

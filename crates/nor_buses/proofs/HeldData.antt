@@ -25,7 +25,6 @@ use Rattle.nor_buses.proofs.SameReply.{read_of}
 
 -- ---- the bus inside takes each block
 
--- A call that keeps the nature of the bus inside doesn't change whether it takes the blocks.
 pub takes_same : (longest : ℕ) (old new : BusState) → SameNature old new
     → takes_blocks longest new ≡ takes_blocks longest old
 takes_same longest old new nature =
@@ -33,7 +32,6 @@ takes_same longest old new nature =
     ∙ ap (λ (unlimited : Bool). old.honest && (unlimited || nat_le longest (4096 + new.longer))) nature.unlimited
     ∙ ap (λ (longer : ℕ). old.honest && (old.unlimited || nat_le longest (4096 + longer))) nature.longer
 
--- If the bus inside takes the blocks, it takes the read of one that isn't too long.
 pub block_fits : (address len longest : ℕ) (inside : BusState) → takes_blocks longest inside ≡ true → len ≤ longest
     → IsHonestFor (data_read address) len inside
 block_fits address len longest inside takes few =
@@ -47,7 +45,6 @@ block_fits address len longest inside takes few =
       ];
     }
 
--- If a bus takes the read of a block, it takes any transaction of four bytes with a reply of the same length.
 pub block_read : (w x y z address len n : ℕ) (inside : BusState) → n ≡ len → IsHonestFor (data_read address) len inside
     → IsHonestFor (w ∷ x ∷ y ∷ z ∷ []) n inside
 block_read w x y z address len n inside same fits = record {
@@ -81,7 +78,6 @@ data_does false at chip reply same = record {
   running = refl;
 }
 
--- The same for the bytes that a read of data sends.
 data_step : (out reply : List ℕ) (chip : Chip) → reads_data out ≡ true → HasData chip (address_in out) reply
     → Step chip out reply chip
 data_step (opcode ∷ x ∷ y ∷ z ∷ []) reply chip reads has =
@@ -90,7 +86,6 @@ data_step (opcode ∷ x ∷ y ∷ z ∷ []) reply chip reads has =
     (data_does (chip.busy == 0) (65536 * x + 256 * y + z) chip reply has.same)
 data_step _ reply chip reads has = absurd (false≢true reads)
 
--- A read of data begins with the opcode of a read.
 data_begins : (out : List ℕ) → reads_data out ≡ true → begins_read out ≡ true
 data_begins (opcode ∷ x ∷ y ∷ z ∷ []) reads =
     let P : ℕ → Type 0 = λ k. begins_read (k ∷ x ∷ y ∷ z ∷ []) ≡ true in
@@ -108,7 +103,6 @@ held_made out reply old new reads keeps has = record {
   worn = λ s. keeps.worn s ∙ read_wears_none old.chip out (length reply) s (old.worn s) (data_begins out reads);
 }
 
--- The same for a read that may have failed.
 pub made_on_ok : (out reply : List ℕ) (at : ℕ) (result : Result Unit Stopped) (old new : BusState)
     → reads_data out ≡ true → at ≡ address_in out → OnOk result (KeepsAll old new)
     → OnOk result (HasData new.chip at reply) → OnOk result (MakesStep out reply old new)
@@ -116,13 +110,11 @@ made_on_ok out reply at (Ok done) old new reads is keeps has =
     held_made out reply old new reads keeps (subst (λ (a : ℕ). HasData new.chip a reply) is has)
 made_on_ok out reply at (Err stop) old new reads is keeps has = tt
 
--- The first bytes of a list are no more than all of them.
 take_most : (n : ℕ) (xs : List ℕ) → length (take n xs) ≤ length xs
 take_most zero xs = omega arith
 take_most (suc n) [] = omega arith
 take_most (suc n) (x ∷ rest) = omega (arith, take_most n rest)
 
--- If the block has the data of the chip, so have the bytes that are copied from it.
 pub held_data : (at n k start len : ℕ) (block reply : List ℕ) (chip : Chip)
     → (0 < len → HasData chip start (take len block)) → start ≤ at → at + n ≤ start + len → k ≡ n → length reply ≡ n
     → reply ≡ part block (at - start) k → HasData chip at reply

@@ -141,7 +141,6 @@ still_honest quiet honest = quiet.nature.honest ∙ honest
 pub still_ready : {old new : BusState} → Quiet old new → old.chip.busy ≡ 0 → new.chip.busy ≡ 0
 still_ready quiet ready = ap (λ (chip : Chip). chip.busy) quiet.keeps.chip ∙ ready
 
--- A stop behind transactions that left the chip as it was.
 pub behind : {old mid new : BusState} → Quiet old mid → StopsUnread mid new → StopsUnread old new
 behind quiet stops = stops_then quiet.nature.steady quiet.keeps stops
 

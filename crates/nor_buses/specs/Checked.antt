@@ -14,7 +14,6 @@ bus_of checked = checked.bus
 abbrev pub inner_state : {B : Type 0} {over : Ghosts B} → CheckedStatus B over → BusState
 inner_state {over = over} checked = over.state (bus_of checked)
 
--- What the bus knows about the chip.
 abbrev pub known_of : {B : Type 0} {over : Ghosts B} → CheckedStatus B over → Known
 known_of checked = checked.known
 

@@ -5,7 +5,6 @@ use Rattle.nor_model.specs.Exchange.{Exchange}
 use Rattle.nor_buses.specs.ReadsAs.{beside}
 use Rattle.nor_buses.specs.declared.splitting.SplittingBus.{SplittingBus}
 
--- The bus inside, which carries out the transactions of a `SplittingBus`.
 abbrev pub split_of : {B : Type 0} → SplittingBus B → B
 split_of splitting = splitting.bus
 
@@ -32,9 +31,10 @@ abbrev pub reads_longer : (receives : ℕ) → (unlimited : Bool) → (longer : 
 reads_longer receives unlimited longer = if unlimited then receives - 4096 else min longer (receives - 4096)
 
 -- The state of a bus with this history that splits what the bus inside can't take. The chip is that of the bus inside.
--- If `wide` is true, no transaction that this bus must take if it is well-behaved is split: each is one of the bus
--- inside. Then this bus is well-behaved if the bus inside is. Otherwise it isn't: a program in parts that stops may
--- leave an idle chip whose write enable latch is set, which no stop of a single transaction does.
+--
+-- The bus is well-behaved if the bus inside is and `wide` is true: then this bus splits no transaction of a length that
+-- it must take. If it may split some, a program in parts that stops may leave an idle chip whose write enable latch is
+-- set, which no stop of a single transaction does.
 abbrev pub splits : (wide : Bool) → (receives : ℕ) → (inside : BusState) → (history : List Exchange) → BusState
 splits wide receives inside history = record (beside inside history) {
   honest = inside.honest && wide;
@@ -44,7 +44,6 @@ splits wide receives inside history = record (beside inside history) {
   longer = reads_longer receives inside.unlimited inside.longer;
 }
 
--- The state of the bus (`splits`).
 abbrev pub splitting_state : {B : Type 0} → (inside : B → BusState) → SplittingBus B → BusState
 splitting_state inside splitting =
     splits (takes_whole (sends_most splitting) (receives_most splitting)) (receives_most splitting)

@@ -4,7 +4,6 @@ use Rattle.std.specs.Prelude.{Some, slice_index}
 use Rattle.nor_model.specs.Exchange.{Exchange}
 use Rattle.nor_model.specs.History.{begins_with, bytes_or_none, replied}
 
--- A poll whose two reply bytes are both `status`.
 abbrev pub pair : (status : ℕ) → Exchange
 pair status = replied (0x05 ∷ []) (status ∷ status ∷ [])
 
@@ -27,7 +26,7 @@ abbrev pub confirmed : (known : Option (List ℕ)) → List Exchange → List Ex
 confirmed None history = history
 confirmed (Some id) history = read_id id ∷ history
 
--- Holds if the known ID did not change. If no ID was known before, `new` may be any ID.
+-- Holds if the known ID did not change. If no ID was known before, nothing is claimed.
 pub record KeepsId (old new : Option (List ℕ)) : Type 0 where
   pub same : is_known old ≡ true → new ≡ old
 
@@ -62,7 +61,7 @@ has_read opcode byte exchange = begins_with opcode exchange.out && begins_with b
 abbrev pub has_read_id : Exchange → Bool
 has_read_id exchange = begins_with 0x9F exchange.out
 
--- True if one of the first two bytes of a reply shows BUSY (bit 0).
+-- True if a reply has at least two bytes, and one of the first two shows BUSY (bit 0).
 abbrev pub shows_busy : (reply : List ℕ) → Bool
 shows_busy (first ∷ last ∷ rest) = first % 2 == 1 || last % 2 == 1
 shows_busy _ = false

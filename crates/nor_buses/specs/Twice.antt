@@ -31,7 +31,7 @@ CarriesUnexpected twice out answer old new = elim twice.expected [
   | Some image ↦ CarriesDiffering image.items out answer old new
 ]
 
--- A read that the bus inside carried out twice is listed once.
+-- The transactions that this bus was asked to carry out. A read that the bus inside carried out twice is listed once.
 abbrev pub history_of : {B : Type 0} → ReadTwice B → List Exchange
 history_of twice = twice.history.exchanges
 

@@ -9,11 +9,10 @@
 pub struct ChangedByte {
     /// The value that does not occur: 0Dh or 0Ah.
     pub lost: u8,
-    /// The other value, which does.
+    /// The value that occurs in its place: 0Ah or 0Dh.
     pub read_as: u8,
 }
 
-// The pairs of a value and the one into which a port may change it.
 const CHANGES: [ChangedByte; 2] = [
     ChangedByte {
         lost: 0x0D,
@@ -33,7 +32,6 @@ const FEWEST_VALUES: usize = 192;
 // both values are equally likely, the first 32 of these bytes are all `read_as` in 1 of 2^32 cases.
 const FEWEST_OCCURRENCES: u32 = 64;
 
-// The number of occurrences of each value in the data that was read. A count that reaches 2^32 - 1 stays there.
 #[derive(Drop)]
 pub(crate) struct ByteCounts {
     counts: [u32; 256],

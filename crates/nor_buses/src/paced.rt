@@ -99,7 +99,6 @@ impl<B, C: Clock> Paced<B, C> {
         }
     }
 
-    // Returns the time in microseconds since the last command that began an operation, or 0 if it isn't known.
     fn elapsed(&self) -> u64 {
         let Some(sent) = self.sent else {
             return 0;
@@ -162,8 +161,6 @@ fn shows_busy(out: &[u8], reply: &[u8]) -> bool
     }
 }
 
-// Returns the typical duration in microseconds of the operation that a transaction begins, or `None` if it begins none
-// (W25Q64FV datasheet, AC characteristics).
 fn typical_micros(out: &[u8]) -> Option<u64>
     ensures typical { result ≡ typical_of out.now }
     ensures short { IfSome result (λ typical. typical ≤ 150000) }
@@ -178,7 +175,6 @@ fn typical_micros(out: &[u8]) -> Option<u64>
     }
 }
 
-// Returns the pause in microseconds before a poll that follows `busy_polls` polls in a row which showed BUSY.
 fn pause_micros(typical: u64, elapsed: u64, busy_polls: u64) -> u64
     ensures { result ≡ pause_before typical elapsed busy_polls }
 {

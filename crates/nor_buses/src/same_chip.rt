@@ -9,7 +9,6 @@ ghost use Rattle.nor_buses.specs.SameChip.{unique_after, IsChecked, FindsOther, 
 
 use nor_model::{Bus, History, Stopped, is_changing};
 
-// The transaction that reads the unique ID (W25Q64FV datasheet, Read Unique ID Number).
 const READ_UNIQUE: [u8; 5] = [0x4B, 0, 0, 0, 0];
 
 /// The unique IDs of two chips: the one that was read first, and the one that was found before the first modifying
@@ -79,7 +78,6 @@ impl<B: Bus + Drop> SameChip<B> {
 }
 
 impl<B: Bus> SameChip<B> {
-    // Reads the unique ID again if no modifying command was passed on yet, and stops if it isn't the remembered one.
     fn check(&mut self) -> Result<(), Stopped>
         ensures history { history_of self.new ≡ history_of self.old }
         ensures unique { unique_in self.new ≡ unique_in self.old }
@@ -120,7 +118,6 @@ impl<B: Bus> SameChip<B> {
         Ok(())
     }
 
-    // Makes one transaction, and does not add it to the history.
     fn carry(&mut self, out: &[u8], reply: &mut [u8]) -> Result<(), Stopped>
         ensures history { history_of self.new ≡ history_of self.old }
         ensures unique { OnOk result (unique_in self.new ≡ unique_after out.now reply.new (unique_in self.old)) }
@@ -202,7 +199,6 @@ impl<B: Bus> Bus for SameChip<B> {
     }
 }
 
-// Returns the unique ID that is remembered after a transaction: its reply, if it read one, and otherwise `known`.
 fn unique_after(out: &[u8], reply: &[u8], known: Option<[u8; 8]>) -> Option<[u8; 8]>
     ensures { result ≡ unique_after out.now reply.now known }
 {

@@ -78,7 +78,6 @@ impl<B: Bus + Drop> SplittingBus<B> {
 impl<B: Bus> SplittingBus<B> {
     ghost use Rattle.nor_buses.specs.Splitting.{split_of, sends_most, receives_most, history_of};
 
-    // Makes one transaction, and does not add it to the history.
     fn carry(&mut self, out: &[u8], reply: &mut [u8]) -> Result<(), Stopped>
         ensures nature { SameNature (B.state (split_of self.old)) (B.state (split_of self.new)) }
         ensures history { history_of self.new ≡ history_of self.old }

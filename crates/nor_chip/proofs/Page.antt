@@ -8,15 +8,14 @@ use Rattle.nor_model.specs.Step.{last_for, lowered}
 use Rattle.nor_model.proofs.PageBytes.{last_for-apart, last_for-at}
 use Rattle.nor_chip.specs.Cells.{HasPageProgrammed}
 
--- Holds if the first `done` bytes of `sent` were ANDed into the list from index `from` on, and nothing else changed.
 pub record ClearsFrom (from done : ℕ) (sent old new : List ℕ) : Type 0 where
   pub inside : (i : ℕ) → i < done
       → slice_index new (from + i) ≡ bit_and (slice_index old (from + i)) (slice_index sent i)
   pub below : (a : ℕ) → a < from → slice_index new a ≡ slice_index old a
   pub above : (a : ℕ) → from + done ≤ a → slice_index new a ≡ slice_index old a
 
--- Holds if `sent` is divided as the function `program` (`src/sim/cells.rt`) divides it: `skipped` bytes without effect
--- before the last 256, then `front` up to the end of the page, and `back` for its start.
+-- Holds if `sent` consists of `skipped` bytes without effect, then `front` up to the end of the page, and `back` for
+-- its start. `program` (`src/sim/cells.rt`) divides `sent` in this way.
 pub record IsParted (at : ℕ) (sent : List ℕ) (skipped : ℕ) (front back : List ℕ) : Type 0 where
   pub skips : skipped ≡ length sent - 256
   pub front_len : length front ≡ min (length sent - skipped) (256 - (at + skipped) % 256)

@@ -8,7 +8,6 @@ HasPageProgrammed at sent old new =
     (a : ℕ) → slice_index new a
     ≡ (if a / 256 == at / 256 then lowered (slice_index old a) (last_for at sent a) else slice_index old a)
 
--- Holds if the items from `start` to `start + len - 1` are `byte` in `new`, and all other items are as in `old`.
 abbrev pub IsFilled : (byte start len : ℕ) → (old new : List ℕ) → Type 0
 IsFilled byte start len old new =
     (a : ℕ) → slice_index new a ≡ (if nat_le start a && nat_lt a (start + len) then byte else slice_index old a)

@@ -17,8 +17,6 @@ chip_of flash = record {
   running = flash.running;
 }
 
--- Holds if the operation `runs` begins: the next `polls` polls will show BUSY. The write enable latch is clear if
--- `polls` is 0, otherwise set.
 pub record Begins (runs : Running) (polls : ℕ) (old new : Chip) : Type 0 where
   pub config : new.config ≡ old.config
   pub bytes : (a : ℕ) → new.bytes a ≡ old.bytes a
@@ -27,15 +25,12 @@ pub record Begins (runs : Running) (polls : ℕ) (old new : Chip) : Type 0 where
   pub running : new.running ≡ runs
   pub latch : new.latch ≡ not (new.busy == 0)
 
--- The effect of an interruption of the operation in progress. Each byte on which a program or erase works is `fill`. A
--- status write was undone if `fill` is even, and is complete if `fill` is odd.
 pub record CutsOff (fill : ℕ) (old new : Chip) : Type 0 where
   pub config : new.config ≡ old.config
   pub bytes : (a : ℕ)
       → new.bytes a ≡ (if is_known_running old.running && is_in_work old.running a then fill else old.bytes a)
   pub kept : new.kept ≡ (if fill % 2 == 0 then kept_before old else old.kept)
 
--- Holds if `each` is as before and, after an operation, `each` polls will show BUSY.
 pub record Paces (command : Command) (old new : Flash) : Type 0 where
   pub each : new.each ≡ old.each
   pub busy : is_operation command ≡ true → new.busy ≡ old.each

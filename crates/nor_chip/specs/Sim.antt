@@ -41,18 +41,14 @@ torn_of bus = bus.torn
 abbrev pub pace_of : SimBus → ℕ
 pace_of bus = bus.flash.each
 
--- Holds if `new` is the chip after a stop, before any power failure. `torn` is the value that `tear` set.
 abbrev pub TornTo : (torn : Option ℕ) → (out : List ℕ) → (old new : Chip) → Type 0
 TornTo None out old new = new ≡ old
 TornTo (Some count) out old new = Step old (take count out) [] new
 
--- The effect of a stop on the chip after the first bytes of the transaction were sent. `fill` is the value that `lose`
--- set.
 abbrev pub LostTo : (fill : Option ℕ) → (old new : Chip) → Type 0
 LostTo None old new = new ≡ old
 LostTo (Some fill) old new = PowerLostWith fill old new
 
--- Holds if the settings of the bus, the number of transactions left and the history are as they were.
 pub record KeepsBus (old new : SimBus) : Type 0 where
   pub fill : fill_of new ≡ fill_of old
   pub torn : torn_of new ≡ torn_of old
@@ -60,21 +56,16 @@ pub record KeepsBus (old new : SimBus) : Type 0 where
   pub left : new.left ≡ old.left
   pub history : new.history ≡ old.history
 
--- Holds if `new` has the sectors that are recorded as erased after a stop. With `torn = Some count`, the first `count`
--- bytes of the transaction may have erased more.
 abbrev pub WornTo : (torn : Option ℕ) → (out : List ℕ) → Chip → (old new : ℕ → Bool) → Type 0
 WornTo None out chip old new = (s : ℕ) → new s ≡ old s
 WornTo (Some count) out chip old new = (s : ℕ) → new s ≡ (old s || wears (done_of chip (take count out) 0) s)
 
--- The effect of a stop on the chip, for the settings of `tear` and `lose`.
 pub record TearsOff (torn fill : Option ℕ) (out : List ℕ) (old new : Chip) : Type 0 where
   pub reached : Chip
   pub torn_off : TornTo torn out old reached
   pub lost : LostTo fill reached new
 
--- The effect of a transaction over a simulated bus, in addition to the contract of a bus. After an operation began,
--- `pace_of` polls will show BUSY. Sectors that the first bytes of a stopped transaction erased are recorded, even if
--- the chip then lost its power.
+-- The effect of a transaction over a simulated bus, in addition to the contract of a bus.
 pub record Simulates (out answer : List ℕ) (outcome : Result Unit Stopped) (old new : SimBus) : Type 0 where
   pub fill : fill_of new ≡ fill_of old
   pub torn : torn_of new ≡ torn_of old

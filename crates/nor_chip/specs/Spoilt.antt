@@ -15,7 +15,6 @@ bus_in bus = bus.bus
 abbrev pub spoil_of : {B : Type 0} → SpoiltBus B → Spoil
 spoil_of bus = bus.spoil
 
--- The transactions that the faulty bus was asked to carry out, each with the reply that it returned, if any.
 abbrev pub history_of : {B : Type 0} → SpoiltBus B → List Exchange
 history_of bus = bus.history.exchanges
 
@@ -23,8 +22,8 @@ history_of bus = bus.history.exchanges
 abbrev pub succeeded_of : {B : Type 0} → SpoiltBus B → ℕ
 succeeded_of bus = bus.sent
 
--- The state of a faulty bus, which isn't well-behaved. Its history has each transaction that it was asked to carry out,
--- even a dropped one, with the reply that it returned. The chip is that of the inner bus.
+-- The state of a faulty bus, which isn't well-behaved. Its history has even the transactions that it dropped, with the
+-- replies that it made up. The chip is that of the inner bus.
 abbrev pub spoilt_state : {B : Type 0} → (B → BusState) → SpoiltBus B → BusState
 spoilt_state state bus = record (state bus.bus) {
   honest = false;
@@ -34,8 +33,8 @@ spoilt_state state bus = record (state bus.bus) {
   polled_ready = polled_ready_in (history_of bus);
 }
 
--- The value of each reply byte of the next transaction if the faulty bus drops it, otherwise `None`. `sent` is the
--- number of transactions that succeeded before.
+-- The value of each reply byte of the next transaction if the faulty bus drops it, otherwise `None`. `sent`
+-- transactions succeeded before.
 abbrev pub withheld : Spoil → ℕ → Option ℕ
 withheld (Fill byte) sent = Some byte
 withheld (BusyFrom first) sent = None
@@ -45,8 +44,6 @@ withheld (Low bit) sent = None
 abbrev pub withheld_of : {B : Type 0} → SpoiltBus B → Option ℕ
 withheld_of bus = withheld (spoil_of bus) (succeeded_of bus)
 
--- The reply byte that the faulty bus returns in place of `byte`. `sent` is the number of earlier successful
--- transactions.
 abbrev pub spoilt_byte : Spoil → ℕ → List ℕ → ℕ → ℕ
 spoilt_byte (Fill fill) sent out byte = byte
 spoilt_byte (BusyFrom first) sent out byte = if nat_le first (sent + 1) && is_poll out then bit_or byte 1 else byte
@@ -68,14 +65,11 @@ pub record IsPassedOn (byte_for : ℕ → ℕ) (out asked answer : List ℕ) (ol
   pub replies : (i : ℕ) → i < length answer → slice_index answer i ≡ byte_for (slice_index replied i)
   pub inner : IsHonestFor out (length asked) old → Carries out replied old new
 
--- The effect of a transaction that was not dropped: it succeeded (`IsPassedOn`), or the inner bus stopped.
 abbrev pub GoesThrough : (ℕ → ℕ) → (out asked answer : List ℕ) → Result Unit Stopped → (old new : BusState) → Type 0
 GoesThrough byte_for out asked answer (Ok done) old new = IsPassedOn byte_for out asked answer old new
 GoesThrough byte_for out asked answer (Err stopped) old new =
     IsHonestFor out (length asked) old → (old.punctual ≡ true → answer ≡ asked) × Stops out old new
 
--- The effect of a transaction over a faulty bus, which was dropped (`IsWithheld`) or passed on (`GoesThrough`). Only a
--- transaction that succeeds is counted, up to the greatest u64.
 pub record Spoils {B : Type 0} (state : B → BusState) (out asked answer : List ℕ) (outcome : Result Unit Stopped)
     (old new : SpoiltBus B) : Type 0 where
   pub spoil : spoil_of new ≡ spoil_of old

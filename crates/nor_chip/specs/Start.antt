@@ -6,8 +6,6 @@ use Rattle.nor_model.specs.declared.running.Running.TheVariants.{Unknown}
 use Rattle.nor_model.specs.Chip.{Chip, kept_in}
 use Rattle.nor_model.specs.Bus.{BusState}
 
--- The state of a new simulated bus: its chip has the configuration `setup`, the bytes `image` and the status bytes
--- `flags`, and will show BUSY in `delays.now` polls. The operation in progress is unknown, and no transaction is left.
 pub record Starts (setup : Config) (image flags : List ℕ) (delays : Delays) (state : BusState) : Type 0 where
   pub config : state.chip.config ≡ setup
   pub bytes : (a : ℕ) → state.chip.bytes a ≡ slice_index image a
@@ -24,7 +22,6 @@ pub record Starts (setup : Config) (image flags : List ℕ) (delays : Delays) (s
   pub steady : state.steady ≡ true
   pub polled_ready : state.polled_ready ≡ false
 
--- Holds if `bytes` has exactly the bytes of the chip, from address 0 on.
 pub record AreChipBytes (chip : Chip) (bytes : List ℕ) : Type 0 where
   pub len : length bytes ≡ chip.config.size
   pub at : (a : ℕ) → a < chip.config.size → slice_index bytes a ≡ chip.bytes a

@@ -15,19 +15,15 @@ log_of traced = traced.log
 abbrev pub has_lost : {B L : Type 0} → TraceBus B L → Bool
 has_lost traced = traced.lost
 
--- The end of a line: ` > ` and the digits of one to three received bytes, or ` > `, their number and ` bytes`.
 abbrev pub reply_digits : List ℕ → List ℕ
 reply_digits answer =
     if length answer == 0 then []
     else if nat_lt 3 (length answer) then codes " > " ++ decimal (length answer) ++ codes " bytes"
     else codes " > " ++ encode_lower answer
 
--- the line of a transaction: the hexadecimal digits of the bytes sent, the end for the bytes received, and a line feed
 abbrev pub traced_line : (out answer : List ℕ) → List ℕ
 traced_line out answer = encode_lower out ++ reply_digits answer ++ codes "\n"
 
--- The effect of a transaction on the log. If it succeeded, its line was appended, or `has_lost` is true from then on. A
--- stop leaves the log as it was.
 pub record Traces {B L : Type 0} (contents : L → Option (List ℕ)) (out answer : List ℕ) (outcome : Result Unit Stopped)
     (old new : TraceBus B L) : Type 0 where
   pub still_lost : has_lost old ≡ true → has_lost new ≡ true

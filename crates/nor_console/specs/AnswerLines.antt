@@ -16,7 +16,6 @@ use Rattle.nor_console.specs.Lines.{id_digits, line}
 use Rattle.nor_console.specs.declared.answers.Answer.{Answer}
 use Rattle.nor_console.specs.declared.answers.Answer.TheVariants as answer
 
--- the line that `-L` prints for a chip of the table
 abbrev pub chip_line : Part → List ℕ
 chip_line part = line (name_text part.name ∷ codes " " ∷ id_digits part.id ∷ codes " " ∷ decimal part.size ∷ [])
 

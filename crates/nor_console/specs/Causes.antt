@@ -12,7 +12,6 @@ use Rattle.nor_console.specs.declared.messages.FileFault.TheVariants as file
 use Rattle.nor_console.specs.declared.roles.Role.{Role}
 use Rattle.nor_console.specs.declared.roles.Role.TheVariants as role
 
--- the words for the system's reason
 abbrev pub system_text : SystemReason → List ℕ
 system_text system.Missing = codes "there is no such file"
 system_text system.NoDirectory = codes "there is no such directory"
@@ -26,7 +25,6 @@ system_text system.LongName = codes "the name is too long"
 system_text system.InputOutput = codes "input/output error"
 system_text system.Other = codes "the system refused it"
 
--- what a file of this role is used as
 abbrev pub role_text : Role → List ℕ
 role_text role.Image = codes "image="
 role_text role.Status = codes "status="
@@ -41,7 +39,6 @@ abbrev pub verb_of : FileFault → List ℕ
 verb_of file.Read = codes "read"
 verb_of _ = codes "written"
 
--- the line for a call of the system that failed
 abbrev pub system_line : FileFault → Text → SystemReason → List ℕ
 system_line fault name system.Missing = concat (codes "error: there is no file '" ∷ escaped name ∷ codes "'\n" ∷ [])
 system_line fault name system.Directory = concat (codes "error: '" ∷ escaped name ∷ codes "' is a directory\n" ∷ [])

@@ -26,7 +26,6 @@ abbrev pub file_text : FileFault → Text → List ℕ
 file_text fault name =
     concat (codes "File fault " ∷ decimal (file_number fault) ∷ codes ": " ∷ escaped name ∷ codes "." ∷ [])
 
--- the line that says what is wrong, with its line feed, or no bytes if there is no such line
 abbrev pub explanation_of : Fault → List ℕ
 explanation_of (end.Usage fault reason) = reason_line reason
 explanation_of (end.Layout fault) = layout_line fault
@@ -49,7 +48,6 @@ numbered_line end.NoJournal = Some (codes "Error 15: journal fault 1.")
 numbered_line (end.Refused refusal) = Some (concat (codes "Error " ∷ decimal (refusal_number refusal) ∷ codes ": "
     ∷ refusal_text refusal ∷ codes "." ∷ []))
 
--- The line that says what is wrong, if there is one, and then the numbered line.
 abbrev pub text_of : Fault → Option (List ℕ)
 text_of fault = option_append (Some (explanation_of fault)) (numbered_line fault)
 
@@ -57,7 +55,6 @@ abbrev pub cause_of : Fault → List ℕ
 cause_of (end.File fault name cause) = cause_line fault name.now cause
 cause_of _ = []
 
--- The text of a fault in this wording: its numbered line, or all its lines.
 abbrev pub worded : Wording → Fault → Option (List ℕ)
 worded wording.Numbered fault = numbered_line fault
 worded wording.Explained fault = option_append (Some (cause_of fault)) (text_of fault)

@@ -22,7 +22,6 @@ abbrev pub IsUnmadeFault : Text → Fault → Type 0
 IsUnmadeFault name (end.File file.Write of cause) = of.now ≡ name
 IsUnmadeFault name _ = ⊥
 
--- Holds if the program reports this `LockFault` of a file of this name as `fault`.
 abbrev pub IsNotLocked : LockFault → Text → Fault → Type 0
 IsNotLocked (why.Unread error) name fault = IsUnreadFault name fault
 IsNotLocked why.Unheld name (end.File file.Write of cause) = of.now ≡ name
@@ -62,7 +61,6 @@ IsLockingFault view name len (end.File file.Write of cause) =
 IsLockingFault view name len (end.File file.Taken of cause) = (of.now ≡ name) × Happens view (Busy name)
 IsLockingFault view name len fault = IsOpeningFault view name len fault
 
--- Holds if locking a journal and reading at most `most` bytes of it may fail with this fault.
 abbrev pub IsSharingFault : View → Text → ℕ → Fault → Type 0
 IsSharingFault view name most (end.File file.Write of cause) = (of.now ≡ name) × Happens view (Unheld name)
 IsSharingFault view name most (end.File file.Taken of cause) = (of.now ≡ name) × Happens view (Busy name)

@@ -19,7 +19,6 @@ file_number file.Length = 3
 file_number file.Exists = 4
 file_number file.Taken = 5
 
--- Holds if `fault` is that of arguments that could not be collected.
 abbrev pub IsOfArguments : Error → Fault → Type 0
 IsOfArguments error fault = ((error_kind error ≡ Kinds.OutOfMemory) × (fault ≡ end.Usage usage.Memory because.Unsaid))
     ⊎ ((error_kind error ≢ Kinds.OutOfMemory) × (fault ≡ end.NoText))

@@ -13,7 +13,7 @@ use Rattle.nor_console.specs.declared.messages.Fault.TheVariants as end
 abbrev pub Prints : (List ℕ → Type 0) → (old new : Option (List ℕ)) → Type 0
 Prints IsText old new = (text : List ℕ) × IsText text × Appends old new text
 
--- Holds for an answer and for a request for help. Faults of writing back the chip's files aren't among the faults here.
+-- Holds for an answer and for a request for help.
 abbrev pub IsAnswered : Result Answer Fault → Type 0
 IsAnswered (Ok found) = ⊤
 IsAnswered (Err (end.Usage (usage.Words error) reason)) = kind_of error ≡ kind.DisplayHelp

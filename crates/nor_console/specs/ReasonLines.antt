@@ -17,7 +17,6 @@ use Rattle.nor_args.specs.declared.reasons.Reason.{Reason}
 use Rattle.nor_args.specs.declared.reasons.Reason.TheVariants as because
 use Rattle.nor_console.specs.Escapes.{escaped}
 
--- the words for a flaw of a setting
 abbrev pub flaw_text : Flaw → List ℕ
 flaw_text flaw.Key = codes "unknown key"
 flaw_text flaw.Value = codes "invalid value"
@@ -31,7 +30,6 @@ choices_for setting flaw.Value =
     if bytes_eq (key_of setting) (codes "emulate") then codes "; give W25Q64FV, W25Q128FV or TINY64" else []
 choices_for setting flaw.Twice = []
 
--- the line with the reason of a usage fault, or no bytes if there is no reason
 abbrev pub reason_line : Reason → List ℕ
 reason_line because.Unsaid = []
 reason_line because.NoProgrammer = codes "error: the option -p is missing\n"
@@ -66,7 +64,6 @@ reason_line (because.Stop part) =
 reason_line because.ManyStops = codes "error: more than 64 numbers in --rehearse\n"
 reason_line because.StopAndRehearse = codes "error: --rehearse and stop= cannot be used together\n"
 
--- the words for what is wrong with a line of a layout
 abbrev pub line_fault_text : LineFault → List ℕ
 line_fault_text in_line.Line = codes "there is no colon, or no space (a TAB is none) between END and NAME"
 line_fault_text in_line.Address = codes "an address is not 1 to 8 hexadecimal digits, without blanks"
@@ -75,15 +72,12 @@ line_fault_text in_line.Name =
     codes "the name is not 1 to 32 visible ASCII characters (a CR is none) other than , and :"
 line_fault_text in_line.Twice = codes "an earlier line has this name"
 
--- the line that says what is wrong with a layout, or no bytes if memory ran out
 abbrev pub layout_line : LayoutFault → List ℕ
 layout_line (layout.InLine line fault) = concat (codes "error: " ∷ line_fault_text fault ∷ codes "\n" ∷ [])
 layout_line layout.TooMany = codes "error: the layout has more than 64 regions\n"
 layout_line layout.Memory = []
 layout_line layout.NoRegion = codes "error: a name of -i is no region\n"
 
--- the line that says what may be wrong with an invalid journal (never sealed, cut off, damaged, or no journal), or no
--- bytes for any other error
 abbrev pub journal_line : Refusal → List ℕ
 journal_line (BadJournal journal.Short) = codes "error: the journal was never sealed, or was cut off later\n"
 journal_line (BadJournal journal.Magic) = codes "error: the file is no journal, or is damaged\n"

@@ -122,26 +122,22 @@ pub record IsLayoutFault (view : View) (shown : Option (List ℕ)) (regions : Re
   pub read : IsLayoutText view shown regions.layout text
   pub why : LacksLayout regions.form text fault
 
--- Holds if the chip returned no bytes for a layout, or more than 16 MiB, the size of the largest chip.
 abbrev pub LacksShown : (shown : Option (List ℕ)) → Type 0
 LacksShown None = ⊤
 LacksShown (Some bytes) = 16777216 < length bytes
 
--- Holds if getting the text of a layout may fail with this fault.
 abbrev pub LacksText : View → (shown : Option (List ℕ)) → (file : Option (Bor Text)) → Fault → Type 0
 LacksText view shown (Some name) fault =
     IsReadingFault view name.now 16777217 fault ⊎ IsTooLong view name.now 16777216 fault
 LacksText view shown None (end.Usage usage.Layout because.Unsaid) = LacksShown shown
 LacksText view shown None fault = ⊥
 
--- Holds if reading the layout of these regions may fail with this fault.
 abbrev pub FailsToReadLayout : View → (shown : Option (List ℕ)) → Regions → Fault → Type 0
 FailsToReadLayout view shown regions (end.Layout fault) = IsLayoutFault view shown regions (end.Layout fault)
 FailsToReadLayout view shown regions (end.Map fault) = IsLayoutFault view shown regions (end.Map fault)
 FailsToReadLayout view shown regions (end.NoRegion name) = ⊥
 FailsToReadLayout view shown regions fault = LacksText view shown regions.layout fault
 
--- Holds if including the regions may fail with this fault.
 abbrev pub FailsToInclude : View → (shown : Option (List ℕ)) → Option Regions → Fault → Type 0
 FailsToInclude view shown None fault = ⊥
 FailsToInclude view shown (Some regions) (end.NoRegion name) = IsUnknown view shown regions name.now

@@ -16,7 +16,6 @@ Happens view failure = view.nature.fails failure ≡ true
 abbrev pub IsRead : View → Text → ℕ → List ℕ → Type 0
 IsRead view name most bytes = ReadsFile name most (Some bytes) view
 
--- Holds if `found` has the first `len + 1` bytes of the named file, or is `None` without a file.
 abbrev pub IsFileFound : View → Option (Bor Text) → ℕ → Option (List ℕ) → Type 0
 IsFileFound view None len found = found ≡ None
 IsFileFound view (Some name) len found = ReadsFile name.now (len + 1) found view
@@ -56,7 +55,6 @@ abbrev pub StaysOf : Option (Bor Text) → (old new : FilesState) → Type 0
 StaysOf None old new = ⊤
 StaysOf (Some name) old new = KeepsFile name.now old new
 
--- Holds if no file is named, or if a host crash in `new` leaves the file only as a crash in `old` could, too.
 abbrev pub LeavesNoMoreOf : Option (Bor Text) → (old new : FilesState) → Type 0
 LeavesNoMoreOf None old new = ⊤
 LeavesNoMoreOf (Some name) old new = LeavesNoMore name.now old new

@@ -29,7 +29,6 @@ abbrev pub image_of : Wanted → Option (Bor Text)
 image_of (wanted.Write image) = Some image
 image_of _ = None
 
--- the files that a task names, by their roles
 abbrev pub named_by : Task → Named
 named_by (task.Read file regions) =
     record { layout = layout_of regions; wanted = None; output = Some file; journal = None }

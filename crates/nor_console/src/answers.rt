@@ -13,7 +13,6 @@ pub type Outcome = Result<Answer, Refusal>;
 pub enum Answer {
     /// The table of chips, which `-L` lists.
     Chips,
-    /// The chip that was identified.
     Found(Found),
     /// The size of the chip in bytes.
     Size(u32),

@@ -14,15 +14,11 @@ const EIO: i32 = 5;
 /// The system's reason why a call on a file failed.
 #[derive(Clone, Copy)]
 pub enum SystemReason {
-    /// There is no file of this name.
     Missing,
     /// The file's directory is missing, or is no directory.
     NoDirectory,
-    /// The file is a directory.
     Directory,
-    /// The permissions don't allow the call.
     Denied,
-    /// The file system is read-only.
     ReadOnly,
     /// The disk is full, or the user's share of it is used up.
     Full,
@@ -30,11 +26,9 @@ pub enum SystemReason {
     Busy,
     /// The links of the name form a loop, or there are too many of them.
     Loop,
-    /// The name, or a part of it, is too long.
     LongName,
     /// The disk reported an error: EIO.
     InputOutput,
-    /// Any other reason.
     Other,
 }
 
@@ -90,7 +84,6 @@ impl SystemReason {
 pub enum Cause {
     /// Nothing more is known than the fault says.
     Unknown,
-    /// A call of the system failed.
     System(SystemReason),
     /// The file exists, but can't be opened for writing, or can't be locked.
     Unwritable,
@@ -182,7 +175,6 @@ fn verb_of(fault: FileFault) -> &'static str
     }
 }
 
-// Returns what a file with this role is used as, in words that complete `it is already used as ..`.
 fn role_text(role: Role) -> &'static str
     ensures { result.now ≡ role_text role }
 {

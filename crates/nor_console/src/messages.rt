@@ -53,7 +53,6 @@ pub enum Fault<'a> {
     },
     /// The arguments are not UTF-8. This is printed as usage fault 1, as if the parser had rejected them.
     NoText,
-    /// A layout that can't be used.
     Layout(LayoutFault),
     /// An FMAP or a flash descriptor that is missing or can't be used. Its text is only the numbered line.
     Map(MapFault),
@@ -61,7 +60,6 @@ pub enum Fault<'a> {
     NoRegion {
         name: &'a str,
     },
-    /// A failure of the file `name`.
     File {
         fault: FileFault,
         name: &'a str,
@@ -89,7 +87,7 @@ impl Fault<'_> {
         }
     }
 
-    /// Returns usage fault 10: memory ran out before the arguments were parsed.
+    /// Returns usage fault 10: memory ran out.
     pub fn out_of_memory() -> Fault<'static>
         ensures { result ≡ Faults.Usage Usage.Memory Reasons.Unsaid }
     {

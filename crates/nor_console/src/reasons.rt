@@ -90,7 +90,6 @@ impl fmt::Display for ReasonLine<'_> {
     }
 }
 
-/// Returns the words that describe a flaw in the printed reason.
 pub fn text_of_flaw(flaw: Flaw) -> &'static str
     ensures { result.now ≡ flaw_text flaw }
 {
@@ -101,7 +100,6 @@ pub fn text_of_flaw(flaw: Flaw) -> &'static str
     }
 }
 
-// Returns the end of the reason: what to give instead of a setting of `-p` with this flaw, or no text.
 fn choices_for(setting: &str, flaw: Flaw) -> &'static str
     ensures { result.now ≡ choices_for setting.now flaw }
 {

@@ -38,15 +38,12 @@ pub enum Role {
 pub struct Named<'a> {
     /// The file of the layout that names the regions; `None` also if the layout is read from the chip.
     pub layout: Option<&'a str>,
-    /// The file of the image to write, or to compare with the chip.
     pub wanted: Option<&'a str>,
-    /// The file into which the chip is read.
     pub output: Option<&'a str>,
     /// The file of the journal that a change writes, or from which a restore reads.
     pub journal: Option<&'a str>,
 }
 
-/// Returns the files that this task names.
 pub fn named_by<'a>(task: &Task<'a>) -> Named<'a>
     ensures { result ≡ named_by task.now }
 {
@@ -90,7 +87,6 @@ fn layout_of<'a>(regions: Option<Regions<'a>>) -> Option<&'a str>
     }
 }
 
-// Returns the file name of the image that a change writes, or `None` for an erase or a change of protection.
 fn image_of<'a>(change: &Change<'a>) -> Option<&'a str>
     ensures { result ≡ image_of change.now.wanted }
 {

@@ -15,7 +15,6 @@ use Rattle.nor_driver.specs.Waits.{HasWaited, latch_when_idle}
 use Rattle.nor_driver.specs.Operations.{operation_of, AsksForOperation, MayOperate, HasOperated}
 use Rattle.nor_driver.proofs.Readings.{Wore, no_operation}
 
--- The effect of a write enable on a well-behaved bus: it sets the latch of an idle chip, and changes nothing else.
 pub record IsEnabled (old new : BusState) : Type 0 where
   pub unchanged : Unchanged old new
   pub busy : new.chip.busy ≡ old.chip.busy
@@ -54,8 +53,6 @@ pub idle-takes : (chip : Chip) (out : List ℕ) → AsksForOperation out → is_
     → chip.busy ≡ 0
 idle-takes chip out asks is = grind (arith, asks.whole chip.config, nat_tests)
 
--- The effect of a command that begins an operation. Bytes and bits are already as after `command`, and the chip will
--- show BUSY for any number of polls, or not at all.
 pub record HasBegun (command : Command) (sent : List ℕ) (old new : BusState) : Type 0 where
   pub config : new.chip.config ≡ old.chip.config
   pub bytes : (a : ℕ) → new.chip.bytes a ≡ byte_after old.chip command sent a

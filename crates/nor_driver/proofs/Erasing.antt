@@ -23,7 +23,6 @@ use Rattle.nor_driver.specs.Erases.{sectors_of, block_length, IsOnChip, takes_er
 use Rattle.nor_driver.proofs.Programming.{same_address}
 use Rattle.nor_driver.proofs.Taken.{IsFor, asked_at, leaves_as, does_as}
 
--- The bytes that erase a block: the opcode and three address bytes, or only C7h for the whole chip.
 abbrev pub erase_bytes : EraseBlock → ℕ → ℕ → ℕ → List ℕ
 erase_bytes Units.Chip x y z = 0xC7 ∷ []
 erase_bytes unit x y z = opcode_of unit ∷ x ∷ y ∷ z ∷ []

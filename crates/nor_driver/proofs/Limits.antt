@@ -10,7 +10,6 @@ use Rattle.nor_model.specs.Bus.{BusState}
 use Rattle.nor_driver.proofs.Sends.{Sends}
 use Rattle.nor_driver.specs.Limits.{Limits, limits_of, SendsWithin, SendsExactly}
 
--- Holds if `more` allows all that `less` allows.
 pub record IsPartOf (less more : Limits) : Type 0 where
   pub sectors : (s : ℕ) → less.sectors s ≡ true → more.sectors s ≡ true
   pub status : (one two : ℕ) → less.status one two ≡ true → more.status one two ≡ true
@@ -18,7 +17,6 @@ pub record IsPartOf (less more : Limits) : Type 0 where
   pub programs : less.programs ≤ more.programs
   pub status_writes : less.status_writes ≤ more.status_writes
 
--- Holds if `all` allows all that `first` allows followed by all that `second` allows.
 pub record AreParts (first second all : Limits) : Type 0 where
   pub sectors : (s : ℕ) → first.sectors s ≡ true → all.sectors s ≡ true
   pub sectors' : (s : ℕ) → second.sectors s ≡ true → all.sectors s ≡ true
@@ -28,7 +26,6 @@ pub record AreParts (first second all : Limits) : Type 0 where
   pub programs : first.programs + second.programs ≤ all.programs
   pub status_writes : first.status_writes + second.status_writes ≤ all.status_writes
 
--- Holds if `AreParts` holds, and the numbers of `all` are exactly the sums of those of `first` and `second`.
 pub record IsSum (first second all : Limits) : Type 0 where
   pub sectors : (s : ℕ) → first.sectors s ≡ true → all.sectors s ≡ true
   pub sectors' : (s : ℕ) → second.sectors s ≡ true → all.sectors s ≡ true
@@ -114,7 +111,6 @@ sends_one out old new known sends = record {
   unknown = grind (arith, or-false, sends.sent.unknown);
 }
 
--- What sending `out` adds to the list `sent`: nothing if `out` is empty or begins with the opcode of a read or 04h.
 added_by : (out : List ℕ) → Sent
 added_by out = if begins_quiet out then [] else out ∷ []
 

@@ -16,7 +16,6 @@ use Rattle.nor_driver.specs.Polls.{is_busy_poll, busy_polls, poll_of, PollsUntil
 use Rattle.nor_driver.specs.Waits.{Polls}
 use Rattle.nor_driver.specs.Operations.{SendsOperation}
 
--- Holds if exactly `polls` polls were added to the history `old`, and each of them showed BUSY.
 pub record PollsBusy (old new : List Exchange) (polls : ℕ) : Type 0 where
   pub busy : List ℕ
   pub each : All (λ status. status % 2 ≡ 1) busy

@@ -30,7 +30,6 @@ reads_sfdp old new x y z at len answer named long replies = record {
       (λ i below. replies.replied honest i below ∙ rw (idle, named) refl);
 }
 
--- The chip takes addresses modulo its size, which changes no address of a sector that lies on the chip.
 address_in_sector : (size at sector i : ℕ) → at ≡ 4096 * sector → 4096 * (sector + 1) ≤ size → i < 4096
     → (at % size + i) % size ≡ 4096 * sector + i
 address_in_sector size at sector i names inside small =

@@ -8,7 +8,6 @@ use Rattle.nor_model.specs.Bus.{BusState, SameNature, KeepsNature, Records}
 use Rattle.nor_model.proofs.Nature.{nature_by}
 use Rattle.nor_model.proofs.RecordedSent.{records_sent}
 
--- The effect of one transaction on every bus. `RecordsSent` says what was added to the list `sent`.
 pub record Sends (out : List ℕ) (old new : BusState) : Type 0 where
   pub nature : KeepsNature old new
   pub sent : RecordsSent out old.sent new.sent

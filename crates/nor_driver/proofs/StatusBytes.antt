@@ -20,7 +20,6 @@ use Rattle.nor_driver.specs.StatusWrites.{fixed_of, with_code, is_status_with_co
 use Rattle.nor_driver.proofs.Limits.{in_none}
 use Rattle.nor_driver.proofs.Taken.{IsFor, asked_at, leaves_as, does_as}
 
--- The non-volatile bits of status 2 after a status write that sends `sent` as its second byte.
 abbrev written : ℕ → ℕ → ℕ
 written kept sent = bit_or (bit_and sent 0b1000011) (bit_or (bit_and kept 0b0111100) (bit_and sent 0b0111000))
 

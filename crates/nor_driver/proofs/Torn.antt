@@ -43,7 +43,7 @@ lost_stays : (old new : BusState) → old.steady ≡ false → PowerLost old.chi
     → ((s : ℕ) → new.worn s ≡ old.worn s) → KeepsChip old new
 lost_stays old new unsteady lost worn = grind (arith, lost.bytes, worn)
 
--- The state `old`, but with the chip as the bytes sent before the stop left it, before a possible power failure.
+-- The state `old` after the effect of the bytes that were sent before the stop, and before a possible power failure.
 abbrev pub reached : (out : List ℕ) (old new : BusState) → AtStop out old new → BusState
 reached out old new cut = record old { chip = cut.reached; worn = new.worn }
 

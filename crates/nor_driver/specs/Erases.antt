@@ -14,7 +14,6 @@ use Rattle.nor_driver.specs.Operations.{ChangesOnly, HasEnded, ChipOperation}
 abbrev pub sectors_of : Chip → ℕ
 sectors_of chip = chip.config.size / 4096
 
--- the length in bytes of the block that `erase` erases on `chip`
 abbrev pub block_length : Chip → Erase → ℕ
 block_length chip erase = 4096 * sectors_in (sectors_of chip) erase.unit
 
@@ -22,7 +21,6 @@ pub record IsOnChip (erase : Erase) (chip : Chip) : Type 0 where
   pub aligned : is_aligned erase.unit erase.sector ≡ true
   pub within : erase.sector + sectors_in (sectors_of chip) erase.unit ≤ sectors_of chip
 
--- Holds if `chip` is idle and can carry out `erase` after a write enable.
 pub record CanErase (erase : Erase) (chip : Chip) : Type 0 where
   pub on_chip : IsOnChip erase chip
   pub idle : chip.busy ≡ 0
@@ -41,7 +39,8 @@ is_sector_in_block erase chip s = erases_sector (sectors_of chip) s erase
 abbrev pub is_address_in_block : Erase → Chip → ℕ → Bool
 is_address_in_block erase chip a = is_sector_in_block erase chip (a / 4096)
 
--- True if the command of `erase` addresses a block with the sector `s`. C7h, without an address, addresses every block.
+-- True if the command of `erase` targets the sector `s`. C7h, which has no address, targets all 4,096 sectors, even
+-- those past the end of the chip.
 abbrev pub is_sector_named : Erase → ℕ → Bool
 is_sector_named erase s = is_in_targeted (block_targeted (sectors_in 4096 erase.unit) erase.sector) s
 
@@ -54,13 +53,11 @@ pub record MayErase (erase : Erase) (old new : BusState) : Type 0 where
   pub runs : new.chip.busy ≢ 0 → new.chip.running ≡ Runs.Erase (4096 * erase.sector) (block_length old.chip erase)
   pub worn : (s : ℕ) → is_sector_in_block erase old.chip s ≡ false → new.worn s ≡ old.worn s
 
--- The effect, on a well-behaved bus, of an erase that the chip carried out and that has ended.
 abbrev pub HasErased : Erase → (old new : BusState) → Type 0
 HasErased erase old =
     HasEnded (λ a. if is_address_in_block erase old.chip a then 255 else old.chip.bytes a) old.chip.kept
     (λ s. old.worn s || is_sector_in_block erase old.chip s) old
 
--- The operation that performs `erase`. A chip on which the block lies ignores it if `takes_erase` is false.
 abbrev pub block_erase : Erase → ChipOperation
 block_erase erase = record {
   limits = erasing (is_sector_named erase) 1;
@@ -70,7 +67,6 @@ block_erase erase = record {
   has = HasErased erase;
 }
 
--- Holds if a write enable and this erase are the only transactions since `old` that may modify a chip.
 pub record SendsErase (erase : Erase) (old new : BusState) : Type 0 where
   pub out : List ℕ
   pub added : new.sent ≡ out ∷ (0x06 ∷ []) ∷ old.sent

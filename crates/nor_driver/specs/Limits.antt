@@ -29,7 +29,6 @@ programming sectors n = record { sectors = sectors; status = no_status; erases =
 abbrev pub writing : (status : (one two : ℕ) → Bool) → (n : ℕ) → Limits
 writing status n = record { sectors = no_sector; status = status; erases = 0; programs = 0; status_writes = n }
 
--- the limits that one transaction, which sends the bytes `out`, needs
 abbrev pub limits_of : (out : List ℕ) → Limits
 limits_of out = record {
   sectors = targets out;
@@ -39,8 +38,6 @@ limits_of out = record {
   status_writes = if begins_status_write out then 1 else 0;
 }
 
--- Holds if what was sent from `old` to `new` is within `limits`. A transaction that the model doesn't know was sent
--- only if one had been sent before `old` too.
 pub record SendsWithin (limits : Limits) (old new : BusState) : Type 0 where
   pub targeted : (s : ℕ) → (is_targeted new.sent s ≡ is_targeted old.sent s) ⊎ (limits.sectors s ≡ true)
   pub written : (one two : ℕ)
@@ -50,8 +47,6 @@ pub record SendsWithin (limits : Limits) (old new : BusState) : Type 0 where
   pub status_writes : status_writes_of new.sent ≤ status_writes_of old.sent + limits.status_writes
   pub unknown : has_unknown new.sent ≡ has_unknown old.sent
 
--- Holds if, since `old`, the bus was asked to send exactly these numbers of erases, page programs and status writes,
--- counted by their opcodes.
 pub record SendsExactly (erases programs status_writes : ℕ) (old new : BusState) : Type 0 where
   pub later : Sent
   pub added : new.sent ≡ later ++ old.sent

@@ -9,8 +9,7 @@ use Rattle.nor_model.specs.Bus.{BusState, KeepsNature}
 abbrev pub IsSteadyOrIdle : BusState → Type 0
 IsSteadyOrIdle state = (state.steady ≡ true) ⊎ (state.chip.busy ≡ 0)
 
--- The effect, on a well-behaved bus, of a call that neither began nor interrupted an operation. The number of polls
--- that will still show BUSY did not grow.
+-- The effect, on a well-behaved bus, of a call that neither began nor interrupted an operation.
 pub record Unchanged (old new : BusState) : Type 0 where
   pub same : IsSame old.chip new.chip
   pub running : new.chip.running ≡ old.chip.running
@@ -35,40 +34,33 @@ pub record Rested (old new : BusState) : Type 0 where
   pub latch : new.chip.latch ≡ true → old.chip.latch ≡ true
   pub idle_latch : old.chip.busy ≡ 0 → new.chip.latch ≡ old.chip.latch
 
--- Holds if a punctual bus carried out exactly `transactions` transactions between `old` and `new`.
 abbrev pub Spent : (transactions : ℕ) → (old new : BusState) → Type 0
 Spent transactions old new = old.punctual ≡ true → old.left ≡ new.left + transactions
 
--- Holds if the number of transactions that are left did not grow, and fell by at most `most`.
 pub record HasFallen (most : ℕ) (old new : BusState) : Type 0 where
   pub fell : new.left ≤ old.left
   pub bound : old.left ≤ new.left + most
 
--- Holds if a punctual bus carried out at most `most` transactions between `old` and `new`.
 abbrev pub Falls : (most : ℕ) → (old new : BusState) → Type 0
 Falls most old new = old.punctual ≡ true → HasFallen most old new
 
--- The effect, on a well-behaved bus and at every exit, of a call that only reads, with at most `most` transactions on a
--- punctual bus. The write enable latch stays as it was if the chip was idle and the bus is steady.
+-- The effect, on a well-behaved bus and at every exit, of a call that only reads.
 pub record OnlyReadsHonest (most : ℕ) (old new : BusState) : Type 0 where
   pub stays : KeepsChip old new
   pub latch : new.chip.latch ≡ true → old.chip.latch ≡ true
   pub idle_latch : old.steady ≡ true → old.chip.busy ≡ 0 → new.chip.latch ≡ old.chip.latch
   pub falls : Falls most old new
 
--- Holds at every exit of a call that only reads: the bus was asked to send nothing that may modify a chip, and a
--- punctual bus carried out at most `most` transactions.
+-- Holds at every exit of a call that only reads, in which a punctual bus carries out at most `most` transactions.
 pub record OnlyReads (most : ℕ) (old new : BusState) : Type 0 where
   pub nature : KeepsNature old new
   pub sent : new.sent ≡ old.sent
   pub honest_reads : old.honest ≡ true → OnlyReadsHonest most old new
 
--- Holds if fewer than `needed` transactions were left before a call, and all of these were carried out.
 pub record HasRunOut (needed : ℕ) (old new : BusState) : Type 0 where
   pub none_left : new.left ≡ 0
   pub below : old.left < needed
 
--- Holds if a call on a punctual bus stopped because fewer than `needed` transactions were left.
 abbrev pub RanOut : (needed : ℕ) → (old new : BusState) → Type 0
 RanOut needed old new = old.punctual ≡ true → HasRunOut needed old new
 
@@ -77,7 +69,6 @@ pub record HasStopped (needed : ℕ) (old new : BusState) : Type 0 where
   pub last : EndsStopped new.history
   pub ran_out : old.honest ≡ true → RanOut needed old new
 
--- Holds if the bus is well-behaved, and its chip is idle and has `size` bytes.
 pub record IsOpen (size : ℕ) (state : BusState) : Type 0 where
   pub honest : state.honest ≡ true
   pub idle : state.chip.busy ≡ 0

@@ -19,11 +19,9 @@ use Rattle.nor_driver.specs.Limits.{Limits, limits_of, SendsExactly, Leaves}
 abbrev pub most_operation : ℕ
 most_operation = 65538
 
--- holds if the first three bytes of `bytes` are the address `at`, high byte first
 abbrev pub BytesNameAddress : ℕ → List ℕ → Type 0
 BytesNameAddress at bytes = 65536 * slice_index bytes 0 + 256 * slice_index bytes 1 + slice_index bytes 2 ≡ at
 
--- holds if `command` is `opcode`, the three bytes of the address `at` (high byte first), and the data `sent`
 abbrev pub IsCommandAt : (opcode at : ℕ) → (sent command : List ℕ) → Type 0
 IsCommandAt opcode at sent command =
     (x : ℕ) × (y : ℕ) × (z : ℕ) × (65536 * x + 256 * y + z ≡ at) × (command ≡ opcode ∷ x ∷ y ∷ z ∷ sent)
@@ -56,8 +54,6 @@ pub record HasIgnored (old new : BusState) : Type 0 where
   pub worn : (s : ℕ) → new.worn s ≡ old.worn s
   pub latch : new.chip.latch ≡ is_idle old.chip
 
--- Holds if exactly the `sent` transactions of an operation were sent: a write enable, the command, and polls. Only the
--- last poll showed that the chip is ready.
 pub record SendsOperation (old new : BusState) (sent : ℕ) : Type 0 where
   pub command : List ℕ
   pub waited : Waited
@@ -65,8 +61,6 @@ pub record SendsOperation (old new : BusState) (sent : ℕ) : Type 0 where
   pub history : PollsUntilReady (replied command [] ∷ replied (0x06 ∷ []) [] ∷ old.history) new.history waited
   pub count : sent ≡ waited.polls + 2
 
--- Holds if an operation succeeded with `sent` transactions, from 3 to 65,538. On a well-behaved bus the chip is then
--- idle.
 pub record EndsWaiting (old new : BusState) (sent : ℕ) : Type 0 where
   pub sends : SendsOperation old new sent
   pub least : 3 ≤ sent
@@ -90,7 +84,6 @@ pub record MayOperate (command : Command) (sent : List ℕ) (old new : BusState)
   pub runs : new.chip.busy ≢ 0 → new.chip.running ≡ running_after old.chip command
   pub worn : (s : ℕ) → wears command s ≡ false → new.worn s ≡ old.worn s
 
--- Holds if an operation on a well-behaved bus has ended with these bytes, non-volatile bits and erased sectors.
 pub record HasEnded (content : ℕ → ℕ) (bits : KeptBits) (erased : ℕ → Bool) (old new : BusState) : Type 0 where
   pub config : new.chip.config ≡ old.chip.config
   pub bytes : (a : ℕ) → new.chip.bytes a ≡ content a
@@ -98,14 +91,13 @@ pub record HasEnded (content : ℕ → ℕ) (bits : KeptBits) (erased : ℕ → 
   pub worn : (s : ℕ) → new.worn s ≡ erased s
   pub latch : new.chip.latch ≡ false
 
--- The effect, on a well-behaved bus, of an operation that an idle chip carried out and that has ended.
 abbrev pub HasOperated : Command → (sent : List ℕ) → (old new : BusState) → Type 0
 HasOperated command sent old =
     HasEnded (byte_after old.chip command sent) (kept_after old.chip command) (λ s. old.worn s || wears command s) old
 
 -- An operation. A chip carries it out if `can` holds for the chip, and ignores it if `ignores` holds. If `can` held on
--- a well-behaved bus, `may` relates the states before the operation and at every exit, `has` those before and after
--- success.
+-- a well-behaved bus, `may` holds for the states before the operation and at every exit, and `has` for the states
+-- before the operation and after its success.
 pub record ChipOperation : Type 1 where
   pub limits : Limits
   pub can : Chip → Type 0
@@ -113,22 +105,19 @@ pub record ChipOperation : Type 1 where
   pub may : (old new : BusState) → Type 0
   pub has : (old new : BusState) → Type 0
 
--- The effect of `operation` at every exit. The bus has been asked to send a modifying command, in this call or before
--- it. On a well-behaved bus whose chip ignores the operation, `KeepsChip` holds.
+-- The effect of `operation` at every exit.
 pub record LeavesOperation (operation : ChipOperation) (old new : BusState) : Type 0 where
   pub leaves : Leaves most_operation operation.limits operation.can operation.may old new
   pub stirred : is_stirred new.sent ≡ true
   pub ignored : old.honest ≡ true → operation.ignores old.chip → KeepsChip old new
 
--- The effect of `operation` if it succeeded with `sent` transactions. The numbers of erases, page programs and status
--- writes that were sent are exactly those of its limits.
+-- The effect of `operation` if it succeeded with `sent` transactions.
 pub record Operates (operation : ChipOperation) (old new : BusState) (sent : ℕ) : Type 0 where
   pub ends : EndsWaiting old new sent
   pub sends : SendsExactly operation.limits.erases operation.limits.programs operation.limits.status_writes old new
   pub done : old.honest ≡ true → operation.can old.chip → operation.has old new
   pub ignored : old.honest ≡ true → operation.ignores old.chip → HasIgnored old new
 
--- the operation that sends the bytes `out` as its command
 abbrev pub command_operation : (out : List ℕ) → ChipOperation
 command_operation out = record {
   limits = limits_of out;

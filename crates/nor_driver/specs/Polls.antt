@@ -16,8 +16,6 @@ busy_polls history = count_by is_busy_poll history
 abbrev pub poll_of : (status : ℕ) → Exchange
 poll_of status = replied (0x05 ∷ []) (status ∷ [])
 
--- Holds if exactly the polls of `waited` were added to the history `old`. Only the last one showed that the chip is
--- ready.
 pub record PollsUntilReady (old new : List Exchange) (waited : Waited) : Type 0 where
   -- The bytes that the polls before the last one received, the latest first.
   pub busy : List ℕ

@@ -9,7 +9,6 @@ use Rattle.nor_model.specs.Bus.{BusState}
 use Rattle.nor_driver.specs.Limits.{programming}
 use Rattle.nor_driver.specs.Operations.{ChangesOnly, HasEnded, ChipOperation}
 
--- Holds if `chip` can carry out a program of `len` bytes at the address `at`.
 pub record CanProgram (at len : ℕ) (chip : Chip) : Type 0 where
   pub idle : chip.busy ≡ 0
   pub inside : at + len ≤ chip.config.size
@@ -19,8 +18,6 @@ pub record CanProgram (at len : ℕ) (chip : Chip) : Type 0 where
 abbrev pub takes_program : Chip → ℕ → Bool
 takes_program chip at = is_idle chip && not (is_protected chip at)
 
--- The byte at the address `a` after `sent` was programmed within one page from the address `at` on: the old byte ANDed
--- with the byte of `sent` for `a`, if there is one.
 abbrev pub programmed : ℕ → List ℕ → (ℕ → ℕ) → ℕ → ℕ
 programmed at sent old a =
     if nat_le at a && nat_lt a (at + length sent) then bit_and (old a) (slice_index sent (a - at)) else old a
@@ -40,11 +37,9 @@ pub record MayProgram (at : ℕ) (sent : List ℕ) (old new : BusState) : Type 0
   pub runs : new.chip.busy ≢ 0 → new.chip.running ≡ Runs.Program (at / 256)
   pub worn : (s : ℕ) → new.worn s ≡ old.worn s
 
--- The effect, on a well-behaved bus, of a program that the chip carried out and that has ended.
 abbrev pub HasProgrammed : (at : ℕ) → (sent : List ℕ) → (old new : BusState) → Type 0
 HasProgrammed at sent old = HasEnded (programmed at sent old.chip.bytes) old.chip.kept old.worn old
 
--- The operation that programs `sent` from the address `at` on. A chip ignores it if `takes_program` is false.
 abbrev pub page_program : (at : ℕ) → (sent : List ℕ) → ChipOperation
 page_program at sent = record {
   limits = programming (is_sector_of at) 1;

@@ -8,29 +8,24 @@ use Rattle.nor_model.specs.History.{Continues, last_reply, names}
 abbrev pub sector_read : List Exchange → (a : ℕ) → List ℕ
 sector_read history a = last_reply (names 0x03 (4096 * (a / 4096))) history
 
--- The byte of the address `a` in the last reply to a read of its sector, or 0 if the reply doesn't reach the address.
 abbrev pub bytes_read : List Exchange → (a : ℕ) → ℕ
 bytes_read history a = slice_index (sector_read history a) (a % 4096)
 
--- Holds if the transaction was a read (03h), of any length, from the start of a sector, and the bus didn't stop at it.
 pub record IsSectorRead (exchange : Exchange) : Type 0 where
   pub sector : ℕ
   pub bytes : List ℕ
   pub reads : names 0x03 (4096 * sector) exchange.out ≡ true
   pub replied : exchange.reply ≡ Some bytes
 
--- Holds if `new` is the history `old`, followed only by reads of sectors.
 pub record AddsSectorReads (old new : List Exchange) : Type 0 where
   pub later : List Exchange
   pub is : new ≡ later ++ old
   pub each : All IsSectorRead later
 
--- Holds if the last reply to a read of the sector of `a` has 4,096 bytes, with `byte` at the address `a`.
 pub record IsReadAs (byte : ℕ) (history : List Exchange) (a : ℕ) : Type 0 where
   pub whole : length (sector_read history a) ≡ 4096
   pub same : bytes_read history a ≡ byte
 
--- Holds if the sector of each of these addresses was read after `old`, and the last reply to its read has 4,096 bytes.
 pub record HaveBeenRead (Addresses : (a : ℕ) → Type 0) (old new : List Exchange) : Type 0 where
   pub later : List Exchange
   pub is : new ≡ later ++ old
@@ -50,12 +45,10 @@ pub record ReadsOther (addresses : ℕ → Bool) (target : ℕ → ℕ) (address
   pub differs : bytes_read reads.later address ≢ target address
   pub before : (a : ℕ) → a < address → addresses a ≡ true → IsReadAs (target a) reads.later a
 
--- Holds if the history `new` continues `old` and ends with reads of sectors that satisfy `ReadsBack`.
 abbrev pub EndsReadBack : (addresses : ℕ → Bool) → (target : ℕ → ℕ) → (old new : List Exchange) → Type 0
 EndsReadBack addresses target old new =
     (before : List Exchange) × Continues old before × ReadsBack addresses target before new
 
--- Holds if the history `new` continues `old` and ends with reads of sectors that satisfy `ReadsOther`.
 abbrev pub EndsReadOther : (addresses : ℕ → Bool) → (target : ℕ → ℕ) → (address : ℕ) → (old new : List Exchange)
     → Type 0
 EndsReadOther addresses target address old new =

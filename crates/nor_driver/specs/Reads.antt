@@ -21,20 +21,17 @@ changes_nothing ReadUnique = true
 changes_nothing Ignored = true
 changes_nothing _ = false
 
--- Holds if the bytes `out` ask every chip only for a read other than a poll, or for nothing.
 pub record IsReading (out : List ℕ) : Type 0 where
   pub short : length out ≤ 260
   pub quiet : begins_quiet out ≡ true
   pub reading : (config : Config) (replies : ℕ) → changes_nothing (command_of config out replies) ≡ true
 
--- The effect, on a well-behaved bus, of one read that was carried out: the chip is exactly as it was.
 pub record HasRead (old new : BusState) : Type 0 where
   pub rested : Rested old new
   pub busy : new.chip.busy ≡ old.chip.busy
   pub latch : new.chip.latch ≡ old.chip.latch
   pub count : Spent 1 old new
 
--- Holds if the bus sent `out`, which only reads, and received `reply`. On a well-behaved bus this is the chip's reply.
 pub record Replies (out : List ℕ) (old new : BusState) (reply : List ℕ) : Type 0 where
   pub history : new.history ≡ replied out reply ∷ old.history
   pub read : old.honest ≡ true → HasRead old new
@@ -53,37 +50,29 @@ unique_of config = map (λ (i : ℕ). slice_index_or config.unique i 255) (0 ∷
 unfoldable pub shown : Config → (at len : ℕ) → List ℕ
 shown config at len = map (sfdp_byte config) (range_with_len (at % config.size) len)
 
--- Holds if the first 4,096 bytes of `bytes` are those of `content` in the sector with the number `sector`.
 pub record IsSectorOf (content : ℕ → ℕ) (sector : ℕ) (bytes : List ℕ) : Type 0 where
   pub byte : (i : ℕ) → i < 4096 → slice_index bytes i ≡ content (4096 * sector + i)
 
--- Holds if a read of the ID succeeded with the reply `id`. On a well-behaved bus it is the chip's ID if the chip was
--- idle.
 pub record ReadsId (old new : BusState) (id : List ℕ) : Type 0 where
   pub answered : Answered (begins_with 0x9F) old.history new.history id
   pub read : old.honest ≡ true → HasRead old new
   pub replied : old.honest ≡ true → old.chip.busy ≡ 0 → id ≡ id_of old.chip.config
 
--- Holds if a read of status 2 succeeded with the reply `status2`. On a well-behaved bus it is the chip's status 2.
 pub record ReadsStatus2 (old new : BusState) (status2 : ℕ) : Type 0 where
   pub answered : Answered (begins_with 0x35) old.history new.history (status2 ∷ [])
   pub read : old.honest ≡ true → HasRead old new
   pub replied : old.honest ≡ true → status2 ≡ old.chip.kept.two
 
--- Holds if a read of the unique ID succeeded. On a well-behaved bus `unique` is the chip's if the chip was idle.
 pub record ReadsUnique (old new : BusState) (unique : List ℕ) : Type 0 where
   pub answered : Answered (begins_with 0x4B) old.history new.history unique
   pub read : old.honest ≡ true → HasRead old new
   pub replied : old.honest ≡ true → old.chip.busy ≡ 0 → unique ≡ unique_of old.chip.config
 
--- Holds if a read of SFDP bytes succeeded. On a well-behaved bus `bytes` are the chip's if the chip was idle.
 pub record ReadsSfdp (at len : ℕ) (old new : BusState) (bytes : List ℕ) : Type 0 where
   pub answered : Answered (names 0x5A at) old.history new.history bytes
   pub read : old.honest ≡ true → HasRead old new
   pub replied : old.honest ≡ true → old.chip.busy ≡ 0 → bytes ≡ shown old.chip.config at len
 
--- Holds if a read from the start of `sector` succeeded. On a well-behaved bus the first 4,096 bytes of the reply
--- `bytes` are the chip's if the chip was idle and has the sector.
 pub record ReadsSector (sector : ℕ) (old new : BusState) (bytes : List ℕ) : Type 0 where
   pub answered : Answered (names 0x03 (4096 * sector)) old.history new.history bytes
   pub read : old.honest ≡ true → HasRead old new

@@ -9,7 +9,7 @@ use Rattle.nor_model.specs.Bus.{BusState}
 use Rattle.nor_driver.specs.Limits.{writing}
 use Rattle.nor_driver.specs.Operations.{HasEnded, ChipOperation}
 
--- the bits of `kept` that flashnor never changes: all non-volatile bits except the protection bits
+-- the non-volatile bits other than the protection bits: SRP0, and the bits from LB3 down to SRP1
 abbrev pub fixed_of : KeptBits → ℕ × ℕ
 fixed_of kept = (srp0_bit kept, lb3_to_srp1 kept)
 
@@ -19,14 +19,12 @@ cmp_of code = code / 32
 abbrev pub sec_to_bp0_of : (code : ℕ) → ℕ
 sec_to_bp0_of code = code % 32
 
--- the non-volatile bits `kept`, with their protection bits replaced by `code`
 abbrev pub with_code : (code : ℕ) → KeptBits → KeptBits
 with_code code kept = record {
   one = 32 * srp0_bit kept + sec_to_bp0_of code;
   two = 64 * cmp_of code + lb3_to_srp1 kept;
 }
 
--- True if the bytes `one` and `two` of a status write are `status` with its protection bits replaced by `code`.
 abbrev pub is_status_with_code : Status → (code one two : ℕ) → Bool
 is_status_with_code status code one two =
     one == 128 * (status.one.0 / 128) + 4 * (code % 32) && two == status.two.0 % 64 + 64 * (code / 32)
@@ -36,12 +34,10 @@ pub record CanWriteStatus (status : Status) (chip : Chip) : Type 0 where
   pub open_to : is_locked chip.kept ≡ false
   pub fixed : fixed_of chip.kept ≡ fixed_of (kept_in (bytes_of status))
 
--- true if `chip` carries out a status write after a write enable: it is idle and its status isn't locked
 abbrev pub takes_status : Chip → Bool
 takes_status chip = is_idle chip && not (is_locked chip.kept)
 
--- The effect, on a well-behaved bus and at every exit, of a status write that the chip can carry out. Only the
--- protection bits may have changed, to `code`.
+-- The effect, on a well-behaved bus and at every exit, of a status write that the chip can carry out.
 pub record MayWriteStatus (code : ℕ) (old new : BusState) : Type 0 where
   pub config : new.chip.config ≡ old.chip.config
   pub bytes : (a : ℕ) → new.chip.bytes a ≡ old.chip.bytes a
@@ -49,11 +45,9 @@ pub record MayWriteStatus (code : ℕ) (old new : BusState) : Type 0 where
   pub runs : new.chip.busy ≢ 0 → new.chip.running ≡ Runs.StatusWrite old.chip.kept.one old.chip.kept.two
   pub worn : (s : ℕ) → new.worn s ≡ old.worn s
 
--- The effect, on a well-behaved bus, of a status write that the chip carried out and that has ended.
 abbrev pub HasWrittenStatus : (code : ℕ) → (old new : BusState) → Type 0
 HasWrittenStatus code old = HasEnded old.chip.bytes (with_code code old.chip.kept) old.worn old
 
--- The operation that writes `code` and all other bits as in `status`. A chip ignores it if `takes_status` is false.
 abbrev pub status_write : Status → (code : ℕ) → ChipOperation
 status_write status code = record {
   limits = writing (is_status_with_code status code) 1;

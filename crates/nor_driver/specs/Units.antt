@@ -24,14 +24,12 @@ has_block config Block32 = config.kinds.k32
 has_block config Block64 = config.kinds.k64
 has_block config Chip = true
 
--- True if a block of this kind may begin at `sector`: at a multiple of its size, and the whole chip only at 0.
 abbrev pub is_aligned : EraseBlock → (sector : ℕ) → Bool
 is_aligned Sector sector = true
 is_aligned Block32 sector = sector % 8 == 0
 is_aligned Block64 sector = sector % 16 == 0
 is_aligned Chip sector = sector == 0
 
--- true if, on a chip with `total` sectors, the sector with the number `sector` is in the block of `erase`
 abbrev pub erases_sector : (total sector : ℕ) → Erase → Bool
 erases_sector total sector erase =
     nat_le erase.sector sector && nat_lt sector (erase.sector + sectors_in total erase.unit)

@@ -11,8 +11,7 @@ use Rattle.nor_driver.specs.declared.waits.Waited.{Waited}
 use Rattle.nor_driver.specs.OnlyReads.{Rested, Spent, RanOut}
 use Rattle.nor_driver.specs.Polls.{PollsUntilReady}
 
--- The effect, on a well-behaved bus, of one poll: `status` is status 1 before it. A busy chip will show BUSY in one
--- poll fewer, and the poll that shows the last BUSY clears the write enable latch.
+-- The effect, on a well-behaved bus, of one poll. `status` is status 1 before the poll.
 pub record HasPolled (old new : BusState) (status : ℕ) : Type 0 where
   pub rested : Rested old new
   pub status1 : status ≡ status1_of old.chip
@@ -20,7 +19,6 @@ pub record HasPolled (old new : BusState) (status : ℕ) : Type 0 where
   pub latch : new.chip.latch ≡ (if old.chip.busy == 1 then false else old.chip.latch)
   pub count : Spent 1 old new
 
--- Holds if a poll succeeded and received `status`.
 pub record Polls (old new : BusState) (status : ℕ) : Type 0 where
   pub history : new.history ≡ replied (0x05 ∷ []) (status ∷ []) ∷ old.history
   pub done : old.honest ≡ true → HasPolled old new status
@@ -29,7 +27,6 @@ pub record Polls (old new : BusState) (status : ℕ) : Type 0 where
 abbrev pub latch_when_idle : Chip → Bool
 latch_when_idle chip = if chip.busy == 0 then chip.latch else false
 
--- The effect, on a well-behaved bus, of a wait that succeeded with `old.chip.busy + 1` polls.
 pub record HasWaited (old new : BusState) (waited : Waited) : Type 0 where
   pub rested : Rested old new
   pub idle : new.chip.busy ≡ 0
@@ -38,8 +35,6 @@ pub record HasWaited (old new : BusState) (waited : Waited) : Type 0 where
   pub polls : waited.polls ≡ old.chip.busy + 1
   pub count : Spent waited.polls old new
 
--- Holds if a wait succeeded, with 1 to 65,536 polls. The last replies to all other transactions are as before
--- (`keeps_other_replies`).
 pub record Waits (old new : BusState) (waited : Waited) : Type 0 where
   pub history : PollsUntilReady old.history new.history waited
   pub keeps_other_replies : KeepsReplies is_poll old.history new.history
@@ -50,12 +45,10 @@ pub record Waits (old new : BusState) (waited : Waited) : Type 0 where
   pub polled_ready : new.polled_ready ≡ true
   pub done : old.honest ≡ true → HasWaited old new waited
 
--- holds if the error is `Stopped`, or a timeout that contains the address `at`
 abbrev pub NamesTimeout : ℕ → OperationError → Type 0
 NamesTimeout at Stopped = ⊤
 NamesTimeout at (Timeout address) = address ≡ at
 
--- Holds if the last transaction in `history` caused the error: for `Timeout`, a poll that showed BUSY.
 abbrev pub EndsAt : OperationError → List Exchange → Type 0
 EndsAt Stopped history = EndsStopped history
 EndsAt (Timeout address) history = EndsBusy history
@@ -67,7 +60,6 @@ pub record OperationFails (needed : ℕ) (old new : BusState) (error : Operation
   pub stopped : old.honest ≡ true → error ≡ Stopped
   pub ran_out : old.honest ≡ true → RanOut needed old new
 
--- Holds if a wait returned `error`. A timeout contains the address `at`. On a well-behaved bus the error is `Stopped`.
 pub record WaitFails (at : ℕ) (old new : BusState) (error : OperationError) : Type 0 where
   pub names : NamesTimeout at error
   pub fails : OperationFails 65536 old new error

@@ -1,6 +1,6 @@
 //! Sends commands to a flash chip, over any bus. The crate has one function for each kind of read, one for a poll, one
 //! for a wait, and one for each operation. A function for an operation sends a write enable and the command, and waits
-//! until the chip is ready. The other crates of the engine send commands only through these functions.
+//! until the chip is ready.
 //!
 //! ```rust
 //! use nor_chip::{Config, Delays, Meter, SimBus};
@@ -18,11 +18,6 @@
 //! read_sector(&mut bus, 0, &mut sector)?;
 //! assert_eq!(rt; sector[0x100], 0xA5);
 //! ```
-//!
-//! - `waits.rt`: polls, and waits until the chip is ready
-//! - `reads.rt`: reads the ID, status 2, the unique ID, SFDP bytes and sectors
-//! - `operations.rt`: programs, erases and status writes
-//! - `units.rt`: the types `EraseBlock` and `Erase`
 #![tactic(auto)]
 
 mod operations;

@@ -34,7 +34,6 @@ impl EraseBlock {
 /// An erase of one block.
 #[derive(Clone, Copy, Debug, PartialEq, Eq)]
 pub struct Erase {
-    /// The kind of block.
     pub unit: EraseBlock,
     /// The number of the first sector of the block.
     pub sector: u16,

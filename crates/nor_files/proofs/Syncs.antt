@@ -10,7 +10,6 @@ use Rattle.nor_files.specs.Stored.{File, FilePlaces, FileSyncs, MayBe, MayLeave,
 use Rattle.nor_files.specs.declared.stored.Stored.{Stored}
 use Rattle.nor_files.proofs.Places.{IsUpdated}
 
--- Holds if the file is as it was. A host crash can leave only what it could leave before.
 pub record FileStays (old new : File) : Type 0 where
   pub out : new.out ≡ old.out
   pub seen : new.seen ≡ old.seen

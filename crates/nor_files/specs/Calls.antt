@@ -9,7 +9,6 @@ use Rattle.nor_files.specs.Files.{AllStay, FilesState, Found, IsKnownFile, IsDur
 abbrev pub ReadsFile : Name → ℕ → Found → View → Type 0
 ReadsFile name most found view = IsKnownFile name view → found ≡ option_map (take most) (view.seen name)
 
--- The effect of a successful call: the number of calls that can still succeed is one less.
 pub record Succeeds (old new : FilesState) : Type 0 where
   pub left : old.left ≡ new.left + 1
 
@@ -87,7 +86,6 @@ LeavesMixes name bytes old new = (left : Found) → new.may_leave name left → 
 abbrev pub written_over : List ℕ → List ℕ → List ℕ
 written_over bytes had = bytes ++ drop (length bytes) had
 
--- the first `len` bytes of `had`, with zeros appended if it is shorter
 abbrev pub with_length : ℕ → List ℕ → List ℕ
 with_length len had = take len had ++ replicate (len - length had) 0
 
@@ -105,7 +103,6 @@ pub record SetsLength {T E : Type 0} (name : Name) (len : ℕ) (result : Result 
   pub leaves : (left : Found) → new.may_leave name left → old.may_leave name left
       ⊎ ((had : List ℕ) × old.may_leave name (Some had) × (left ≡ Some (with_length len had)))
 
--- The effect of creating a file that was missing, which is then empty.
 pub record IsCreated (name : Name) (old new : FilesState) : Type 0 where
   pub missing : old.view.seen name ≡ None
   pub seen : new.view.seen name ≡ Some []
@@ -115,7 +112,6 @@ abbrev pub Creates : {T E : Type 0} → Name → Result T E → (old new : Files
 Creates name (Ok _) old new = IsCreated name old new
 Creates name (Err _) old new = KeepsFile name old new
 
--- The effect of lending a vault in the file.
 pub record Borrows (name : Name) (old new : FilesState) : Type 0 where
   pub succeeds : Succeeds old new
   pub borrowed : new.borrowed ≡ Some name

@@ -7,13 +7,11 @@ use Rattle.nor_files.specs.declared.store.LockFault.TheVariants as fault
 use Rattle.nor_files.specs.declared.store.CreateFault.{CreateFault}
 use Rattle.nor_files.specs.declared.store.CreateFault.TheVariants as make
 
--- Holds if a store of this nature may return the error when it opens and locks the file.
 abbrev pub IsLockFault : Nature → Name → LockFault → Type 0
 IsLockFault nature name (fault.Unread error) = nature.fails (Unread name) ≡ true
 IsLockFault nature name fault.Unheld = nature.fails (Unheld name) ≡ true
 IsLockFault nature name fault.Busy = nature.fails (Busy name) ≡ true
 
--- Holds if a store of this nature may return the error when it creates or truncates the file.
 abbrev pub IsCreateFault : Nature → Name → CreateFault → Type 0
 IsCreateFault nature name make.There = nature.fails (There name) ≡ true
 IsCreateFault nature name make.Busy = nature.fails (Busy name) ≡ true

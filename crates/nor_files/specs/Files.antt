@@ -15,7 +15,6 @@ pub data Failure : Type 0 where
   Unread : Name → Failure
   -- a file or link of this name exists, but can't be opened for overwriting, or can't be locked
   Unheld : Name → Failure
-  -- another process has locked the file
   Busy : Name → Failure
   -- the file can't be created, read, truncated or locked for a vault or log, or its directory can't be synced
   Unmade : Name → Failure
@@ -25,7 +24,6 @@ pub data Failure : Type 0 where
   -- run would not find what was written: the name refers to another file, or the file has another length (`still_has`)
   -- or lost the vault that was sealed in it (`is_kept`).
   Unwritten : Name → Failure
-  -- both names refer to one file
   Shared : Name → Name → Failure
   -- the file is a regular file to which the program prints
   Printed : Name → Failure
@@ -48,7 +46,6 @@ pub record View : Type 0 where
   -- the result of a read of the file of this name
   pub seen : Name → Found
 
--- The files, as contracts see them.
 pub record FilesState : Type 1 where
   pub view : View
   -- The greatest number of calls that can still succeed, counting `hold`, `sync`, `sync_folder`, `write_over`,

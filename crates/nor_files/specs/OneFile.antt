@@ -7,7 +7,6 @@ use Rattle.nor_files.specs.Files.Failure.{Shared}
 abbrev pub MayBeOneFile : Nature → (one other : Name) → Type 0
 MayBeOneFile nature one other = (nature.apart one other ≡ false) ⊎ (nature.fails (Shared one other) ≡ true)
 
--- Holds if the state treats both names alike.
 pub record AreOneFile (one other : Name) (files : FilesState) : Type 0 where
   pub seen : files.view.seen one ≡ files.view.seen other
   pub out : files.view.out one ≡ files.view.out other

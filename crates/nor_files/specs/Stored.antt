@@ -13,7 +13,6 @@ use Rattle.nor_files.specs.declared.stored.Content.TheVariants.{Plain, Vaulted}
 use Rattle.nor_files.specs.declared.stored.Step.{Step}
 use Rattle.nor_files.specs.declared.stored.Stored.{Stored}
 
--- the bytes of a content, which may be those of a vault that was taken back
 abbrev pub bytes_in : Content → List ℕ
 bytes_in (Plain bytes) = bytes.items
 bytes_in (Vaulted vault) = (held_by vault).bytes
@@ -21,7 +20,6 @@ bytes_in (Vaulted vault) = (held_by vault).bytes
 abbrev pub content_found : Option Content → Found
 content_found content = option_map bytes_in content
 
--- A file as contracts see it, which may be missing.
 pub record File : Type 0 where
   pub seen : Found
   -- the changes since the last sync, newest first
@@ -39,7 +37,6 @@ file_in stored = record {
   out = stored.out;
 }
 
--- a missing file without changes since the last sync
 abbrev pub missing : File
 missing = record { seen = None; steps = []; unplaced = false; out = false }
 
@@ -48,7 +45,6 @@ abbrev pub IsMixOf : List ℕ → (Found → Type 0) → Found → Type 0
 IsMixOf bytes MayHaveBeen left = (had : List ℕ) × MayHaveBeen (Some had)
     × ((has : List ℕ) × (left ≡ Some has) × IsMixed had bytes has)
 
--- Holds if `left` is a content that the file may have had before, with its length changed to `len`.
 abbrev pub IsCutOf : ℕ → (Found → Type 0) → Found → Type 0
 IsCutOf len MayHaveBeen left = (had : List ℕ) × MayHaveBeen (Some had) × (left ≡ Some (with_length len had))
 
@@ -86,7 +82,6 @@ pub seen_may_stay : (file : File) → MayLeave file file.seen
 seen_may_stay file =
     seen_or_missing file.unplaced (MayBe file.steps file.seen file.seen) file.seen (seen_may_be file.steps file.seen)
 
--- Holds if the file has this content, and the change from the old content was recorded.
 pub record IsChanged (content : Content) (change : Change) (old new : Stored) : Type 0 where
   pub name : new.name ≡ old.name
   pub file : file_in new ≡ record {
@@ -104,7 +99,6 @@ abbrev pub Alters : {T E : Type 0} → Result T E → Content → Change → (ol
 Alters (Ok _) content change old new = IsChanged content change old new
 Alters (Err _) content change old new = IsUnchanged old new
 
--- The effect of overwriting the file in place, after success or failure.
 pub record FileWrites {T E : Type 0} (bytes : List ℕ) (result : Result T E) (old new : Stored) : Type 0 where
   pub name : new.name ≡ old.name
   pub out : new.out ≡ old.out
@@ -112,7 +106,6 @@ pub record FileWrites {T E : Type 0} (bytes : List ℕ) (result : Result T E) (o
   pub leaves : (left : Found) → MayLeave (file_in new) left
       → MayLeave (file_in old) left ⊎ IsMixOf bytes (MayLeave (file_in old)) left
 
--- The effect of setting the length of the file, after success or failure.
 pub record FileSets {T E : Type 0} (len : ℕ) (result : Result T E) (old new : Stored) : Type 0 where
   pub name : new.name ≡ old.name
   pub out : new.out ≡ old.out
@@ -120,17 +113,14 @@ pub record FileSets {T E : Type 0} (len : ℕ) (result : Result T E) (old new : 
   pub leaves : (left : Found) → MayLeave (file_in new) left
       → MayLeave (file_in old) left ⊎ IsCutOf len (MayLeave (file_in old)) left
 
--- The effect of a sync of the file. A host crash can't undo earlier changes, but may still remove the file if it could.
 pub record FileSyncs (old new : Stored) : Type 0 where
   pub name : new.name ≡ old.name
   pub file : file_in new ≡ record (file_in old) { steps = [] }
 
--- The effect of a sync of the directory. A host crash can neither remove the file nor create it.
 pub record FilePlaces (old new : Stored) : Type 0 where
   pub name : new.name ≡ old.name
   pub file : file_in new ≡ record (file_in old) { unplaced = false }
 
--- The effect of creating a file that was missing. The file is empty, and a host crash may remove it.
 pub record IsCreatedNow (old new : Stored) : Type 0 where
   pub name : new.name ≡ old.name
   pub missing : (file_in old).seen ≡ None
@@ -156,12 +146,10 @@ abbrev pub FileBorrows : {T E : Type 0} → Bool → Result T E → (old new : S
 FileBorrows is_new (Ok _) old new = IsBorrowed is_new old new
 FileBorrows is_new (Err _) old new = IsUnchanged old new
 
--- The effect of giving the file these bytes durably. A host crash can leave nothing else of it.
 pub record FileIsDurable (bytes : List ℕ) (old new : Stored) : Type 0 where
   pub name : new.name ≡ old.name
   pub file : file_in new ≡ record { seen = Some bytes; steps = []; unplaced = false; out = false }
 
--- The effect of taking back the vault in the file. If the vault is sealed, a host crash can leave nothing else.
 pub record FileTakesBack (vault : VaultState) (old new : Stored) : Type 0 where
   pub name : new.name ≡ old.name
   pub file : file_in new ≡ record {
@@ -171,7 +159,6 @@ pub record FileTakesBack (vault : VaultState) (old new : Stored) : Type 0 where
     out = false;
   }
 
--- The effect of a host crash on the file: a read returns one of the contents that the crash could leave.
 pub record FileForgets (old new : Stored) : Type 0 where
   pub name : new.name ≡ old.name
   pub allowed : MayLeave (file_in old) (file_in new).seen

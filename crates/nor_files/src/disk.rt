@@ -19,7 +19,6 @@ use std::os::unix::fs::FileTypeExt;
 use std::rt::Files;
 use std::{fs, io};
 
-// A name that could not be looked up, and why.
 #[derive(Drop)]
 struct Unseen {
     name: String,
@@ -44,12 +43,10 @@ pub struct Disk<'a, R: Files> {
     unseen: RefCell<Vec<Unseen>>,
     // The file whose vault was taken back last. It stays open, which also keeps its lock.
     vaulted: Option<VaultedFile<'a, R>>,
-    // Whether the vault that was taken back last was sealed.
     sealed: bool,
 }
 
 impl<'a, R: Files + AllocGlobal> Disk<'a, R> {
-    /// Returns a store of the system's files, which it accesses through `files`. No file is open yet.
     pub fn new(files: &'a R) -> Disk<'a, R> {
         Disk {
             files,
@@ -60,12 +57,10 @@ impl<'a, R: Files + AllocGlobal> Disk<'a, R> {
         }
     }
 
-    // Returns the entry with this name among the files that the run keeps open, if there is one.
     fn held(&self, name: &str) -> Option<&Held<R::File>> {
         self.held.iter().find(|held| held.name.as_str() == name)
     }
 
-    // Returns why `look_ahead` could not look up this name, or `None` if it could.
     fn unseen_by(&self, name: &str) -> Option<io::Error> {
         match self.unseen.try_borrow() {
             Ok(unseen) => {
@@ -76,7 +71,6 @@ impl<'a, R: Files + AllocGlobal> Disk<'a, R> {
         }
     }
 
-    // Keeps a file open until the store is dropped. Returns whether the file exists.
     fn keep(&mut self, held: Held<R::File>) -> Result<bool, LockFault> {
         let there = held.file.is_some();
         match self.held.push(held) {
@@ -280,7 +274,6 @@ where
     }
 }
 
-// Returns `None` if the error says that the file is missing, and otherwise the error.
 fn missing_or(error: io::Error) -> io::Result<Option<Vec<u8>>>
     ensures { IfOk result (λ found. found ≡ None) }
 {

@@ -29,12 +29,10 @@ pub fn folder_of(name: &str) -> &str {
     }
 }
 
-/// Returns the last part of the name, if it has one.
 pub fn last_of(name: &str) -> Option<&str> {
     Path::new(name).file_name()
 }
 
-// Returns whether the error means that a directory is missing, or may not be opened.
 fn cannot_open(kind: ErrorKind) -> bool {
     matches!(
         kind,
@@ -42,7 +40,6 @@ fn cannot_open(kind: ErrorKind) -> bool {
     )
 }
 
-// Returns whether the error means that directories can't be synced on this file system.
 fn cannot_sync(kind: ErrorKind) -> bool {
     kind == ErrorKind::InvalidInput || kind == ErrorKind::Unsupported
 }

@@ -11,7 +11,7 @@ use std::os::unix::fs::MetadataExt;
 use std::rt::Files;
 use std::{fs, io};
 
-/// A file that is open and locked, with its name. `file` is `None` if the file was missing.
+/// A file that is open and locked. `file` is `None` if the file was missing.
 #[derive(Drop)]
 pub struct Held<F> {
     pub name: String,
@@ -70,8 +70,6 @@ fn own(alloc: Global, name: &str) -> Result<String, LockFault> {
     }
 }
 
-// Returns whether a regular file of this name exists. The error is `Unread` for a directory or a failed look-up. It is
-// `Unheld` for a file of another kind or a dangling link, because these can't be overwritten in place.
 fn is_there<R: Files>(files: &R, name: &str) -> Result<bool, LockFault> {
     match fs::metadata(files, name) {
         Ok(metadata) if metadata.is_file() => Ok(true),
@@ -84,8 +82,6 @@ fn is_there<R: Files>(files: &R, name: &str) -> Result<bool, LockFault> {
     }
 }
 
-// Checks that neither a file nor a link of this name exists, and then returns false. The error is `Unheld` if there is
-// one, for example a dangling link, and `Unread` if the look-up fails, for example because memory ran out.
 fn is_nowhere<R: Files>(files: &R, name: &str) -> Result<bool, LockFault> {
     match fs::symlink_metadata(files, name) {
         Ok(_) => Err(LockFault::Unheld),
@@ -94,7 +90,6 @@ fn is_nowhere<R: Files>(files: &R, name: &str) -> Result<bool, LockFault> {
     }
 }
 
-// Opens the named regular file for reading and writing, and locks it exclusively.
 fn open_alone<R: Files>(files: &R, name: &str) -> Result<R::File, LockFault>
 where
     R::File: LockFile,
@@ -111,8 +106,6 @@ where
     }
 }
 
-// Opens the named file for reading and writing. The error is `Unheld` if the file can only be opened for reading, and
-// `Unread` if it can't be opened for reading either.
 fn open_both<R: Files>(files: &R, name: &str) -> Result<R::File, LockFault> {
     let opened = OpenOptions::new().read(true).write(true).open(files, name);
     match opened {
@@ -124,7 +117,6 @@ fn open_both<R: Files>(files: &R, name: &str) -> Result<R::File, LockFault> {
     }
 }
 
-// Opens the named file for reading, and locks it for reading (`lock_shared`).
 fn open_shared<R: Files>(files: &R, name: &str) -> Result<R::File, LockFault>
 where
     R::File: LockFile,
@@ -140,7 +132,6 @@ where
     }
 }
 
-/// Overwrites an open file in place with `bytes`, from its start, without truncating it.
 pub fn write_from_start<F: Write + Seek>(file: &mut F, bytes: &[u8]) -> io::Result<()> {
     file.rewind()?;
     file.write_all(bytes)
@@ -183,7 +174,6 @@ pub fn mode_beside<F: OpenFile>(held: &[Held<F>]) -> u32 {
     mode
 }
 
-// Returns the permissions of a file, or 0600 (read and write for the owner only) if they can't be read.
 fn mode_of(metadata: io::Result<Metadata>) -> u32 {
     match metadata {
         Ok(metadata) => metadata.mode(),

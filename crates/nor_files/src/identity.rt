@@ -11,9 +11,8 @@ use std::os::unix::fs::MetadataExt;
 use std::rt::Files;
 use std::{fs, io};
 
-/// Returns whether two names refer to one file. If both files exist, they must have the same device and inode. If
-/// neither exists, the names must have the same last part, in the same existing directory. A link to a file that
-/// doesn't exist counts as missing. If a name can't be looked up, returns this name as the error.
+/// If both files exist, they must have the same device and inode. If neither exists, the names must have the same last
+/// part, in the same existing directory. A link to a file that doesn't exist counts as missing.
 pub fn is_one_file<'n, R: Files>(files: &R, one: &'n str, other: &'n str) -> Result<bool, &'n str>
     ensures { IfErr result (λ name. name.now ≡ one.now ⊎ name.now ≡ other.now) }
 {
@@ -24,8 +23,6 @@ pub fn is_one_file<'n, R: Files>(files: &R, one: &'n str, other: &'n str) -> Res
     }
 }
 
-/// Returns the system's error of looking up this name, or of looking up its directory if the file is missing. Returns
-/// `None` if the file is found, or if only the file or its directory is missing.
 pub fn look_up_error<R: Files>(files: &R, name: &str) -> Option<io::Error> {
     let missing = match fs::metadata(files, name) {
         Ok(_) => return None,
@@ -40,9 +37,6 @@ pub fn look_up_error<R: Files>(files: &R, name: &str) -> Option<io::Error> {
     }
 }
 
-/// Returns whether the name refers to a regular file to which this stream prints. If the stream can't be looked up, or
-/// isn't a regular file, the result is false, and the name isn't looked up. If the name can't be looked up, returns it
-/// as the error.
 pub fn is_stream<'n, R: Files>(files: &R, stream: Stream, name: &'n str) -> Result<bool, &'n str>
     ensures { IfErr result (λ unseen. unseen.now ≡ name.now) }
 {
@@ -83,13 +77,10 @@ fn look_at<R: Files>(files: &R, stream: Stream) -> Option<Metadata> {
     }
 }
 
-/// Returns whether both files have the same device and inode.
 pub fn is_same(one: &Metadata, other: &Metadata) -> bool {
     one.dev() == other.dev() && one.ino() == other.ino()
 }
 
-// Returns whether two missing files would be the same file if they were created: the names have the same last part, and
-// their directories are the same existing one.
 fn will_be_one_file<'n, R: Files>(files: &R, one: &'n str, other: &'n str) -> Result<bool, &'n str>
     ensures { IfErr result (λ name. name.now ≡ one.now ⊎ name.now ≡ other.now) }
 {
@@ -105,8 +96,6 @@ fn will_be_one_file<'n, R: Files>(files: &R, one: &'n str, other: &'n str) -> Re
     }
 }
 
-// Returns the metadata of a path, or `None` if it doesn't exist. If the look-up fails in another way, the error is
-// `name`.
 fn look<'n, R: Files>(files: &R, path: &str, name: &'n str) -> Result<Option<Metadata>, &'n str>
     ensures { IfErr result (λ unseen. unseen.now ≡ name.now) }
 {

@@ -37,7 +37,6 @@ where
     make_alone(files, name, &mut options, mode)
 }
 
-// Creates the named file with these options and permissions, and locks it.
 fn make_alone<R: Files>(
     files: &R,
     name: &str,
@@ -108,7 +107,6 @@ where
     }
 }
 
-// Returns whether the name refers to something other than a regular file.
 fn is_special<R: Files>(files: &R, name: &str) -> bool {
     match fs::metadata(files, name) {
         Ok(metadata) => !metadata.is_file(),
@@ -124,7 +122,6 @@ fn lock<F: LockFile>(file: &F) -> Result<(), CreateFault> {
     }
 }
 
-// Returns whether the file begins with the first eight bytes of a journal, of either format.
 fn is_journal<F: Read>(file: &mut F) -> io::Result<bool> {
     let mut start = [0; MAGIC.len()];
     match file.read_exact(&mut start) {
@@ -139,12 +136,10 @@ fn is_journal<F: Read>(file: &mut F) -> io::Result<bool> {
 #[derive(Drop)]
 pub struct LogFile<F> {
     file: F,
-    // Whether the file still has to be truncated.
     is_old: bool,
 }
 
 impl<F: OpenFile> LogFile<F> {
-    // Truncates the file if it still has to be truncated (`is_old`).
     fn empty(&mut self) -> io::Result<()> {
         if self.is_old {
             self.file.set_len(0)?;
@@ -206,13 +201,10 @@ pub struct VaultedFile<'a, R: Files> {
     file: R::File,
     name: Option<String>,
     written: u64,
-    // The error of the last write or sync that failed, if there was one.
     failed: Cell<Option<io::Error>>,
 }
 
 impl<'a, R: Files> VaultedFile<'a, R> {
-    /// Returns `file`, which must be empty, as a file for a vault. With a `name`, each sync checks that the name still
-    /// refers to the file, and that the length of the file is the number of bytes written.
     pub fn new(files: &'a R, file: R::File, name: Option<String>) -> VaultedFile<'a, R> {
         VaultedFile {
             files,
@@ -249,7 +241,6 @@ impl<'a, R: Files> VaultedFile<'a, R> {
     }
 }
 
-// Writes some of the bytes, and returns their number. If a signal interrupts the write, tries again.
 fn write_again<F: Write>(file: &mut F, bytes: &[u8]) -> io::Result<usize>
     ensures { WritesAtMost result bytes.now }
 {

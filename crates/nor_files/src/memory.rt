@@ -102,15 +102,12 @@ impl Memory {
         }
     }
 
-    // Returns the index of the entry for the named file, or `None` if there is none.
     fn place(&self, name: &[u8]) -> Option<usize>
         ensures { result ≡ position (is_named name.now) self.now.files.items }
     {
         self.files.iter().position(|file| file.is_named(name))
     }
 
-    // Returns the index of the entry for the named file. Fails with `NotFound` if the file is missing, or if a vault or
-    // log in it is borrowed.
     fn find(&self, name: &str) -> io::Result<usize>
         ensures { IfOk result (λ at. position (is_named name.now) self.now.files.items ≡ Some at) }
     {
@@ -120,7 +117,6 @@ impl Memory {
         }
     }
 
-    // Returns the index of the entry for the named file. If there is none, first appends an entry for a missing file.
     fn keep_place(&mut self, name: &str) -> Result<usize, AllocError>
         ensures at { IfOk result (λ at. position (is_named name.now) self.new.files.items ≡ Some at) }
         ensures same { (any : Name) → file_named self.new.files.items any ≡ file_named self.old.files.items any }
@@ -136,8 +132,6 @@ impl Memory {
         Ok(at)
     }
 
-    // Creates or truncates the named file, to lend a vault or a log in it. Fails if no call is left, if memory runs
-    // out, or if `is_new` is set and the file exists.
     fn lend(&mut self, name: &str, is_new: bool) -> io::Result<()>
         ensures counts { Counts result (memory_state self.old) (memory_state self.new) }
         ensures others { OthersStay name.now (memory_state self.old) (memory_state self.new) }
@@ -153,7 +147,6 @@ impl Memory {
     }
 }
 
-// Counts a call. Fails if none is left.
 fn spend(left: &mut u64) -> io::Result<()>
     ensures ok { OnOk result (left.old ≡ left.new + 1) }
     ensures err { OnErr result (left.new ≡ left.old) }

@@ -14,7 +14,6 @@ pub enum LockFault {
     /// A file or link of this name exists, but can't be overwritten or locked: it may be read-only, a FIFO, a device or
     /// a dangling link.
     Unheld,
-    /// Another process has locked the file.
     Busy,
 }
 
@@ -36,11 +35,9 @@ pub enum CreateFault {
     /// The file must be new, but a file or link of its name exists. Or the file is a journal, which `Disk` never
     /// truncates.
     There,
-    /// Another process has locked the file.
     Busy,
     /// The file can't be created, read, truncated or locked, or its directory can't be synced.
     Unmade(io::Error),
-    /// The program is out of memory.
     Memory,
 }
 
@@ -90,7 +87,6 @@ impl From<CreateFault> for io::Error {
     }
 }
 
-/// An output stream of the program.
 #[derive(Clone, Copy)]
 pub enum Stream {
     Output,
@@ -266,10 +262,13 @@ pub trait Store: AllocGlobal {
             → SetsLength name.now len result (state self.old) (state self.new) }
         ensures fails { OnErr result ((state self.old).view.nature.fails (Unwritten name.now) ≡ true) };
 
-    /// Returns whether a later run will find what this run wrote to the named file: the name still refers to the file
-    /// that `hold` or `make` opened, and the file has the length that the last `set_len` gave it. A `sync` of a `Disk`
-    /// checks the same, so a run calls `still_has` if something else happened after the last `sync`. The bytes aren't
-    /// compared. If no file of this name is open, the result is false.
+    /// Returns false if a later run would not find what this run wrote to the named file. A `Disk` checks that the name
+    /// still refers to the file that `hold`, `share` or `make` opened, and that the file has the length of the last
+    /// `set_len`, unless a `write_over` followed. The bytes aren't compared. Without an open file of this name, a
+    /// `Disk` returns false.
+    ///
+    /// A `sync` of a `Disk` checks the same, so a run calls `still_has` if something else happened after the last
+    /// `sync`.
     fn still_has(&self, name: &str) -> bool
         ensures { result ≡ false → (state self.now).view.nature.fails (Unwritten name.now) ≡ true };
 

@@ -11,7 +11,6 @@ use std::alloc::{AllocError, Global};
 use std::io::ErrorKind;
 use std::{io, mem};
 
-/// The content of a file.
 #[derive(Drop)]
 pub enum Content {
     Plain(Vec<u8>),
@@ -19,7 +18,6 @@ pub enum Content {
     Vaulted(MemVault),
 }
 
-/// The effect of a call on a file.
 #[derive(Drop)]
 pub enum Change {
     /// The file was overwritten in place with these bytes, or after a torn write only with the first of them, from its
@@ -31,7 +29,6 @@ pub enum Change {
     Lent,
 }
 
-/// A change, and the content of the file before it.
 #[derive(Drop)]
 pub struct Step {
     before: Option<Content>,
@@ -49,7 +46,6 @@ pub enum Loss {
     Unsynced,
 }
 
-/// A file with a name, which may be missing.
 #[derive(Drop)]
 pub struct Stored {
     name: Vec<u8>,
@@ -74,7 +70,6 @@ impl Content {
 }
 
 impl Stored {
-    /// Returns a missing file of this name.
     pub fn new(alloc: Global, name: Vec<u8>) -> Stored
         ensures name { result.name ≡ name }
         ensures file { file_in result ≡ missing }
@@ -88,21 +83,18 @@ impl Stored {
         }
     }
 
-    /// Returns true if the file has this name.
     pub fn is_named(&self, name: &[u8]) -> bool
         ensures { result ≡ is_named name.now self.now }
     {
         self.name.as_slice() == name
     }
 
-    /// Returns whether the file exists and neither a vault nor a log in it is borrowed.
     pub fn is_at_hand(&self) -> bool
         ensures { result ≡ (is_some self.now.content && not self.now.out) }
     {
         self.content.is_some() && !self.out
     }
 
-    /// Returns the bytes of the file, or `None` if it is missing.
     pub fn bytes(&self) -> Option<&[u8]>
         ensures { option_map (λ bytes. bytes.now) result ≡ (file_in self.now).seen }
     {
@@ -142,8 +134,6 @@ impl Stored {
         Ok(())
     }
 
-    /// Sets the length of the file; added bytes are 0. Fails with `NotFound` if the file is missing. Also fails if
-    /// memory runs out.
     pub fn set_len(&mut self, alloc: Global, len: u64) -> io::Result<()>
         ensures { FileSets len result self.old self.new }
     {
@@ -155,22 +145,18 @@ impl Stored {
         Ok(())
     }
 
-    /// Syncs the file, so that a host crash can't undo the changes made before. A host crash may still remove the file
-    /// if it could before the sync.
     pub fn sync(&mut self)
         ensures { FileSyncs self.old self.new }
     {
         self.steps.clear();
     }
 
-    /// Syncs the directory, so that a host crash can neither remove the file nor create it.
     pub fn place(&mut self)
         ensures { FilePlaces self.old self.new }
     {
         self.unplaced = false;
     }
 
-    /// Creates the file, which is then empty. If the file exists, fails with `AlreadyExists` and changes nothing.
     pub fn make(&mut self, alloc: Global) -> io::Result<()>
         ensures { FileCreates result self.old self.new }
     {
@@ -198,7 +184,6 @@ impl Stored {
         Ok(())
     }
 
-    /// Gives the file these bytes, so that a host crash can leave nothing else.
     pub fn settle(&mut self, bytes: Vec<u8>)
         ensures { FileIsDurable bytes.items self.old self.new }
     {
@@ -208,8 +193,6 @@ impl Stored {
         self.out = false;
     }
 
-    /// Interrupts the process or the host, as `loss` says. The file then has one of the contents that a host crash
-    /// could leave, and a later host crash can leave nothing else.
     pub fn lose(&mut self, loss: Loss)
         ensures { FileLoses self.old self.new }
     {
@@ -237,8 +220,6 @@ impl Stored {
         }
     }
 
-    /// Takes back the vault in the file. The file then has the bytes of the vault. If the vault is sealed, a host crash
-    /// can leave nothing else.
     pub fn take_contents(&mut self, vault: MemVault)
         ensures { FileTakesBack (held_by vault) self.old self.new }
     {
@@ -251,7 +232,6 @@ impl Stored {
     }
 }
 
-/// Returns a copy of `bytes`. Fails if memory runs out.
 pub fn copy(alloc: Global, bytes: &[u8]) -> Result<Vec<u8>, AllocError>
     ensures { IfOk result (λ copied. copied.items ≡ bytes.now) }
 {
@@ -260,7 +240,6 @@ pub fn copy(alloc: Global, bytes: &[u8]) -> Result<Vec<u8>, AllocError>
     Ok(copied)
 }
 
-// Returns `had`, overwritten in place with `bytes` from its start.
 fn overwritten(alloc: Global, had: &[u8], bytes: &[u8]) -> Result<Vec<u8>, AllocError>
     ensures { IfOk result (λ has. has.items ≡ written_over bytes.now had.now) }
 {
@@ -271,7 +250,6 @@ fn overwritten(alloc: Global, had: &[u8], bytes: &[u8]) -> Result<Vec<u8>, Alloc
     Ok(has)
 }
 
-// Returns the first `len` bytes of `had`, with zeros appended if it is shorter.
 fn with_length(alloc: Global, had: &[u8], len: usize) -> Result<Vec<u8>, AllocError>
     ensures { IfOk result (λ has. has.items ≡ with_length len had.now) }
 {

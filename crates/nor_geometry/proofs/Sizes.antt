@@ -54,7 +54,6 @@ is_power size k from before power =
     list_any_at (λ j. size == 2 ^ j) (range_with_len 16 9) (k - 16) 0 (simp length-range_with_len (omega arith))
     (rw at (eq-eqb size (2 ^ k) power))
 
--- Holds for every size that a chip may have.
 pub record IsInBlocks (size : ℕ) : Type 0 where
   pub large : 65536 ≤ size
   pub small : size ≤ 16777216

@@ -2,10 +2,8 @@
 use Rattle.std.specs.Prelude.{ℕ, Bool, count_by}
 use Rattle.std.specs.List.{list_any, range_with_len}
 
--- true if some number below `n` passes `test`
 unfoldable pub any_below : (n : ℕ) → (test : ℕ → Bool) → Bool
 any_below n test = list_any test (range_with_len 0 n)
 
--- the number of numbers below `n` that pass `test`
 unfoldable pub count_below : (n : ℕ) → (test : ℕ → Bool) → ℕ
 count_below n test = count_by test (range_with_len 0 n)

@@ -20,7 +20,6 @@ probed_failed : (probed : Result Found ProbeFault) (refusal : Refusal) → IsPro
 probed_failed (Ok found) refusal is = absurd (cc is)
 probed_failed (Err fault) refusal is = (fault, refl, cc is)
 
--- The promises of a probe that found `chip`.
 pub record HasFound (named : Option ChipName) (old new : BusState) (chip : Found) : Type 0 where
   pub always : ProbeAlways named old new (Ok chip)
   pub honest : old.honest ≡ true → ProbeHonest named old new (Ok chip)

@@ -26,7 +26,6 @@ IsNoJournal bytes end.NoJournal = HasFault bytes Short
 IsNoJournal bytes (end.Refused (BadJournal why)) = HasFault bytes why
 IsNoJournal bytes _ = ⊥
 
--- the sectors that a restore writes
 abbrev pub choice_of : (quick : Bool) → Choice
 choice_of true = differing
 choice_of false = every_saved

@@ -18,7 +18,6 @@ abbrev pub IsImage : View → Wanted → List ℕ → Type 0
 IsImage view (wanted.Write image) bytes = IsRead view image.now 16777217 bytes
 IsImage view _ bytes = bytes ≡ []
 
--- the bytes that a change of a chip of this size asks for, with the `bytes` of its image
 abbrev pub asked_bytes : Wanted → (size : ℕ) → (bytes : List ℕ) → List ℕ
 asked_bytes wanted.Erase size bytes = replicate size 255
 asked_bytes _ size bytes = bytes
@@ -28,7 +27,7 @@ IsAskedOf view wanted size asked =
     (bytes : List ℕ) × IsImage view wanted bytes × (asked ≡ asked_bytes wanted size bytes)
 
 -- Holds if `ranges` are the addresses of the job's regions, and `bytes` those of its image or journal, if it has one.
--- One byte more is read than the largest chip or the longest journal has.
+-- At most one byte more than the largest chip or the longest journal has is read.
 abbrev pub AreSources : View → Task → Option (List Span) → List ℕ → Type 0
 AreSources view (task.Read file regions) ranges bytes = AreRangesOf view None regions ranges
 AreSources view (task.Verify file regions) ranges bytes =

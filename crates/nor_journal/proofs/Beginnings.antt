@@ -45,7 +45,6 @@ begins_longer whole following bytes begins =
     take-append-le (length bytes) whole following (omega (arith, ap length begins, length-take (length bytes) whole))
     ∙ begins
 
--- Holds if the vault isn't faithful, or holds exactly these bytes.
 abbrev pub Holds : VaultState → List ℕ → Type 0
 Holds vault bytes = vault.telling ≡ true → vault.bytes ≡ bytes
 

@@ -7,7 +7,6 @@ use Rattle.nor_journal.specs.Vault.{VaultState, Took, PutRefused}
 abbrev pub inner_vault : {V : Type 0} → BrokenVault V → V
 inner_vault vault = vault.inner
 
--- the number of coming calls up to and including the refused one, or 0 if no further call is to be refused
 abbrev pub calls_left : {V : Type 0} → BrokenVault V → ℕ
 calls_left vault = vault.calls_left
 

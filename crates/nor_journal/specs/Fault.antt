@@ -22,7 +22,6 @@ abbrev pub header_length : (unique : Option (List ℕ)) → ℕ
 header_length None = 17
 header_length (Some _) = 25
 
--- Holds if the header at the beginning of `bytes` has this fault.
 abbrev pub HeaderFault : List ℕ → JournalFault → Type 0
 -- the bytes end within the magic, or after a valid magic but within the header
 HeaderFault bytes Short = (length bytes < 8)

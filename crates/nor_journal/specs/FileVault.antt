@@ -12,7 +12,6 @@ file_of vault = vault.file
 abbrev pub unknown_bytes : (used : Bool) → List ℕ
 unknown_bytes used = if used then 0 ∷ [] else []
 
--- the state of a vault in a file, which isn't faithful
 abbrev pub filed_by : {F : Type 0} → FileVault F → VaultState
 filed_by vault = record {
   telling = false;

@@ -7,7 +7,6 @@ use Rattle.nor_journal.specs.Vault.{VaultState}
 abbrev pub room_of : MemVault → ℕ
 room_of vault = vec_capacity vault.bytes
 
--- the state of a vault in memory, which is faithful (`telling`)
 abbrev pub held_by : MemVault → VaultState
 held_by vault =
     record { telling = true; bytes = vault.bytes.items; sealed = vault.sealed; failures = vault.failures }

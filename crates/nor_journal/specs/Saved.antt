@@ -13,7 +13,6 @@ pub record HasRecord (content : Content) (sector : ℕ) (bytes : List ℕ) : Typ
   pub place : ℕ
   pub is : slice_get content.saved place ≡ Some (record { number = sector; bytes = bytes })
 
--- true if the content saves sector s
 abbrev pub is_saved : Content → (s : ℕ) → Bool
 is_saved content s = is_some (saved_in content.saved s)
 
@@ -21,7 +20,6 @@ is_saved content s = is_some (saved_in content.saved s)
 abbrev pub saved_byte : Content → (a : ℕ) → ℕ
 saved_byte content a = slice_index (unwrap_or (saved_in content.saved (a / 4096)) []) (a % 4096)
 
--- Holds if `bytes` are the 4,096 bytes of sector s of a chip with the contents `old`.
 pub record IsWholeSector (old : ℕ → ℕ) (s : ℕ) (bytes : List ℕ) : Type 0 where
   pub whole : length bytes ≡ 4096
   pub same : (i : ℕ) → i < 4096 → slice_index bytes i ≡ old (4096 * s + i)
@@ -32,7 +30,6 @@ pub record Saves (old : ℕ → ℕ) (saved : ℕ → Bool) (content : Content) 
   pub sectors : (s : ℕ) → saved s ≡ true → IsSomeAnd (saved_in content.saved s) (IsWholeSector old s)
   pub others : (s : ℕ) → saved s ≡ false → saved_in content.saved s ≡ None
 
--- Holds if `more` is the set `saved` with the sector `sector` added.
 pub record HasOneMore (saved : ℕ → Bool) (sector : ℕ) (more : ℕ → Bool) : Type 0 where
   pub here : more sector ≡ true
   pub others : (s : ℕ) → s ≢ sector → more s ≡ saved s

@@ -6,7 +6,6 @@ use Rattle.sha2.specs.Sha256.{sha256}
 use Rattle.nor_geometry.specs.Size.{is_chip_size}
 use Rattle.nor_journal.specs.Number.{number_text}
 
--- A saved sector: its number, and the bytes that it had when it was saved.
 pub record SavedSector : Type 0 where
   pub number : ℕ
   pub bytes : List ℕ
@@ -23,7 +22,6 @@ pub record Content : Type 0 where
   pub size : ℕ
   pub saved : List SavedSector
 
--- Holds if the number of `s` is below `sectors`, and `s` has 4,096 bytes.
 pub record IsSectorBelow (sectors : ℕ) (s : SavedSector) : Type 0 where
   pub place : s.number < sectors
   pub whole : length s.bytes ≡ 4096
@@ -61,7 +59,6 @@ records_text saved = flat_map record_text saved
 unfoldable pub end_mark : List ℕ
 end_mark = 0xFF ∷ 0xFF ∷ 0xFF ∷ 0xFF ∷ []
 
--- the part of a journal before the end mark: the header and the records
 unfoldable pub front : Content → List ℕ
 front c = head c ++ records_text c.saved
 
@@ -79,7 +76,6 @@ empty_content id unique status size = record { id = id; unique = unique; status 
 abbrev pub with_sector : Content → ℕ → List ℕ → Content
 with_sector c number bytes = record c { saved = c.saved ++ record { number = number; bytes = bytes } ∷ [] }
 
--- Holds if the contents `c` and `d` are equal except for their saved sectors.
 abbrev pub SameHeader : (c d : Content) → Type 0
 SameHeader c d = record c { saved = [] } ≡ record d { saved = [] }
 
@@ -91,7 +87,6 @@ least_after least (s ∷ rest) = least_after (s.number + 1) rest
 unfoldable pub next_number : Content → ℕ
 next_number c = least_after 0 c.saved
 
--- Holds if a sector with this number may be added to the end of `c`.
 pub record MayFollow (c : Content) (number : ℕ) : Type 0 where
   pub rises : next_number c ≤ number
   pub place : number < c.size / 4096

@@ -3,14 +3,12 @@ use Rattle.std.specs.Prelude.{◌≡◌, ◌≢◌, ℕ, ◌+◌, ◌%◌, ◌^�
 use Rattle.std.specs.Io.{StartsWith}
 use Rattle.nor_journal.specs.declared.vault.VaultFault.{VaultFault}
 
--- The state of a vault.
 pub record VaultState : Type 0 where
   -- true for a faithful vault, which holds exactly the bytes it accepted
   pub telling : Bool
   -- The accepted bytes, in order. If the vault isn't faithful, contracts know only that they aren't empty after a byte
   -- was accepted and before the seal.
   pub bytes : List ℕ
-  -- true if the vault was sealed
   pub sealed : Bool
   -- the number of refusals, modulo 2^64
   pub failures : ℕ
@@ -55,7 +53,6 @@ pub record Sealed (old new : VaultState) : Type 0 where
   pub failures : new.failures ≡ old.failures
   pub bytes : old.telling ≡ true → new.bytes ≡ old.bytes
 
--- The effect of a `put`: the vault accepts the piece (`Took`) or refuses it (`PutRefused`).
 abbrev pub Puts : {T : Type 0} → (old : VaultState) → (piece : List ℕ) → Result T VaultFault
     → (new : VaultState) → Type 0
 Puts old piece (Ok _) new = Took old piece new

@@ -15,10 +15,8 @@ pub const MAGIC: [u8; 8] = *b"NORUNDO2";
 /// The first eight bytes of a journal of format 1, which is read but not written. Its header has no unique ID.
 pub const FIRST_MAGIC: [u8; 8] = *b"NORUNDO1";
 
-/// The length of a header of format 2 in bytes.
 pub const HEADER_LEN: usize = 25;
 
-/// The length of a header of format 1 in bytes.
 const FIRST_HEADER_LEN: usize = 17;
 
 /// The fields of a header: the chip's ID, unique ID (only in format 2), status 1 and 2, and size in bytes.
@@ -61,7 +59,6 @@ pub fn read_head(bytes: &[u8]) -> Result<(Head, &[u8]), JournalFault>
     Err(JournalFault::Magic)
 }
 
-// Reads the header of the format with whose magic `bytes` begin. `len` is the length of such a header.
 fn read_form(bytes: &[u8], len: usize) -> Result<(Head, &[u8]), JournalFault>
     requires { (unique : Option (List ℕ)) × (take 8 bytes.now ≡ magic unique)
         × (len ≡ header_length unique) }

@@ -4,7 +4,6 @@ ghost use Rattle.nor_journal.specs.Number.{number_text, number_at};
 
 use byteorder::{ByteOrder, LittleEndian};
 
-/// Encodes a number in four bytes, little-endian.
 #[tactic(auto, unfolding(crate::specs::Number::number_text))]
 pub fn number_bytes(number: u32) -> [u8; 4]
     ensures { result ≡ number_text number }
@@ -12,7 +11,6 @@ pub fn number_bytes(number: u32) -> [u8; 4]
     number.to_le_bytes()
 }
 
-/// Decodes the first four bytes, little-endian. `bytes` must have at least four.
 #[tactic(auto, unfolding(crate::specs::Number::number_at))]
 pub fn number_of(bytes: &[u8]) -> u32
     requires { 4 ≤ length bytes.now }

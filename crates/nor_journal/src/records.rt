@@ -11,17 +11,13 @@ use crate::number::{number_bytes, number_of};
 use nor_geometry::SECTOR_LEN;
 use sha2::{Digest, Sha256};
 
-/// The length of a record in bytes: a sector's number and its bytes.
 pub const RECORD_LEN: usize = 4 + SECTOR_LEN as usize;
 
 /// The four bytes after the last record.
 pub const END_MARK: [u8; 4] = [0xFF; 4];
 
-/// The length of a digest in bytes.
 pub const DIGEST_LEN: usize = 32;
 
-/// Returns the sector number of the record at the beginning of `bytes`, or `None` for the end mark. The number must be
-/// below `sectors` and at least `least`.
 #[tactic(auto, unfolding(crate::specs::Text::end_mark))]
 fn next_record(sectors: u32, least: u32, bytes: &[u8]) -> Result<Option<u32>, JournalFault>
     ensures fault { IfErr result (RecordFault sectors least bytes.now) }
@@ -66,7 +62,6 @@ pub fn count_records(head: &Head, bytes: &[u8]) -> Result<usize, JournalFault>
     Ok(count)
 }
 
-/// Encodes a record: the sector's number and its bytes.
 pub fn record_bytes(number: u32, bytes: &[u8; SECTOR_LEN as usize]) -> [u8; RECORD_LEN]
     ensures { result ≡ record_text (record { number = number; bytes = bytes.now }) }
 {

@@ -31,7 +31,6 @@ digits_of-digits digits all = grind (arith, nat_tests)
 address_of-taken : (text : List ℕ) (address : ℕ) → IsAddress text address → digits_address text ≡ Some address
 address_of-taken text address is = grind (arith, nat_tests, digits_of-digits is.digits)
 
--- Holds if the text is the first part, then `byte`, then the second part.
 abbrev IsCut : ℕ → List ℕ → List ℕ × List ℕ → Type 0
 IsCut byte text parts = text ≡ parts.0 ++ byte ∷ parts.1
 
@@ -39,7 +38,6 @@ cut_at-is : (byte : ℕ) (text : List ℕ) → IfSome (cut_at byte text) (IsCut 
 cut_at-is byte [] = tt
 cut_at-is byte (b ∷ text) = grind (arith, nat_tests, cut_at-is byte text)
 
--- True if the text doesn't contain `byte`.
 abbrev lacks : ℕ → List ℕ → Bool
 lacks byte text = list_all (λ b. not (eqb b byte)) text
 

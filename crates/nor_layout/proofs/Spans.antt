@@ -10,7 +10,6 @@ use Rattle.nor_layout.specs.Steps.{join}
 abbrev is_below : Span → Span → Bool
 is_below a b = ltb (a.last + 1) b.first
 
--- the spans with `new` added, which is joined with the spans that it overlaps or is adjacent to
 unfoldable pub merged : Span → List Span → List Span
 merged new [] = new ∷ []
 merged new (span ∷ spans) =

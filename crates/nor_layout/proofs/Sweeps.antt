@@ -12,7 +12,6 @@ above : (span : Span) (spans : List Span) (a : ℕ) → AreDisjoint (span ∷ sp
 above span [] a apart holds = absurd (false≢true holds)
 above span (next ∷ spans) a apart holds = grind (arith, nat_tests, above next spans a apart.2)
 
--- Holds if `few` has exactly those addresses of `many` that are `low` or greater and below `limit`.
 record AreCut (low limit : ℕ) (few many : List Span) : Type 0 where
   within : (a : ℕ) → contains few a ≡ true → (low ≤ a) × (a < limit)
   into : (a : ℕ) → contains few a ≡ true → contains many a ≡ true

@@ -65,7 +65,6 @@ joined regions all n said follows e = grind (arith, nat_tests)
 abbrev is_full : List ℕ → Bool
 is_full line = not (eqb (length line) 0)
 
--- Holds if `all` are `regions` followed by those of the remaining lines, and a layout may have them.
 abbrev RestDefines : (lines : List (List ℕ)) (regions all : List Region) → Type 0
 RestDefines lines regions all =
     AreRegions all × ((rest : List Region) × (all ≡ regions ++ rest) × AllZip IsLine (filter is_full lines) rest)
@@ -126,7 +125,6 @@ reads_taken text result reads regions is =
 pub length-lines_of : (text : List ℕ) → length (lines_of text) ≤ length text + 1
 length-lines_of text = omega (arith, length-slice_split (λ b. eqb b 10) text, count_by-le-length (λ b. eqb b 10) text)
 
--- Holds if `lines`, the first n lines of a text, have no fault and define `regions`, whatever lines follow.
 abbrev pub LinesDefine : List (List ℕ) → ℕ → List Region → Type 0
 LinesDefine lines n regions = (after : List (List ℕ)) → lines_say [] 1 (lines ++ after) ≡ lines_say regions (n + 1) after
 

@@ -6,7 +6,6 @@ use Rattle.nor_layout.specs.declared.layout.adding.RegionFault.TheVariants.{Name
 use Rattle.nor_layout.specs.Line.{is_name}
 use Rattle.nor_layout.specs.Text.{is_region_named}
 
--- The regions with one more after them, or the first fault of the added region.
 abbrev pub with_region : List Region → Region → Result (List Region) RegionFault
 with_region regions region =
     if not (is_name region.name.items) then Err Name

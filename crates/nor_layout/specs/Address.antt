@@ -22,6 +22,5 @@ digits_of (a ∷ b ∷ digits) = if (a == 48) && (b == 120) then digits else a �
 abbrev pub are_digits : List ℕ → Bool
 are_digits digits = nat_le 1 (length digits) && nat_le (length digits) 8 && list_all is_hex_digit digits
 
--- the address that a text encodes by 1 to 8 hexadecimal digits after an optional `0x`
 abbrev pub digits_address : List ℕ → Option ℕ
 digits_address text = if are_digits (digits_of text) then Some (digits_number (digits_of text)) else None

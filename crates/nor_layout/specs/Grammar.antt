@@ -6,14 +6,14 @@ use Rattle.nor_layout.specs.Address.{are_digits, digits_number}
 use Rattle.nor_layout.specs.Line.{is_name}
 use Rattle.nor_layout.specs.Text.{lines_of, AreNamedApart}
 
--- True if the text is an optional `0x` and 1 to 8 hexadecimal digits, and `address` is their number.
 pub record IsAddress (text : List ℕ) (address : ℕ) : Type 0 where
   pub digits : List ℕ
   pub text_is : (text ≡ digits) ⊎ (text ≡ 48 ∷ 120 ∷ digits)
   pub hexadecimal : are_digits digits ≡ true
   pub address_is : digits_number digits ≡ address
 
--- True if the line defines `region`: an address, a `:`, an address not below the first one, spaces, and a name.
+-- Holds if the line defines `region`: an address, a `:`, an address not below the first one, one or more spaces, and a
+-- name.
 pub record IsLine (line : List ℕ) (region : Region) : Type 0 where
   pub start_text : List ℕ
   pub end_text : List ℕ
@@ -28,8 +28,7 @@ pub record IsLine (line : List ℕ) (region : Region) : Type 0 where
 abbrev pub full_lines : List ℕ → List (List ℕ)
 full_lines text = filter (λ line. not (length line == 0)) (lines_of text)
 
--- True if the nonempty lines of the text are those of the regions (`IsLine`), in the same order. At most 64 regions are
--- allowed, no two with the same name.
+-- Holds if the nonempty lines of the text define the regions, in the same order.
 pub record IsLayout (text : List ℕ) (regions : List Region) : Type 0 where
   pub lines : AllZip IsLine (full_lines text) regions
   pub few : length regions ≤ 64

@@ -19,6 +19,5 @@ abbrev pub name_includes : List Region → ℕ → List ℕ → Bool
 name_includes regions address name =
     list_any (λ region. bytes_eq region.name.items name && has_address region address) regions
 
--- true if the address is in a region whose name is one of the comma-separated names
 abbrev pub is_included : List Region → List ℕ → ℕ → Bool
 is_included regions text address = list_any (name_includes regions address) (names_of text)

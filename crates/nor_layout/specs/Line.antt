@@ -7,7 +7,6 @@ use Rattle.nor_layout.specs.declared.fault.LineFault.{LineFault}
 use Rattle.nor_layout.specs.declared.fault.LineFault.TheVariants.{Line, Address, Backwards, Name}
 use Rattle.nor_layout.specs.Address.{digits_address}
 
--- the parts of a text before and after the first byte that equals `byte`
 abbrev pub cut_at : ℕ → List ℕ → Option (List ℕ × List ℕ)
 cut_at byte [] = None
 cut_at byte (b ∷ text) =
@@ -17,7 +16,6 @@ abbrev pub without_spaces : List ℕ → List ℕ
 without_spaces [] = []
 without_spaces (b ∷ text) = if b == 32 then without_spaces text else b ∷ text
 
--- the three parts of a line
 pub record Parts : Type 0 where
   pub start : List ℕ
   pub end : List ℕ

@@ -12,14 +12,12 @@ is_in_positions positions at = nat_le positions.start at && nat_lt at positions.
 abbrev pub is_covered : List Positions → ℕ → Bool
 is_covered all at = list_any (λ positions. is_in_positions positions at) all
 
--- True if the ranges are nonempty, ascend without overlap from `first` on, and end within the sector.
 abbrev pub AreRisingFrom : ℕ → List Positions → Type 0
 AreRisingFrom first [] = ⊤
 AreRisingFrom first (positions ∷ more) =
     (first ≤ positions.start) × (positions.start < positions.end) × (positions.end ≤ 4096)
     × AreRisingFrom positions.end more
 
--- True if the ranges cover exactly those positions of the sector whose addresses are in the set, in ascending order.
 pub record AreIncludedIn (spans : List Span) (sector : ℕ) (all : List Positions) : Type 0 where
   pub exact : (at : ℕ) → at < 4096 → is_covered all at ≡ contains spans (4096 * sector + at)
   pub rising : AreRisingFrom 0 all

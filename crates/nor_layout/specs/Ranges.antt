@@ -9,7 +9,6 @@ is_in_span span address = nat_le span.first address && nat_le address span.last
 abbrev pub contains : (spans : List Span) → (address : ℕ) → Bool
 contains spans address = list_any (λ span. is_in_span span address) spans
 
--- True if the first of the following spans, if any, begins above `span`, with at least one address between them.
 abbrev pub IsApartFrom : Span → List Span → Type 0
 IsApartFrom span [] = ⊤
 IsApartFrom span (next ∷ spans) = span.last + 1 < next.first
@@ -27,7 +26,6 @@ pub record AreRanges (spans : List Span) : Type 0 where
 abbrev pub has_backwards : List Span → Bool
 has_backwards spans = list_any (λ span. nat_lt span.last span.first) spans
 
--- True if `set` is a valid set (`AreRanges`) with exactly the addresses of `spans`.
 pub record IsSetOf (spans set : List Span) : Type 0 where
   pub ranges : AreRanges set
   pub same : (address : ℕ) → contains set address ≡ contains spans address

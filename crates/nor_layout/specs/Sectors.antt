@@ -4,7 +4,6 @@ use Rattle.nor_layout.specs.declared.ranges.Span.{Span}
 use Rattle.nor_geometry.specs.Below.{any_below, count_below}
 use Rattle.nor_layout.specs.Ranges.{contains}
 
--- True if a request includes the address: the address is in the ranges, or there are no ranges (`None`).
 abbrev pub includes : Option (List Span) → (address : ℕ) → Bool
 includes None address = true
 includes (Some spans) address = contains spans address
@@ -18,11 +17,9 @@ NoneInSector set sector = (i : ℕ) → i < 4096 → set (4096 * sector + i) ≡
 abbrev pub has_in_sector : (set : ℕ → Bool) → (sector : ℕ) → Bool
 has_in_sector set sector = any_below 4096 (λ i. set (4096 * sector + i))
 
--- the number of sectors with an included address on a chip of `size` bytes
 abbrev pub sectors_included : Option (List Span) → (size : ℕ) → ℕ
 sectors_included included size = count_below (size / 4096) (has_in_sector (includes included))
 
--- Holds if some address in the ranges is `size` or greater. Without ranges (`None`) this never holds.
 abbrev pub ReachesPast : Option (List Span) → (size : ℕ) → Type 0
 ReachesPast None size = ⊥
 ReachesPast (Some spans) size = (address : ℕ) × (size ≤ address) × (contains spans address ≡ true)
@@ -30,7 +27,6 @@ ReachesPast (Some spans) size = (address : ℕ) × (size ≤ address) × (contai
 abbrev pub FitsInto : Option (List Span) → (size : ℕ) → Type 0
 FitsInto included size = ¬ ReachesPast included size
 
--- The target at the address `a`: the image's byte if the address is included, else the chip's current byte (`content`).
 abbrev pub merged_byte : (ℕ → Bool) → (image content : ℕ → ℕ) → ℕ → ℕ
 merged_byte included image content a = if included a then image a else content a
 

@@ -45,11 +45,9 @@ pub record IsNext (done : ℕ) (spans : List Span) (next : Span) : Type 0 where
 abbrev pub IsNextOrNone : (done : ℕ) → List Span → Option Span → Type 0
 IsNextOrNone done spans next = MatchOption next (EndBelow done spans) (IsNext done spans)
 
--- `span` if it begins before `next`, or if `next` is `None`; otherwise `next`
 abbrev pub first_of : Option Span → Span → Option Span
 first_of None span = Some span
 first_of (Some next) span = if nat_le next.first span.first then Some next else Some span
 
--- the result of `first_of`, or `next` if `span` ends below the address `done`
 abbrev pub sooner : Option Span → Span → (done : ℕ) → Option Span
 sooner next span done = if nat_lt span.last done then next else first_of next span

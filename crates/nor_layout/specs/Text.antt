@@ -26,7 +26,6 @@ abbrev pub joins_or_fault : List Region → ℕ → Result Region LineFault → 
 joins_or_fault regions n (Ok region) = joins regions n region
 joins_or_fault regions n (Err fault) = Err (InLine n fault)
 
--- The earlier `regions` with the region of line n added, or the first fault of doing so. An empty line adds no region.
 unfoldable pub with_line : List Region → ℕ → List ℕ → Result (List Region) LayoutFault
 with_line regions n line = if length line == 0 then Ok regions else joins_or_fault regions n (line_says line)
 

@@ -14,7 +14,6 @@ fn digits(text: &[u8]) -> &[u8]
     }
 }
 
-/// Parses an address in upper or lower case. Returns `None` for any other text.
 pub(crate) fn address(text: &[u8]) -> Option<u32>
     ensures { result ≡ digits_address text.now }
 {

@@ -55,7 +55,6 @@ fn are_known(regions: &[Region], names: &[u8]) -> bool
         .all(|name| is_named(regions, name))
 }
 
-/// Adds the region of line number `number` to `regions`. An empty line adds nothing.
 #[tactic(auto, unfolding(crate::specs::Text::with_line))]
 fn add_line(regions: &mut Vec<Region>, number: usize, line: &[u8]) -> Result<(), LayoutFault>
     ensures { AddsRegion regions.old.items regions.new.items result (with_line regions.old.items number line.now) }
@@ -90,7 +89,6 @@ impl Layout {
     /// Returns the fault of the first line that has one. The faults of a line are checked in the order of `LineFault`,
     /// and `TooMany` after them. Returns `Memory` if an allocation fails at a line that adds a region.
     pub fn read(alloc: Global, text: &[u8]) -> Result<Layout, LayoutFault>
-        // `Memory` is possible only if some line adds a region, and no earlier line has a fault.
         ensures exact { ReadsLayout result (layout_says text.now) }
         ensures asks { IfErr result (λ fault. fault ≡ LayoutFault.Memory → AsksMemory text.now) }
 

@@ -15,19 +15,6 @@
 //! let apart = Ranges::of(&ends).ok_or(LayoutFault::TooMany)?;
 //! assert!(rt; apart.contains(0x7ff) && !apart.contains(0x800));
 //! ```
-//!
-//! The source files:
-//!
-//! - `layout.rt`: `Layout`, which reads a layout text and returns the addresses of named regions
-//! - `layout/adding.rt`: layouts that are made by adding regions, such as those of a table in an image
-//! - `line.rt`: one line of a layout text
-//! - `address.rt`: hexadecimal addresses
-//! - `region.rt`: `Region`, the name and addresses of a region
-//! - `fault.rt`: the faults of layout texts and of names, with their numbers and messages
-//! - `ranges.rt`: `Ranges`, a set of addresses as at most 64 spans
-//! - `positions.rt`: the positions of one sector that are in a set
-//! - `merge.rt`: fills the bytes of a sector that aren't included from a second copy of the sector
-//! - `included.rt`: tests and fills for the addresses that a request includes, with ranges or for the whole chip
 #![tactic(auto)]
 
 mod address;

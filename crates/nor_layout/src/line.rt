@@ -9,7 +9,6 @@ use crate::fault::LineFault;
 use crate::region::{NAME_LEN, Region};
 use arrayvec::ArrayVec;
 
-/// The three parts of a line.
 #[derive(Clone, Copy)]
 struct Parts<'a> {
     start: &'a [u8],
@@ -24,7 +23,6 @@ fn find(text: &[u8], byte: u8) -> Option<usize>
     text.iter().position(|b| *b == byte)
 }
 
-/// Returns the parts of `text` before and after the first `byte`, or `None` if `text` doesn't contain it.
 fn split_once(text: &[u8], byte: u8) -> Option<(&[u8], &[u8])>
     ensures { MatchOption result (cut_at byte text.now ≡ None)
         (λ parts. cut_at byte text.now ≡ Some (parts.0.now, parts.1.now)) }
@@ -43,7 +41,6 @@ fn trim_spaces(text: &[u8]) -> &[u8]
     rest
 }
 
-/// Splits a line at its first `:` and at the next space, and removes further spaces before the name.
 fn parts_of(line: &[u8]) -> Option<Parts<'_>>
     ensures { MatchOption result (parts_of line.now ≡ None)
         (λ parts. parts_of line.now
@@ -73,7 +70,6 @@ pub(crate) fn is_name(bytes: &[u8]) -> bool
     bytes.iter().all(|b| is_name_byte(*b))
 }
 
-/// Returns the region that a nonempty line defines, or the first fault of the line.
 pub(crate) fn read_region(line: &[u8]) -> Result<Region, LineFault>
     ensures { result ≡ line_says line.now }
 {

@@ -16,7 +16,6 @@ fn copy_part(to: &mut [u8], from: &[u8], start: usize, end: usize)
     to[start..end].copy_from_slice(&from[start..end]);
 }
 
-/// Copies all bytes of a sector from `other` to `bytes`, except those at `positions`.
 pub(crate) fn fill_around(positions: PositionsIn<'_>, bytes: &mut [u8], other: &[u8])
     requires long { length bytes.old ≡ 4096 }
     requires other_long { length other.now ≡ 4096 }

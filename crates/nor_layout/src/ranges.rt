@@ -65,7 +65,6 @@ fn has_backwards(spans: &[Span]) -> bool
     spans.iter().any(|span| span.last < span.first)
 }
 
-// Returns `span` if it begins before `next`, otherwise `next`. Ignores a `span` that ends below the address `done`.
 fn sooner(next: Option<Span>, span: &Span, done: u64) -> Option<Span>
     ensures { result ≡ sooner next span.now done }
 {
@@ -76,7 +75,6 @@ fn sooner(next: Option<Span>, span: &Span, done: u64) -> Option<Span>
     }
 }
 
-// Returns the span that begins first among those that end at or above the address `done`.
 fn next_span(spans: &[Span], done: u64) -> Option<Span>
     requires { has_backwards spans.now ≡ false }
     ensures { IsNextOrNone done spans.now result }
@@ -88,7 +86,6 @@ fn next_span(spans: &[Span], done: u64) -> Option<Span>
     next
 }
 
-/// Returns the spans of a set to which the span `added` was added.
 fn with_span(spans: &[Span], added: Span) -> ArrayVec<Span, ROOM>
     requires room { length spans.now ≤ 64 }
     requires forward { added.first ≤ added.last }
@@ -146,7 +143,6 @@ impl Ranges {
         }
     }
 
-    /// Returns the set with the addresses of the span `added`.
     pub(crate) fn with(&self, added: Span) -> Ranges
         requires room { length self.now < 64 }
         requires forward { added.first ≤ added.last }
@@ -193,14 +189,12 @@ impl Ranges {
         self.spans.iter().any(|span| size <= span.last)
     }
 
-    /// Returns the positions in the given sector whose addresses are in the set, in ascending order.
     pub(crate) fn positions_in(&self, sector: u32) -> PositionsIn<'_>
         ensures { AreIncludedIn self.now sector (positions_left result) }
     {
         PositionsIn::new(self.spans(), sector)
     }
 
-    /// Replaces the bytes of the sector whose addresses aren't in the set by those of `other`.
     pub(crate) fn fill_excluded(&self, sector: u32, bytes: &mut [u8], other: &[u8])
         requires long { length bytes.old ≡ 4096 }
         requires other_long { length other.now ≡ 4096 }

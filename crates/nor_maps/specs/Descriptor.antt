@@ -21,11 +21,9 @@ signature_at bytes =
     else if little_from 0 4 bytes == 0x0FF0A55A then Some 0
     else None
 
--- the address of the region table (FRBA), in bytes; `signature` is the index of the signature
 unfoldable pub region_table : (signature : ℕ) → List ℕ → ℕ
 region_table signature bytes = 16 * (little_from (signature + 4) 4 bytes / 2 ^ 16 % 2 ^ 8)
 
--- the address of the masters' section (FMBA), in bytes; `signature` is the index of the signature
 abbrev pub masters_at : (signature : ℕ) → List ℕ → ℕ
 masters_at signature bytes = 16 * (little_from (signature + 8) 4 bytes % 2 ^ 8)
 
@@ -46,7 +44,6 @@ region_names =
 abbrev pub region_name : (index : ℕ) → List ℕ
 region_name index = slice_index_or region_names index []
 
--- the base of an entry (`base_of`) and its limit (`limit_of`), in units of 4 KiB
 abbrev pub base_of : (entry : ℕ) → ℕ
 base_of entry = entry % 2 ^ 15
 
@@ -59,7 +56,6 @@ abbrev pub is_unused : (index entry : ℕ) → Bool
 is_unused index entry =
     nat_lt (limit_of entry) (base_of entry) || entry == 2 ^ 32 - 1 || (entry == 0 && not (index == 0))
 
--- the region of an entry: the blocks of 4 KiB from its base to its limit, both included
 abbrev pub entry_region : (index entry : ℕ) → Region
 entry_region index entry = record {
   start = base_of entry * 4096;
@@ -80,7 +76,6 @@ entries_say size image (Some signature) =
     if nat_lt 4096 (region_table signature image + 4 * entry_count signature image) then Err Short
     else records_say (with_entry size) 4 [] 0 (entry_count signature image) (drop (region_table signature image) image)
 
--- the regions that the descriptor of an image defines for a chip of `size` bytes, or the first fault
 abbrev pub descriptor_says : (size : ℕ) → (image : List ℕ) → Result (List Region) MapFault
 descriptor_says size image =
     if nat_lt (length image) 4096 then Err Short else entries_say size image (signature_at image)
@@ -93,7 +88,8 @@ IsDescriptorFault (InRecord index Twice) = ⊥
 IsDescriptorFault (InRecord index TooMany) = ⊥
 IsDescriptorFault fault = ⊤
 
--- Holds if memory may run out at entry `index`, because it describes a region and no entry up to it has a fault.
+-- Holds if entry `index` describes a region, and no entry up to it has a fault, so that memory may run out at this
+-- entry.
 abbrev pub AsksInDescriptor : (size : ℕ) → (image : List ℕ) → (index : ℕ) → Type 0
 AsksInDescriptor size image index =
     (signature : ℕ) × (signature_at image ≡ Some signature)

@@ -32,7 +32,6 @@ is_fmap_header bytes =
     nat_le 56 (length bytes) && bytes_eq (slice_range bytes 0 8) (codes "__FMAP__") && slice_index bytes 8 == 1
     && is_ended_name (slice_range bytes 22 54) && nat_le (fmap_length bytes) (little_from 18 4 bytes)
 
--- the bytes of an image from its first valid header on, or `None` if it has no valid header
 unfoldable pub first_fmap : (image : List ℕ) → Option (List ℕ)
 first_fmap [] = None
 first_fmap (b ∷ bytes) = if is_fmap_header (b ∷ bytes) then Some (b ∷ bytes) else first_fmap bytes
@@ -44,7 +43,7 @@ area_region area = record {
   name = record { items = before_nul (slice_range area 8 40) };
 }
 
--- The `regions` with that of the area at the start of `area` added, or the fault. An area of size 0 is no region.
+-- The earlier `regions` with the region of `area` added, or its fault. An area of size 0 has no region.
 abbrev pub with_area : (size : ℕ) → List Region → (number : ℕ) → (area : List ℕ) → Result (List Region) MapFault
 with_area size regions number area =
     if little_from 4 4 area == 0 then Ok regions else with_found size regions number (area_region area)
@@ -55,11 +54,10 @@ areas_say size (Some map) =
     if nat_lt (length map) (fmap_length map) then Err Short
     else records_say (with_area size) 42 [] 1 (area_count map) (drop 56 map)
 
--- the regions that the first FMAP of an image defines for a chip of `size` bytes, or the first fault
 abbrev pub fmap_says : (size : ℕ) → (image : List ℕ) → Result (List Region) MapFault
 fmap_says size image = areas_say size (first_fmap image)
 
--- Holds if memory may run out at area `number`, because it has a region and no area up to it has a fault.
+-- Holds if area `number` has a region, and no area up to it has a fault, so that memory may run out at this area.
 abbrev pub AsksInFmap : (size : ℕ) → (image : List ℕ) → (number : ℕ) → Type 0
 AsksInFmap size image number =
     (map : List ℕ) × (first_fmap image ≡ Some map) × AsksAt (with_area size) 42 1 (drop 56 map) number

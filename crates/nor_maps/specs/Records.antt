@@ -7,7 +7,6 @@ use Rattle.nor_layout.specs.Adding.{with_region}
 use Rattle.nor_maps.specs.declared.fault.MapFault.{MapFault}
 use Rattle.nor_maps.specs.declared.fault.MapFault.TheVariants.{Outside, Region as InRecord}
 
--- the bytes before the first NUL, or all bytes if there is no NUL
 abbrev pub before_nul : List ℕ → List ℕ
 before_nul [] = []
 before_nul (b ∷ bytes) = if b == 0 then [] else b ∷ before_nul bytes
@@ -16,13 +15,12 @@ abbrev pub in_record : (number : ℕ) → Result (List Region) RegionFault → R
 in_record number (Ok regions) = Ok regions
 in_record number (Err fault) = Err (InRecord number fault)
 
--- The `regions` with the region of record `number` added, or its fault. The region must lie in a chip of `size` bytes.
 abbrev pub with_found : (size : ℕ) → List Region → (number : ℕ) → Region → Result (List Region) MapFault
 with_found size regions number region =
     if nat_lt region.end size then in_record number (with_region regions region) else Err (Outside number)
 
--- A function that reads a record. It takes the regions of earlier records, the record's number and the bytes from its
--- start on, and returns the regions with its own one added, or its fault.
+-- A function that reads a record. Its arguments are the regions of earlier records, the record's number, and the bytes
+-- from the record's start on. It returns these regions with that of the record added, or the record's fault.
 abbrev pub Reading : Type 0
 Reading = List Region → ℕ → List ℕ → Result (List Region) MapFault
 
@@ -39,7 +37,8 @@ records_say reading len regions number zero bytes = Ok regions
 records_say reading len regions number (suc count) bytes =
     if_read (λ more. records_say reading len more (number + 1) count (drop len bytes)) (reading regions number bytes)
 
--- Holds if memory may run out at record `number`, because it describes a region and no record up to it has a fault.
+-- Holds if record `number` describes a region, and no record up to it has a fault, so that memory may run out at this
+-- record.
 pub record AsksAt (reading : Reading) (len first : ℕ) (bytes : List ℕ) (number : ℕ) : Type 0 where
   pub before : ℕ
   pub number_is : number ≡ before + first

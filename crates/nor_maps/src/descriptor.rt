@@ -33,7 +33,6 @@ fn find_signature(bytes: &[u8]) -> Option<usize>
     }
 }
 
-/// Returns the address of the region table (FRBA) in bytes. `signature` is the index of the signature.
 #[tactic(auto, unfolding(crate::specs::Descriptor::region_table))]
 fn table_address(bytes: &[u8], signature: usize) -> usize
     requires long { 4096 ≤ length bytes.now }
@@ -119,8 +118,9 @@ fn read_entries(alloc: Global, table: &[u8], count: u16, size: u32) -> Result<La
 /// named as flashrom names them: `fd`, `bios`, `me`, `gbe`, `pd`, `reg5`, `bios2`, `reg7`, `ec`, `reg9`, `ie`, `10gbe`,
 /// and `reg12` to `reg15`.
 ///
-/// Descriptors of the 100 series and later have 16 entries, and the number that they state isn't valid. Earlier ones
-/// have the stated number of entries, but at least five, because they may state fewer than they use.
+/// If 16 entries fit before the masters' section, the table has 16, as in descriptors of the 100 series and later,
+/// whose stated number isn't valid. Otherwise it has the stated number of entries, but at least five, because
+/// descriptors may state fewer than they use.
 ///
 /// Returns `Short` if there are fewer than 4,096 bytes, `Missing` if the signature is at neither 10h nor 0, and `Short`
 /// if the table runs past the descriptor. Otherwise returns the fault of the first entry that has one: `Outside`, or

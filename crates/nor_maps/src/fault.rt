@@ -8,7 +8,7 @@ use std::error::Error;
 use std::fmt;
 
 /// The reason why no layout can be read from an image. `record` is the number of the record with the fault: the entries
-/// of a descriptor are counted from 0, as its regions are, and the areas of an FMAP from 1.
+/// of a descriptor are counted from 0, and the areas of an FMAP from 1.
 #[derive(Clone, Copy, Debug, PartialEq, Eq)]
 pub enum MapFault {
     /// The image has no flash descriptor, or no FMAP.
@@ -17,7 +17,7 @@ pub enum MapFault {
     Short,
     /// A region reaches past the end of the chip.
     Outside { record: u16 },
-    /// The layout can't have a region, because of its name, because it is the 65th, or because memory ran out.
+    /// A region can't be added to the layout, for the given reason.
     Region { record: u16, fault: RegionFault },
 }
 

@@ -86,7 +86,8 @@ fn read_areas(alloc: Global, areas: &[u8], count: u16, size: u32) -> Result<Layo
 }
 
 /// Reads the first FMAP of an image as the layout of a chip of `size` bytes (Chromium's flashmap, lib/fmap.h;
-/// flashrom's manual page, `--fmap`). The regions are the areas, in their order and at their offsets. They may overlap.
+/// flashrom's manual page, `--fmap`). The regions are the areas, in their order and at their offsets, except those of
+/// size 0. They may overlap.
 ///
 /// An FMAP begins with a valid header: the signature `__FMAP__`, major version 1, a name of visible ASCII characters
 /// that ends with NUL, and a stated size of the image that is not less than the length of the FMAP. The FMAP at the

@@ -1,7 +1,7 @@
 //! Layouts that an image itself contains: the flash descriptor of Intel's chipsets, and Chromium's FMAP.
 //!
-//! Both are tables of named regions. `read_descriptor` and `read_fmap` turn them into a `Layout` of nor_layout, which
-//! is also what a layout file is read into. A request can then include regions by their names.
+//! Both are tables of named regions, which `read_descriptor` and `read_fmap` turn into a `Layout` of nor_layout. A
+//! request can then include regions by their names.
 //!
 //! ```rust
 //! use nor_maps::{MapFault, read_descriptor, read_fmap};

@@ -42,8 +42,6 @@ pub(crate) fn name_in(field: &[u8]) -> ArrayVec<u8, NAME_LEN>
     name
 }
 
-/// Adds the region from `start` to `end`, both included, of record `number` to the layout of a chip of `size` bytes.
-/// Returns `Outside`, or `Region` with the reason why the layout can't have it.
 pub(crate) fn add_found(
     layout: &mut Layout,
     size: u32,

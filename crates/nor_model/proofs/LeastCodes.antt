@@ -6,7 +6,6 @@ use Rattle.std.proofs.lemmas.Bool.Decides.{nat_tests}
 use mathlib.Core.Bool.{beq}
 use Rattle.nor_model.specs.Offer.{ProtectsExactly, IsLeastCode, IsNotOffered}
 
--- Holds if two ranges have the same length and, unless they are empty, the same start.
 pub record AreAlike (start len start' len' : ℕ) : Type 0 where
   pub as_long : len ≡ len'
   pub alike : (len' ≡ 0) ⊎ (start ≡ start')

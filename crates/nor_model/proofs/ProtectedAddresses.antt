@@ -9,7 +9,6 @@ use Rattle.nor_model.specs.Offer.{ProtectsExactly}
 use Rattle.nor_model.specs.Guard.{protected_by, named_length, is_undefined, is_complement, is_bottom, names_sectors, bp_of}
 use Rattle.nor_model.specs.Units.{LieAtAnEnd, HoldsSomewhere, OnFirst, OnLast}
 
--- Holds if `n` is at most `size` and a multiple of 1 KiB, and of 4 KiB if `size` is a multiple of 256 KiB.
 pub record IsPart (size n : ℕ) : Type 0 where
   pub within : n ≤ size
   pub whole : n % 1024 ≡ 0
@@ -28,7 +27,6 @@ named_length-part size code are = part_of size (names_sectors code) (bp_of code)
 part-rest : (size n : ℕ) → size % 65536 ≡ 0 → IsPart size n → IsPart size (size - n)
 part-rest size n blocks part = grind arith
 
--- The value of `protected_by` for the address `a`, with the properties of the code as arguments.
 address_test : ℕ → ℕ → Bool → Bool → Bool → ℕ → Bool
 address_test size named undefined complement bottom a =
     let is_named = if bottom then nat_lt a named else nat_le (size - named) a in
@@ -94,8 +92,6 @@ protected_by-page_of size code at are below = (
       (omega arith) (omega arith) ∙ there.holds),
 )
 
--- Holds if the range is the one that a defined code protects. `named` is the length of the selected range. The start of
--- an empty range may have any value.
 pub record IsSelectedRange (size named : ℕ) (complement bottom : Bool) (start len : ℕ) : Type 0 where
   pub len_is : len ≡ (if complement then size - named else named)
   pub start_is : 0 < len

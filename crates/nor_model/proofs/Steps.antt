@@ -6,7 +6,6 @@ use Rattle.nor_model.specs.Chip.{Chip}
 use Rattle.nor_model.specs.Command.{command_of}
 use Rattle.nor_model.specs.Step.{Step, is_carried_out, done_of}
 
--- Holds if two chips agree in everything but their bytes and their operations in progress.
 pub record Agrees (x y : Chip) : Type 0 where
   pub config : y.config ≡ x.config
   pub kept : y.kept ≡ x.kept

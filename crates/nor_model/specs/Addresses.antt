@@ -3,15 +3,13 @@ use Rattle.std.specs.Prelude.{◌≡◌, ◌<◌, ◌≤◌, ◌+◌, ◌%◌, �
 use Rattle.nor_model.specs.declared.command.Command.{Command}
 use Rattle.nor_model.specs.declared.command.Command.TheVariants.{Program, Erase, ReadData, ReadSfdp}
 
--- Holds if the range consists of whole sectors, isn't empty, and lies on a chip of `size` bytes.
 pub record IsSectorRange (size start len : ℕ) : Type 0 where
   pub start_aligned : start % 4096 ≡ 0
   pub len_aligned : len % 4096 ≡ 0
   pub not_empty : 0 < len
   pub within : start + len ≤ size
 
--- Holds if the address of the command, if it has one, is below `size`. The range of an erase must consist of whole
--- sectors. Every command that `command_of` returns for a configuration of this size satisfies this.
+-- Holds if the command's address, if it has one, is below `size`, and an erase covers whole sectors of the chip.
 abbrev pub HasValidAddress : ℕ → Command → Type 0
 HasValidAddress size (Program at) = at < size
 HasValidAddress size (ReadData at) = at < size

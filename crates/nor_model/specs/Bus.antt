@@ -11,7 +11,6 @@ use Rattle.nor_model.specs.PolledReady.{polled_ready_after, polled_ready_in}
 use Rattle.nor_model.specs.declared.bus.Stopped.{Stopped}
 use Rattle.nor_model.specs.Step.{Step, done_of, wears}
 
--- The state of a bus, as contracts see it.
 pub record BusState : Type 0 where
   pub chip : Chip
   -- On a punctual bus: how many transactions it will still carry out unless `allow` is called. Code can't read this.
@@ -42,8 +41,6 @@ pub record BusState : Type 0 where
   -- Whether the chip may be of a further type, which only programs for real chips know. Never on a well-behaved bus.
   pub further : Bool
 
--- Holds if a call did not change whether the bus is well-behaved, steady, unlimited or punctual, nor the number
--- `longer`, nor the chip's configuration on a well-behaved bus.
 pub record SameNature (old new : BusState) : Type 0 where
   pub honest : new.honest ≡ old.honest
   pub steady : new.steady ≡ old.steady
@@ -52,8 +49,7 @@ pub record SameNature (old new : BusState) : Type 0 where
   pub punctual : new.punctual ≡ old.punctual
   pub config : old.honest ≡ true → new.chip.config ≡ old.chip.config
 
--- Holds for every sequence of transactions, on every bus: they don't change what `SameNature` names, the history
--- continues the earlier one, and no allowance was set.
+-- Holds after any sequence of transactions on any bus.
 pub record KeepsNature (old new : BusState) : Type 0 where
   pub honest : new.honest ≡ old.honest
   pub steady : new.steady ≡ old.steady
@@ -64,14 +60,13 @@ pub record KeepsNature (old new : BusState) : Type 0 where
   pub history : Continues old.history new.history
   pub allowances : new.allowances ≡ old.allowances
 
--- Holds if the bus is well-behaved and takes this transaction. A bus that isn't unlimited takes those that send at most
--- 260 bytes (a page program) and read at most 4,096 (a sector) and `longer` more.
+-- Holds if the bus is well-behaved and takes a transaction that sends `out` and reads `replies` bytes. The limits of a
+-- bus that isn't unlimited fit a page program (260 bytes) and a read of a sector (4,096).
 pub record IsHonestFor (out : List ℕ) (replies : ℕ) (bus : BusState) : Type 0 where
   pub honest : bus.honest ≡ true
   pub fits : (bus.unlimited ≡ true) ⊎ ((length out ≤ 260) × (replies ≤ 4096 + bus.longer))
 
--- The effect of a transaction on what every bus records. `out` is added to `sent` only if it may modify a chip, and
--- only a poll that received a reply byte changes `polled_ready`.
+-- The effect of a transaction on what every bus records, even a faulty one.
 pub record Records (out answer : List ℕ) (outcome : Result Unit Stopped) (old new : BusState) : Type 0 where
   pub history : new.history ≡ exchange_of out answer outcome ∷ old.history
   pub sent : new.sent ≡ with_sent out old.sent
@@ -92,7 +87,6 @@ pub record AtStop (out : List ℕ) (old new : BusState) : Type 0 where
   pub none : old.steady ≡ true → count ≡ 0
   pub unsent : old.steady ≡ true → new.chip ≡ old.chip
 
--- Holds if the bus stopped as `AtStop` says. A punctual bus stopped because it had no transaction left.
 pub record Stops (out : List ℕ) (old new : BusState) : Type 0 where
   pub none_left : old.punctual ≡ true → old.left ≡ 0
   pub left : old.punctual ≡ true → new.left ≡ old.left
@@ -113,7 +107,6 @@ pub record Transfers (out before answer : List ℕ) (outcome : Result Unit Stopp
   pub carries : IsHonestFor out (length before) old → OnOk outcome (Carries out answer old new)
   pub records : Records out answer outcome old new
 
--- The effect of `allow`. On a punctual bus `n` transactions are then left; for other buses this isn't known.
 pub record Allows (n : ℕ) (old new : BusState) : Type 0 where
   pub chip : new.chip ≡ old.chip
   pub left : old.honest ≡ true → old.punctual ≡ true → new.left ≡ n

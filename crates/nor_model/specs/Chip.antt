@@ -10,7 +10,6 @@ pub record KeptBits : Type 0 where
   -- Bits 0 to 6 of status 2: SRP1, QE, a reserved bit, LB1, LB2, LB3 and CMP, the lowest bit first.
   pub two : ℕ
 
--- the non-volatile bits in the two bytes of `status`, status 1 first
 abbrev pub kept_in : (status : List ℕ) → KeptBits
 kept_in status = record { one = slice_index status 0 / 4; two = slice_index status 1 % 128 }
 
@@ -27,14 +26,12 @@ pub record Chip : Type 0 where
   -- The operation in progress. This value matters only while the chip is busy.
   pub running : Running
 
--- Holds if the values are in range, which an implementation of `Bus` proves for the chip of a well-behaved bus.
 pub record IsChip (chip : Chip) : Type 0 where
   pub busy : chip.busy < 65536
   pub kept1 : chip.kept.one < 64
   pub kept2 : chip.kept.two < 128
   pub bytes : (a : ℕ) → chip.bytes a < 256
 
--- the byte that 05h reads, status 1: BUSY, WEL, and the non-volatile bits above them
 abbrev pub status1_of : Chip → ℕ
 status1_of chip = 4 * chip.kept.one + (if chip.latch then 2 else 0) + (if chip.busy == 0 then 0 else 1)
 
@@ -48,14 +45,12 @@ status_of chip = status1_of chip ∷ status2_of chip ∷ []
 abbrev pub srp0_bit : KeptBits → ℕ
 srp0_bit kept = kept.one / 32
 
--- SEC, TB, BP2, BP1 and BP0 as a number below 32, in which SEC is the highest bit
 abbrev pub sec_to_bp0 : KeptBits → ℕ
 sec_to_bp0 kept = kept.one % 32
 
 abbrev pub cmp_bit : KeptBits → ℕ
 cmp_bit kept = kept.two / 64 % 2
 
--- LB3, LB2, LB1, the reserved bit, QE and SRP1 as a number below 64, in which LB3 is the highest bit
 abbrev pub lb3_to_srp1 : KeptBits → ℕ
 lb3_to_srp1 kept = kept.two % 64
 
@@ -70,11 +65,9 @@ has_srp1 kept = kept.two % 2 == 1
 abbrev pub is_locked : KeptBits → Bool
 is_locked kept = has_srp0 kept || has_srp1 kept
 
--- the SFDP byte at the address `a`, which is FFh past the end of the SFDP bytes
 abbrev pub sfdp_byte : Config → (a : ℕ) → ℕ
 sfdp_byte config a = slice_index_or config.sfdp a 255
 
--- Holds if two chips have the same configuration, bytes and non-volatile status bits.
 pub record IsSame (old new : Chip) : Type 0 where
   pub config : new.config ≡ old.config
   pub bytes : (a : ℕ) → new.bytes a ≡ old.bytes a

@@ -4,7 +4,6 @@ use Rattle.nor_model.specs.declared.config.Config.{Config}
 use Rattle.nor_model.specs.declared.command.Command.{Command}
 use Rattle.nor_model.specs.declared.command.Command.TheVariants.{WriteEnable, WriteDisable, Poll, ReadStatus2, WriteStatus, Program, Erase, ReadData, ReadId, ReadSfdp, ReadUnique, Ignored}
 
--- the address that the bytes `x`, `y` and `z` form, high byte first, modulo the chip's size
 abbrev pub address_of : Config → (x y z : ℕ) → ℕ
 address_of config x y z = (65536 * x + 256 * y + z) % config.size
 
@@ -29,7 +28,6 @@ addressed_command config opcode at replies =
     else if opcode == 0xD8 && replies == 0 && config.kinds.k64 then aligned_erase 65536 at
     else Ignored
 
--- The command of a transaction that sends `out` and reads `replies` bytes, or `Ignored` for none.
 abbrev pub command_of : Config → (out : List ℕ) → (replies : ℕ) → Command
 command_of config [] replies = Ignored
 command_of config (opcode ∷ []) replies = bare_command config opcode replies
@@ -53,7 +51,6 @@ is_quiet_opcode opcode =
 abbrev pub is_erase_opcode : (opcode : ℕ) → Bool
 is_erase_opcode opcode = opcode == 0x20 || opcode == 0x52 || opcode == 0xD8 || opcode == 0xC7
 
--- true for the seven modifying opcodes: write enable, write status, page program and the four erase opcodes
 abbrev pub is_changing_opcode : (opcode : ℕ) → Bool
 is_changing_opcode opcode = opcode == 0x06 || opcode == 0x01 || opcode == 0x02 || is_erase_opcode opcode
 
@@ -61,7 +58,6 @@ abbrev pub begins_change : (out : List ℕ) → Bool
 begins_change [] = false
 begins_change (opcode ∷ rest) = is_changing_opcode opcode
 
--- true if `out` is empty, or begins with a quiet opcode
 abbrev pub begins_quiet : (out : List ℕ) → Bool
 begins_quiet [] = true
 begins_quiet (opcode ∷ rest) = is_quiet_opcode opcode

@@ -27,9 +27,7 @@ is_complement code = code / 32 % 2 == 1
 abbrev pub is_undefined : (code : ℕ) → Bool
 is_undefined code = names_sectors code && bp_of code == 6
 
--- The length in bytes of the range that `code` selects on a chip of `size` bytes. BP 000 selects nothing, and BP 111
--- the whole chip. With SEC, BP 001 to 101 select 4, 8, 16, 32 and 32 KiB. Without SEC, BP 001 selects a 64th of the
--- chip, and each further step up to 110 doubles the length, up to one half of the chip.
+-- The length in bytes of the range that `code` selects on a chip of `size` bytes.
 abbrev pub named_length : (size code : ℕ) → ℕ
 named_length size code =
     if bp_of code == 0 then 0
@@ -45,15 +43,12 @@ abbrev pub is_address_named : (size code a : ℕ) → Bool
 is_address_named size code a =
     if is_bottom code then nat_lt a (named_length size code) else nat_le (size - named_length size code) a
 
--- True if `code` protects the address `a`: the selected range, or with CMP all other addresses. An undefined code
--- protects all addresses of the chip.
 unfoldable pub protected_by : (size code a : ℕ) → Bool
 protected_by size code a =
     nat_lt a size
     && (is_undefined code
     || (if is_complement code then not (is_address_named size code a) else is_address_named size code a))
 
--- true if `chip` protects the address `a`; always false for a chip without block protection
 abbrev pub is_protected : Chip → (a : ℕ) → Bool
 is_protected chip a = chip.config.scheme && protected_by chip.config.size (code_of chip.kept) a
 

@@ -11,7 +11,6 @@ replied out reply = record { out = out; reply = Some reply }
 abbrev pub stopped : (out : List ℕ) → Exchange
 stopped out = record { out = out; reply = None }
 
--- A transaction with the reply `answer` or, if the outcome is an error, one at which the bus stopped.
 abbrev pub exchange_of : (out answer : List ℕ) → Result Unit Stopped → Exchange
 exchange_of out answer (Ok done) = replied out answer
 exchange_of out answer (Err stop) = stopped out
@@ -25,13 +24,10 @@ abbrev pub allowances_with : Event → List ℕ → List ℕ
 allowances_with (event.Allowed n) earlier = n ∷ earlier
 allowances_with _ earlier = earlier
 
--- Holds if the history `new` is `old`, or `old` with later transactions in front of it.
 pub record Continues (old new : List Exchange) : Type 0 where
-  -- The later transactions, the last one first.
   pub later : List Exchange
   pub is : new ≡ later ++ old
 
--- the bytes of a reply, or no bytes if there is no reply because the bus stopped
 abbrev pub bytes_or_none : Option (List ℕ) → List ℕ
 bytes_or_none (Some bytes) = bytes
 bytes_or_none None = []
@@ -62,20 +58,17 @@ pub record Answered (is : List ℕ → Bool) (old new : List Exchange) (reply : 
   pub asks : is out ≡ true
   pub history : new ≡ replied out reply ∷ old
 
--- Holds if the bus stopped at the last transaction.
 pub record EndsStopped (history : List Exchange) : Type 0 where
   pub out : List ℕ
   pub earlier : List Exchange
   pub is : history ≡ stopped out ∷ earlier
 
--- Holds if the last transaction was a poll, and its one reply byte showed BUSY.
 pub record EndsBusy (history : List Exchange) : Type 0 where
   pub status : ℕ
   pub earlier : List Exchange
   pub is : history ≡ replied (0x05 ∷ []) (status ∷ []) ∷ earlier
   pub busy : status % 2 ≡ 1
 
--- Holds if the last transaction was a read (03h), of any length, from the start of the sector that contains `address`.
 pub record EndsReading (address : ℕ) (history : List Exchange) : Type 0 where
   pub earlier : List Exchange
   pub bytes : List ℕ

@@ -7,7 +7,6 @@ use Rattle.nor_model.specs.Sfdp.{sfdp_of, sfdp_with}
 abbrev pub all_kinds : Kinds
 all_kinds = record { k32 = true; k64 = true }
 
--- Holds if `config` has these properties. The SFDP bytes are padded with FFh to 256 bytes, and the unique ID is zero.
 pub record HasParts (with_id : List ℕ) (with_size : ℕ) (with_kinds : Kinds) (with_scheme : Bool)
     (with_sfdp : List ℕ) (config : Config) : Type 0 where
   pub id : config.id ≡ with_id
@@ -17,7 +16,7 @@ pub record HasParts (with_id : List ℕ) (with_size : ℕ) (with_kinds : Kinds) 
   pub unique : config.unique ≡ replicate 8 0
   pub sfdp : config.sfdp ≡ with_sfdp ++ replicate (256 - length with_sfdp) 255
 
--- Holds for the configuration of an emulated chip. Its SFDP bytes describe its size and all erase types.
+-- Holds for the configuration of an emulated chip. Its SFDP bytes name all erase types, even if `with_kinds` lacks one.
 abbrev pub IsEmulatedWith : (with_id : List ℕ) → (with_size : ℕ) → Kinds → (with_scheme : Bool) → Config → Type 0
 IsEmulatedWith with_id with_size with_kinds with_scheme =
     HasParts with_id with_size with_kinds with_scheme (sfdp_with (8 * with_size - 1))

@@ -11,17 +11,14 @@ pub record IsRangeOf (size code start len : ℕ) : Type 0 where
   pub exactly : ProtectsExactly size code start len
   pub plain : len ≡ 0 → start ≡ 0
 
--- Holds if `code` has six bits, and the datasheets define it.
 pub record IsDefined (code : ℕ) : Type 0 where
   pub six_bits : code < 64
   pub defined : is_undefined code ≡ false
 
--- Holds if `code` is the least defined code that protects exactly the range of `len` bytes from `start`.
 pub record IsLeastCode (size start len code : ℕ) : Type 0 where
   pub defined : IsDefined code
   pub protects : ProtectsExactly size code start len
   pub least : (lower : ℕ) → lower < code → IsDefined lower → ¬ ProtectsExactly size lower start len
 
--- holds if no defined code protects exactly the range of `len` bytes from `start`
 abbrev pub IsNotOffered : (size start len : ℕ) → Type 0
 IsNotOffered size start len = (code : ℕ) → IsDefined code → ¬ ProtectsExactly size code start len

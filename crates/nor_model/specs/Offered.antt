@@ -10,8 +10,6 @@ size_of walk = walk.size
 abbrev pub next_code : Offered → ℕ
 next_code walk = walk.next
 
--- Holds if the iterator yields this range, whose least code is `code`, and passes this code. An empty range starts at
--- 0.
 pub record IsNextRange (old : Offered) (start len : ℕ) (new : Offered) : Type 0 where
   pub code : ℕ
   pub not_passed : next_code old ≤ code
@@ -22,13 +20,11 @@ pub record IsNextRange (old : Offered) (start len : ℕ) (new : Offered) : Type 
   pub passed : next_code new ≡ code + 1
   pub size : size_of new ≡ size_of old
 
--- Holds if no code from the old position on is the least code of a range. The new position is past all codes.
 pub record IsAtEnd (old new : Offered) : Type 0 where
   pub none : (code start len : ℕ) → next_code old ≤ code → ¬ IsLeastCode (size_of old) start len code
   pub ended : next_code new ≡ 64
   pub size : size_of new ≡ size_of old
 
--- The result of one call of `next`: the next range, or `None` if none is left.
 abbrev pub ReturnsNextRange : Offered → Option (ℕ × ℕ) → Offered → Type 0
 ReturnsNextRange old (Some (start, len)) new = IsNextRange old start len new
 ReturnsNextRange old None new = IsAtEnd old new

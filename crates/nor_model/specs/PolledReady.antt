@@ -11,16 +11,13 @@ is_poll (opcode ∷ next ∷ rest) = false
 abbrev pub shows_ready : (answer : List ℕ) → Bool
 shows_ready answer = slice_index answer (length answer - 1) % 2 == 0
 
--- The value of `polled_ready` after a transaction, if it was `before`. Only a poll with a reply byte changes it.
 abbrev pub polled_ready_after : (out answer : List ℕ) → (before : Bool) → Bool
 polled_ready_after out answer before = if is_poll out && nat_lt 0 (length answer) then shows_ready answer else before
 
--- The value of `polled_ready` after a transaction with this reply. A stop (`None`) keeps the value.
 abbrev pub polled_ready_by : (out : List ℕ) → (reply : Option (List ℕ)) → (before : Bool) → Bool
 polled_ready_by out (Some answer) before = polled_ready_after out answer before
 polled_ready_by out None before = before
 
--- True if, in this history, the last poll with a reply byte showed a ready chip. False if there was no such poll.
 abbrev pub polled_ready_in : List Exchange → Bool
 polled_ready_in [] = false
 polled_ready_in (exchange ∷ earlier) = polled_ready_by exchange.out exchange.reply (polled_ready_in earlier)

@@ -4,7 +4,6 @@ use Rattle.nor_model.specs.declared.running.Running.{Running}
 use Rattle.nor_model.specs.declared.running.Running.TheVariants.{Program, Erase, StatusWrite, Unknown}
 use Rattle.nor_model.specs.Chip.{Chip, IsSame, KeptBits}
 
--- True if the operation works on the byte at the address `a`. An unknown operation counts as working on every byte.
 abbrev pub is_in_work : Running → (a : ℕ) → Bool
 is_in_work (Program page) a = a / 256 == page
 is_in_work (Erase start len) a = nat_le start a && nat_lt a (start + len)
@@ -15,8 +14,6 @@ abbrev pub is_known_running : Running → Bool
 is_known_running Unknown = false
 is_known_running _ = true
 
--- Holds if the page or erase block of the operation lies on the chip, and the bits from before a status write are in
--- range.
 pub record RunsInside (size : ℕ) (running : Running) : Type 0 where
   pub page : (p : ℕ) → running ≡ Program p → 256 * p + 256 ≤ size
   pub unit : (start len : ℕ) → running ≡ Erase start len → start + len ≤ size
@@ -40,11 +37,9 @@ pub record PowerLost (old new : Chip) : Type 0 where
   pub kept : KeptCut old.running old.kept new.kept
   pub idle : old.busy ≡ 0 → IsSame old new
 
--- true if `chip` is busy with a known operation that works on the address `a`
 abbrev pub is_interrupted : Chip → ℕ → Bool
 is_interrupted chip a = not (chip.busy == 0) && is_known_running chip.running && is_in_work chip.running a
 
--- the non-volatile status bits from before a status write in progress, otherwise those of the chip
 abbrev pub kept_before : Chip → KeptBits
 kept_before chip = elim chip.running [ StatusWrite one two ↦ record { one = one; two = two } | _ ↦ chip.kept ]
 

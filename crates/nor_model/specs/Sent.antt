@@ -4,12 +4,10 @@ use Rattle.std.specs.Prelude.{◌≡◌, ◌+◌, ◌*◌, ◌/◌, ◌==◌, �
 use Rattle.nor_model.specs.Exchange.{Exchange}
 use Rattle.nor_model.specs.Command.{begins_change, begins_quiet, is_change, is_erase_opcode}
 
--- A range of consecutive sectors.
 pub record TargetedSectors : Type 0 where
   pub first : ℕ
   pub count : ℕ
 
--- all 4,096 sectors that a 24-bit address can lie in
 abbrev pub all_targeted : TargetedSectors
 all_targeted = record { first = 0; count = 4096 }
 
@@ -19,7 +17,6 @@ none_targeted = record { first = 0; count = 0 }
 abbrev pub block_targeted : (count sector : ℕ) → TargetedSectors
 block_targeted count sector = record { first = sector / count * count; count = count }
 
--- The sectors that `opcode` without an address targets: all for C7h (chip erase), otherwise none.
 abbrev pub bare_targeted : (opcode : ℕ) → TargetedSectors
 bare_targeted opcode = if opcode == 0xC7 then all_targeted else none_targeted
 
@@ -30,7 +27,6 @@ addressed_targeted opcode sector =
     else if opcode == 0xD8 then block_targeted 16 sector
     else bare_targeted opcode
 
--- the sectors that a transaction that sends `out` targets with an erase or a program
 abbrev pub targeted_by : (out : List ℕ) → TargetedSectors
 targeted_by [] = none_targeted
 targeted_by (opcode ∷ []) = bare_targeted opcode
@@ -56,7 +52,6 @@ abbrev pub begins_status_write : (out : List ℕ) → Bool
 begins_status_write [] = false
 begins_status_write (opcode ∷ rest) = opcode == 0x01
 
--- true if `out` is a status write with exactly the bytes `one` and `two`
 abbrev pub writes_status : (out : List ℕ) → (one two : ℕ) → Bool
 writes_status (opcode ∷ x ∷ y ∷ []) one two = opcode == 0x01 && x == one && y == two
 writes_status _ one two = false
@@ -67,14 +62,12 @@ writes_status _ one two = false
 abbrev pub is_unknown_to_model : (out : List ℕ) → Bool
 is_unknown_to_model out = not (begins_quiet out || is_change out)
 
--- The bytes of each transaction that the bus was asked to send and that may modify a chip, the last one first.
 abbrev pub Sent : Type 0
 Sent = List (List ℕ)
 
 abbrev pub with_sent : (out : List ℕ) → Sent → Sent
 with_sent out before = if begins_quiet out then before else out ∷ before
 
--- the transactions of this history that may modify a chip, the last one first
 abbrev pub sent_in : List Exchange → Sent
 sent_in [] = []
 sent_in (exchange ∷ earlier) = with_sent exchange.out (sent_in earlier)
@@ -90,19 +83,15 @@ abbrev pub times_sent : (is : List ℕ → Bool) → Sent → ℕ
 times_sent is [] = 0
 times_sent is (out ∷ before) = counted_once (is out) (times_sent is before)
 
--- true if some transaction of the list begins with a modifying opcode
 abbrev pub is_stirred : Sent → Bool
 is_stirred sent = has_sent begins_change sent
 
--- true if the model does not know some transaction of the list
 abbrev pub has_unknown : Sent → Bool
 has_unknown sent = has_sent is_unknown_to_model sent
 
--- true if some transaction of the list targets the sector `s` with an erase or a program
 abbrev pub is_targeted : Sent → ℕ → Bool
 is_targeted sent s = has_sent (λ (out : List ℕ). targets out s) sent
 
--- true if some transaction of the list is a status write with the bytes `one` and `two`
 abbrev pub has_written : Sent → (one two : ℕ) → Bool
 has_written sent one two = has_sent (λ (out : List ℕ). writes_status out one two) sent
 
@@ -115,7 +104,6 @@ programs_of sent = times_sent begins_program sent
 abbrev pub status_writes_of : Sent → ℕ
 status_writes_of sent = times_sent begins_status_write sent
 
--- The effect of one transaction, which sends `out`, on each property of the list `Sent`.
 pub record RecordsSent (out : List ℕ) (old new : Sent) : Type 0 where
   pub quiet : begins_quiet out ≡ true → new ≡ old
   pub stirred : is_stirred new ≡ (is_stirred old || begins_change out)

@@ -25,7 +25,6 @@ is_carried_out chip (Erase start len) = is_idle chip && chip.latch && not (is_bl
 is_carried_out chip Ignored = false
 is_carried_out chip _ = is_idle chip
 
--- The command that the chip carries out for a transaction, or `Ignored` if it carries out none.
 abbrev pub done_of : Chip → (out : List ℕ) → (replies : ℕ) → Command
 done_of chip out replies =
     let command = command_of chip.config out replies in if is_carried_out chip command then command else Ignored
@@ -50,12 +49,10 @@ last_for at (byte ∷ sent) a = elim (last_for (at + 1) sent a) [
   | None ↦ (if at % 256 == a % 256 then Some byte else None)
 ]
 
--- The byte `old` after a program: ANDed with the byte that was sent for its address, if any.
 abbrev pub lowered : (old : ℕ) → Option ℕ → ℕ
 lowered old None = old
 lowered old (Some byte) = bit_and old byte
 
--- the byte at the address `a` after the command; `sent` has the data of a program
 abbrev pub byte_after : Chip → Command → (sent : List ℕ) → (a : ℕ) → ℕ
 byte_after chip (Program at) sent a =
     if a / 256 == at / 256 then lowered (chip.bytes a) (last_for at sent a) else chip.bytes a
@@ -65,7 +62,6 @@ byte_after chip _ sent a = chip.bytes a
 abbrev pub cmp_qe_srp1 : ℕ
 cmp_qe_srp1 = 0b1000011
 
--- the mask of the one-time programmable bits LB3, LB2 and LB1 in status 2
 abbrev pub lb3_to_lb1 : ℕ
 lb3_to_lb1 = 0b0111000
 
@@ -81,15 +77,12 @@ kept_after chip (WriteStatus one two) = record {
 }
 kept_after chip _ = chip.kept
 
--- true if the command is an operation, which may leave the chip busy
 abbrev pub is_operation : Command → Bool
 is_operation (WriteStatus one two) = true
 is_operation (Program at) = true
 is_operation (Erase start len) = true
 is_operation _ = false
 
--- Holds if `busy` polls may still show BUSY after the command: after an operation any number below 65,536, after a poll
--- one less than before.
 abbrev pub BusyAfter : Chip → Command → (busy : ℕ) → Type 0
 BusyAfter chip (WriteStatus one two) busy = busy < 65536
 BusyAfter chip (Program at) busy = busy < 65536
@@ -108,7 +101,6 @@ latch_after chip (Erase start len) busy = not (busy == 0)
 latch_after chip Poll busy = if chip.busy == 1 then false else chip.latch
 latch_after chip _ busy = chip.latch
 
--- The operation in progress after the command: the command itself if it is one, otherwise the one from before.
 abbrev pub running_after : Chip → Command → Running
 running_after chip (WriteStatus one two) = Runs.StatusWrite chip.kept.one chip.kept.two
 running_after chip (Program at) = Runs.Program (at / 256)
@@ -129,7 +121,6 @@ pub record Does (command : Command) (sent : List ℕ) (old : Chip) (answer : Lis
 abbrev pub Step : (old : Chip) → (out answer : List ℕ) → (new : Chip) → Type 0
 Step old out answer new = Does (done_of old out (length answer)) (drop 4 out) old answer new
 
--- true if the command erases `sector`: it is an erase, and the sector begins in the range that it erases
 abbrev pub wears : Command → (sector : ℕ) → Bool
 wears (Erase start len) sector = nat_le start (4096 * sector) && nat_lt (4096 * sector) (start + len)
 wears _ sector = false

@@ -8,11 +8,9 @@ pub record HoldsSomewhere (test : ℕ → Bool) (start len : ℕ) : Type 0 where
   pub before : place < start + len
   pub holds : test place ≡ true
 
--- holds if, among the addresses below `size`, `test` is true exactly for those below `border`
 abbrev pub OnFirst : ℕ → (ℕ → Bool) → ℕ → Type 0
 OnFirst size test border = (a : ℕ) → a < size → test a ≡ nat_lt a border
 
--- holds if, among the addresses below `size`, `test` is true exactly for those from `border` on
 abbrev pub OnLast : ℕ → (ℕ → Bool) → ℕ → Type 0
 OnLast size test border = (a : ℕ) → a < size → test a ≡ nat_le border a
 

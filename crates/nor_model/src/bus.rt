@@ -20,22 +20,20 @@ impl std::error::Error for Stopped {}
 
 /// A bus to a chip. A transaction sends the bytes `out`, and then fills `reply` with the bytes that it reads.
 ///
-/// Contracts see a bus as a `BusState`. A *well-behaved* bus (`honest`) carries out each transaction as the modelled
-/// chip would, or stops. A *punctual* bus stops if and only if it has no transaction left; any other may stop at any
-/// transaction. Clauses that count transactions are about punctual buses. An *unlimited* bus takes transactions of any
-/// length. Any other well-behaved bus takes those that send at most 260 bytes (a page program) and read at most 4,096
-/// (a sector) plus `longer`. For others only `nature` and `records` of `Transfers` hold.
+/// Contracts see a bus as a `BusState`. On every bus, even a faulty one, `nature` and `records` of `Transfers` hold.
+/// The other clauses depend on these properties:
 ///
-/// If a *steady* bus stops, it sends no byte of the transaction and keeps the chip's power. Any other bus that stops
-/// may have sent the first bytes and lost bytes of the reply, and the chip may have lost its power.
-///
-/// A faulty bus may do anything that `nature` and `records` allow, which hold for every bus: a transaction doesn't
-/// change whether the bus is well-behaved, steady, unlimited or punctual, and is recorded with its reply.
+/// - A *well-behaved* bus (`honest`) carries out each transaction that it takes as the modelled chip would, or stops.
+/// - A *punctual* bus stops if and only if it has no transaction left. Any other bus may stop at any transaction.
+/// - If a *steady* bus stops, it sends no byte of the transaction and keeps the chip's power. Any other bus may have
+///   sent the first bytes and lost bytes of the reply, and the chip may have lost its power.
+/// - An *unlimited* bus takes transactions of any length. Any other well-behaved bus takes those that send at most 260
+///   bytes (a page program) and read at most 4,096 (a sector) plus `longer`.
 pub trait Bus {
     ghost state: { Self → BusState };
 
-    /// Sends `out`, then reads `reply`. Returns `Stopped` if the transaction failed. If the bus is well-behaved and
-    /// punctual and takes a transaction of this length, `reply` is then as it was before the call.
+    /// Sends `out`, then reads `reply`. Returns `Stopped` if the transaction failed. After a failure, `reply` is
+    /// unchanged if the bus is well-behaved and punctual and takes a transaction of this length.
     fn transfer(&mut self, out: &[u8], reply: &mut [u8]) -> Result<(), Stopped>
         ensures { Transfers out.now reply.old reply.new result (state self.old) (state self.new) };
 

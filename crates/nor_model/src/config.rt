@@ -18,7 +18,7 @@ pub const TINY64_SFDP: [u8; 52] = [
     0x10, 0xD8, 0x00, 0x00, // 9: erases of 64 KiB
 ];
 
-/// The erase types that a chip has in addition to 4 KiB (20h) and the whole chip (C7h). Every chip has these two.
+/// The erase types that a chip has besides 4 KiB (20h) and the whole chip (C7h), which every chip has.
 #[derive(Clone, Copy, Debug, PartialEq, Eq)]
 pub struct Kinds {
     /// True if 52h erases 32 KiB.

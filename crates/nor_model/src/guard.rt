@@ -14,7 +14,6 @@ use walk::Offered;
 
 pub(crate) mod walk;
 
-// The number of codes. A code consists of the bits CMP, SEC, TB, BP2, BP1 and BP0, the highest first.
 const CODES: u8 = 64;
 
 #[derive(Clone, Copy)]
@@ -181,7 +180,6 @@ pub fn code_for(start: u32, len: u32, size: u32) -> Option<u8>
     None
 }
 
-// Returns the range that `code` protects if `code` is the least code of this range.
 fn least_at(size: u32, code: u8) -> Option<AddressRange>
     requires sized { IsTrue (is_chip_size size) }
     requires six_bits { code < 64 }

@@ -97,7 +97,6 @@ impl Status1 {
     /// The non-volatile bits: all except BUSY and WEL.
     pub const KEPT: Status1 = Status1(!(Self::BUSY.0 | Self::WEL.0));
 
-    // The low five protection bits, BP0 to SEC, which are two positions higher than in `Status::code`.
     const CODE: Status1 = Status1(
         Self::BP0.0 | Self::BP1.0 | Self::BP2.0 | Self::TB.0 | Self::SEC.0,
     );
@@ -125,18 +124,15 @@ impl Status2 {
     /// The non-volatile bits: all except SUS.
     pub const KEPT: Status2 = Status2(!Self::SUS.0);
 
-    // The highest protection bit, CMP, which is one position higher than in `Status::code`.
     const CODE: Status2 = Self::CMP;
 
     const FIXED: Status2 = Status2(Self::KEPT.0 & !Self::CODE.0);
 
-    // The bits that a status write sets to the value sent: SRP1, QE and CMP.
     const WRITTEN: Status2 = Status2(Self::SRP1.0 | Self::QE.0 | Self::CMP.0);
 
-    // The one-time programmable bits LB1 to LB3. A status write can set them but not clear them.
     const LB: Status2 = Status2(Self::LB1.0 | Self::LB2.0 | Self::LB3.0);
 
-    // The bits that a status write doesn't clear: LB1 to LB3 and the reserved bit.
+    // LB1 to LB3, and the reserved bit, which has no name.
     const HELD: Status2 = Status2(Self::LB.0 | 0x04);
 
     fn written(self, sent: Status2) -> Status2
@@ -152,9 +148,7 @@ impl Status2 {
 /// The two status registers.
 #[derive(Clone, Copy, Debug, PartialEq, Eq)]
 pub struct Status {
-    /// Status register 1.
     pub one: Status1,
-    /// Status register 2.
     pub two: Status2,
 }
 
@@ -188,7 +182,7 @@ impl Status {
         high.0 >> 1 | low.0 >> 2
     }
 
-    /// Returns the status bits that flashnor never changes: all non-volatile bits except the protection bits.
+    /// Returns the non-volatile bits other than the protection bits: SRP0, SRP1, QE, LB1 to LB3 and the reserved bit.
     #[tactic(auto, using(crate::proofs::StatusBits::fixed_one, crate::proofs::StatusBits::fixed_two))]
     pub fn fixed(self) -> Status
         ensures one { result.one.0 ≡ 128 * (self.one.0 / 128) }

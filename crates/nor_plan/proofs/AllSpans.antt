@@ -27,11 +27,9 @@ length-cons_option None spans = omega arith
 length-cons_option (Some s) spans = omega arith
 
 module _ (old target : List ℕ) where
-  -- holds if `s` is the span of a page of `old` and `target`, and this page is the page `page` or a later one
   abbrev SpanFrom : ℕ → PageSpan → Type 0
   SpanFrom page s = IsSpan old target s × (page ≤ s.first / 256)
 
-  -- Holds if `spans` has one span for each of the `count` pages from `page` on that differ, in ascending order.
   record ArePageSpans (page count : ℕ) (spans : List PageSpan) : Type 0 where
     each : All (SpanFrom page) spans
     complete : (k : ℕ) → page ≤ k / 256 → k / 256 < page + count → DifferAt old target k → spanned_by spans k ≡ true

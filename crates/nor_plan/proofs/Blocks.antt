@@ -70,7 +70,6 @@ module _ (a b : List ℕ) where
     some = λ i lane other. absurd (other (get_or-replicate {A = ℕ} 32 i 0 0 lane));
   }
 
-  -- The vectors of two adjacent ranges of bytes can be combined with OR.
   pub ShowsDifferences-or : {at m from n count : ℕ} {xs ys : List ℕ} → from ≡ at + m → count ≡ m + n
       → ShowsDifferences a b at m xs → ShowsDifferences a b from n ys → ShowsDifferences a b at count (zip2 bit_or xs ys)
   ShowsDifferences-or {at} {m} {from} {n} {count} {xs} {ys} next sum first second =

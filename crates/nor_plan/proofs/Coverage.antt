@@ -14,8 +14,6 @@ use Rattle.nor_plan.specs.Erase.{is_offered, IsErase, Covers}
 use Rattle.nor_plan.specs.Planned.{holds_run, planned_block, begins_block, erase_at, planned_from}
 use Rattle.nor_plan.proofs.Units.{holds_run-at, first_of, first_of-once, first_of-aligned, first_of-holds, IsLargest, planned_block-largest, planned_block-first}
 
--- The premises of a plan: `set` lies below `total` and below sector 4,096, and `whole` says whether it is all of the
--- chip.
 pub record IsPlannable (whole : Bool) (total : ℕ) (set : ℕ → Bool) : Type 0 where
   pub whole_is : whole ≡ holds_run set 0 total
   pub below : (s : ℕ) → set s ≡ true → s < total

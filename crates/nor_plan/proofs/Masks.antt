@@ -45,7 +45,6 @@ highest_bit n r least most =
     let one : n / 2 ^ r ≡ 1 = omega (arith, above, div_below n (2 ^ r) 2 (pow_pos r) most) in
     ap (λ x. x % 2) one
 
--- Bit `i` of `mask` is set if and only if the functions `f` and `g` differ at `at + i`.
 module _ (f g : ℕ → ℕ) (at mask : ℕ) (is : IsMask mask (λ i. not (nat_eq (f (at + i)) (g (at + i))))) where
   clear_lane : (k : ℕ) → at ≤ k → k < at + 32 → bit_at mask (k - at) ≡ 0 → f k ≡ g k
   clear_lane k low high clear =

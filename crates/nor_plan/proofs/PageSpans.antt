@@ -13,7 +13,6 @@ abbrev pub other : List ℕ → List ℕ → ℕ → Bool
 other old target k = not (nat_eq (get_or old k 0) (get_or target k 0))
 
 module _ (old target : List ℕ) where
-  -- holds if position `k` lies on the page `page`, and the bytes of `old` and `target` at this position differ
   abbrev pub DiffersOn : (page k : ℕ) → Type 0
   DiffersOn page k = (k / 256 ≡ page) × DifferAt old target k
 

@@ -5,7 +5,6 @@ use Rattle.std.proofs.lemmas.List.{get_or-take, get_or-drop, length-take-le, len
 use Rattle.std.proofs.lemmas.Simd.{put_chunk_is, get_or-put_chunk_at, get_or-put_chunk_below, get_or-put_chunk_above}
 use borrow.Rule.Slice.PartMut.{put_mid}
 
--- Holds if `new` is the image `old` after its sector `n` was replaced by the bytes `part`.
 pub record HasPart (n : ℕ) (part : List ℕ) (old new : List ℕ) : Type 0 where
   pub inside : (i : ℕ) → i < 4096 → slice_index new (4096 * n + i) ≡ slice_index part i
   pub outside : (a : ℕ) → a / 4096 ≢ n → slice_index new a ≡ slice_index old a

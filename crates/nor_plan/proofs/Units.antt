@@ -28,7 +28,6 @@ holds_run-from set from count all = list_all-from_AllPass set (range_with_len fr
     let there : k < count = omega (arith, length-range_with_len from count) in
     ap set (get_or-range_with_len from count k d there) ∙ all (from + k) (omega arith) (omega arith))
 
--- the first sector of the aligned erase block, of the given kind, that contains the sector `s`
 abbrev pub first_of : EraseBlock → ℕ → ℕ
 first_of Sector s = s
 first_of Block32 s = s - s % 8
@@ -64,7 +63,6 @@ module _ (whole : Bool) (kinds : Kinds) (set : ℕ → Bool) where
   is_fit s Block64 = kinds.k64 && holds_block set 16 s
   is_fit s Chip = whole
 
-  -- holds if the erase block of this kind is fit for the sector `s`, and no larger erase block is fit for it
   abbrev pub IsLargest : ℕ → EraseBlock → Type 0
   IsLargest s Chip = whole ≡ true
   IsLargest s Block64 = (whole ≡ false) × (is_fit s Block64 ≡ true)

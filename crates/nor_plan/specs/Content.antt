@@ -8,7 +8,6 @@ is_other old wanted = not (old == wanted)
 abbrev pub must_rise : (old wanted : ℕ) → Bool
 must_rise old wanted = not (bit_and wanted old == wanted)
 
--- true if `sector` is touched: some byte of it differs between `old` and `wanted`
 unfoldable pub is_touched : (old wanted : ℕ → ℕ) → (sector : ℕ) → Bool
 is_touched old wanted sector = any_below 4096 (λ i. is_other (old (4096 * sector + i)) (wanted (4096 * sector + i)))
 
@@ -16,14 +15,11 @@ is_touched old wanted sector = any_below 4096 (λ i. is_other (old (4096 * secto
 unfoldable pub is_raised : (old wanted : ℕ → ℕ) → (sector : ℕ) → Bool
 is_raised old wanted sector = any_below 4096 (λ i. must_rise (old (4096 * sector + i)) (wanted (4096 * sector + i)))
 
--- the byte at the address `a` after the sectors for which `raised` is true were erased
 abbrev pub once_erased : (raised : ℕ → Bool) → (old : ℕ → ℕ) → (a : ℕ) → ℕ
 once_erased raised old a = if raised (a / 4096) then 255 else old a
 
--- true if some byte of the 256-byte page `page` differs between `old` and `wanted`
 unfoldable pub is_page_other : (old wanted : ℕ → ℕ) → (page : ℕ) → Bool
 is_page_other old wanted page = any_below 256 (λ i. is_other (old (256 * page + i)) (wanted (256 * page + i)))
 
--- true if `page` needs a program: it lies in a touched sector, and some byte of it differs
 abbrev pub is_programmed : (touched : ℕ → Bool) → (old wanted : ℕ → ℕ) → (page : ℕ) → Bool
 is_programmed touched old wanted page = touched (page / 16) && is_page_other old wanted page

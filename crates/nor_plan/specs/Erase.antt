@@ -7,26 +7,24 @@ use Rattle.nor_driver.specs.declared.units.Erase.{Erase}
 use Rattle.nor_driver.specs.declared.units.EraseBlock.{EraseBlock}
 use Rattle.nor_driver.specs.declared.units.EraseBlock.TheVariants.{Sector, Block32, Block64, Chip}
 
--- True if a chip with the erase types `kinds` can erase blocks of this kind. Unlike `has_block`, this needs no
--- configuration, which a probe doesn't return.
+-- True if a chip with the erase types `kinds` can erase blocks of this kind. (`has_block` takes a configuration
+-- instead.)
 abbrev pub is_offered : Kinds → EraseBlock → Bool
 is_offered kinds Sector = true
 is_offered kinds Block32 = kinds.k32
 is_offered kinds Block64 = kinds.k64
 is_offered kinds Chip = true
 
--- Holds if a chip with the erase types `kinds` and `total` sectors can carry out `erase`.
 pub record IsErase (kinds : Kinds) (total : ℕ) (erase : Erase) : Type 0 where
   pub offered : is_offered kinds erase.unit ≡ true
   pub aligned : is_aligned erase.unit erase.sector ≡ true
   pub within : erase.sector + sectors_in total erase.unit ≤ total
 
--- true if some erase of the list erases `sector` on a chip with `total` sectors
 abbrev pub erased_by : (total : ℕ) → List Erase → (sector : ℕ) → Bool
 erased_by total erases sector = list_any (erases_sector total sector) erases
 
--- Holds if the chip can carry out each of `erases`, and these together erase exactly the sectors for which `set` is
--- true. They may be in any order and may overlap.
+-- Holds if the chip can carry out each of `erases`, and together they erase exactly the sectors of `set`. They may be
+-- in any order and may overlap.
 pub record Covers (kinds : Kinds) (total : ℕ) (erases : List Erase) (set : ℕ → Bool) : Type 0 where
   pub units : All (IsErase kinds total) erases
   pub union : (sector : ℕ) → erased_by total erases sector ≡ set sector

@@ -5,6 +5,5 @@ use Rattle.nor_plan.specs.declared.erase.iter.Erases.{Erases}
 use Rattle.nor_plan.specs.SectorSet.{has}
 use Rattle.nor_plan.specs.Planned.{planned_from}
 
--- the erases that the iterator `e` has not yielded yet
 unfoldable pub erases_left : Erases → List Erase
 erases_left e = planned_from e.whole e.kinds (has e.set) e.from

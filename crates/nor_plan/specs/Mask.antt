@@ -3,7 +3,6 @@ use Rattle.std.specs.Prelude.{ℕ, ◌≡◌, ◌≢◌, ◌<◌, ◌^◌, ◌+�
 use Rattle.std.specs.Int.{bit_at}
 use Rattle.nor_plan.specs.Bytes.{AgreeWithin, SomeDiffer}
 
--- Holds if bit `i` of `mask` is set if and only if `test i` is true, for each `i` below 32, and no higher bit is set.
 pub record IsMask (mask : ℕ) (test : ℕ → Bool) : Type 0 where
   pub lanes : mask < 2 ^ 32
   pub bits : (i : ℕ) → i < 32 → bit_at mask i ≡ (if test i then 1 else 0)

@@ -3,7 +3,6 @@ use Rattle.std.specs.Prelude.{ℕ, ◌≡◌, ◌≢◌, ◌<◌, true, MatchBoo
 use Rattle.nor_plan.specs.declared.plan.SectorPlan.{SectorPlan}
 use Rattle.nor_plan.specs.Bytes.{IsWithinBits}
 
--- Holds if `bytes` are those of `content`, which may be a sector of a chip or an image, by their positions.
 abbrev pub AreBytesOf : (ℕ → ℕ) → List ℕ → Type 0
 AreBytesOf content bytes = EachIndex bytes (λ i. slice_index bytes i ≡ content i)
 

@@ -8,7 +8,6 @@ use Rattle.nor_driver.specs.declared.units.EraseBlock.TheVariants.{Sector, Block
 use Rattle.nor_driver.specs.Units.{is_aligned}
 use Rattle.nor_plan.specs.Erase.{Covers}
 
--- true if all of the `count` sectors from `from` on are in `set`
 unfoldable pub holds_run : (ℕ → Bool) → (from count : ℕ) → Bool
 holds_run set from count = list_all set (range_with_len from count)
 
@@ -24,14 +23,12 @@ planned_block whole kinds set sector =
     else if kinds.k32 && holds_block set 8 sector then Block32
     else Sector
 
--- true if `sector` is in `set`, and the erase block planned for it begins at this sector
 abbrev pub begins_block : Bool → Kinds → (ℕ → Bool) → ℕ → Bool
 begins_block whole kinds set sector = set sector && is_aligned (planned_block whole kinds set sector) sector
 
 abbrev pub erase_at : Bool → Kinds → (ℕ → Bool) → ℕ → Erase
 erase_at whole kinds set sector = record { unit = planned_block whole kinds set sector; sector = sector }
 
--- the planned erases whose first sector is from `from` to 4,095, in ascending order
 unfoldable pub planned_from : Bool → Kinds → (ℕ → Bool) → ℕ → List Erase
 planned_from whole kinds set from =
     map (erase_at whole kinds set) (filter (begins_block whole kinds set) (range_with_len from (4096 - from)))
@@ -43,7 +40,6 @@ HeadsPlanned whole kinds set from head =
     MatchOption head (planned_from whole kinds set from ≡ [])
     (λ h. planned_from whole kinds set from ≡ h.0 ∷ planned_from whole kinds set h.1)
 
--- the erases planned for `set`, on a chip with the erase types `kinds` and `total` sectors
 abbrev pub planned : Kinds → ℕ → (ℕ → Bool) → List Erase
 planned kinds total set = planned_from (holds_run set 0 total) kinds set 0
 
@@ -52,7 +48,6 @@ planned kinds total set = planned_from (holds_run set 0 total) kinds set 0
 abbrev pub fewest_erases : Kinds → ℕ → (ℕ → Bool) → ℕ
 fewest_erases kinds total set = length (planned kinds total set)
 
--- Holds if `count` is the least number of erases that together erase exactly the sectors of `set`.
 pub record IsLeastLength (kinds : Kinds) (total : ℕ) (set : ℕ → Bool) (count : ℕ) : Type 0 where
   pub some : List Erase
   pub covers : Covers kinds total some set

@@ -4,7 +4,6 @@ use Rattle.std.specs.Int.{bit_at}
 use Rattle.std.specs.List.{range_with_len}
 use Rattle.nor_plan.specs.declared.set.SectorSet.{SectorSet}
 
--- true if `sector` is in `set`
 unfoldable pub has : SectorSet → ℕ → Bool
 has set sector = bit_at (slice_index set.words (sector / 64)) (sector % 64) == 1
 
@@ -20,7 +19,6 @@ LiesBelow set end = (sector : ℕ) → has set sector ≡ true → sector < end
 abbrev pub Inserts : (old new : SectorSet) → ℕ → Type 0
 Inserts old new sector = (s : ℕ) → has new s ≡ ((s == sector) || has old s)
 
--- the sectors of `set` from the sector `from` on, in ascending order
 unfoldable pub members_from : SectorSet → ℕ → List ℕ
 members_from set from = filter (has set) (range_with_len from (4096 - from))
 

@@ -27,7 +27,6 @@ spans_in old target page count = filter_map (page_span old target) (range_with_l
 abbrev pub page_count : List ℕ → ℕ
 page_count old = div_ceil (length old) 256
 
--- the spans of all pages from the page `page` on
 abbrev pub spans_from : (old target : List ℕ) → ℕ → List PageSpan
 spans_from old target page = spans_in old target page (page_count old - page)
 

@@ -5,7 +5,6 @@ use Rattle.nor_plan.specs.declared.page.PageSpan.{PageSpan}
 use Rattle.nor_plan.specs.Bytes.{DifferAt}
 use Rattle.nor_plan.specs.Span.{pages_changed}
 
--- Holds if, in one page, `old` and `target` differ first at the start of `span`, and last at its end.
 pub record IsSpan (old target : List ℕ) (span : PageSpan) : Type 0 where
   pub one_page : span.first / 256 ≡ span.last / 256
   pub order : span.first ≤ span.last
@@ -19,7 +18,6 @@ is_within_span k span = nat_le span.first k && nat_le k span.last
 abbrev pub spanned_by : List PageSpan → ℕ → Bool
 spanned_by spans k = list_any (is_within_span k) spans
 
--- Holds if `spans` are the spans of all pages in which `old` and `target` differ, one per page, in ascending order.
 pub record AreSpans (old target : List ℕ) (spans : List PageSpan) : Type 0 where
   pub each : All (IsSpan old target) spans
   pub complete : (k : ℕ) → DifferAt old target k → Any (λ span. (span.first ≤ k) × (k ≤ span.last)) spans

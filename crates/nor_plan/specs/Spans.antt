@@ -4,6 +4,5 @@ use Rattle.nor_plan.specs.declared.page.PageSpan.{PageSpan}
 use Rattle.nor_plan.specs.declared.page.iter.Spans.{Spans}
 use Rattle.nor_plan.specs.Span.{spans_from}
 
--- the spans that the iterator `s` has not yielded yet
 unfoldable pub spans_left : Spans → List PageSpan
 spans_left s = spans_from s.old.now s.target.now s.page

@@ -48,7 +48,6 @@ pub fn fewest_is_least()
         → IsLeastLength kinds total set (fewest_erases kinds total set) }
 {}
 
-/// Returns the first planned erase from the sector `from` on, and the sector from which to search for the next one.
 fn next_erase(set: &SectorSet, kinds: Kinds, whole: bool, from: u32) -> Option<(Erase, u32)>
     ensures { HeadsPlanned whole kinds (has set.now) from result }
 {

@@ -9,7 +9,6 @@ use std::simd::prelude::*;
 
 const LANES: usize = 32;
 
-/// The number of bytes whose differences `changes_256` combines in one vector.
 const BLOCK: usize = 8 * LANES;
 
 /// Returns whether `a` and `b` differ in some byte. The slices must have equal lengths.
@@ -20,8 +19,7 @@ pub fn differs(a: &[u8], b: &[u8]) -> bool
     blocks_differ(a, b) || first_from(a, b, a.len() / BLOCK * BLOCK).is_some()
 }
 
-/// Returns whether `a` and `b` differ in some whole 256-byte block. The differences are tested once at the end, which
-/// for equal slices avoids a test per block.
+// Tests the differences of all blocks once, at the end, which for equal slices avoids a test per block.
 fn blocks_differ(a: &[u8], b: &[u8]) -> bool
     requires { length a.now ≡ length b.now }
     ensures { MatchBool result (SomeDiffer a.now b.now) (AgreeWithin a.now b.now 0 (length a.now / 256 * 256)) }
@@ -52,7 +50,6 @@ fn first_difference(a: &[u8], b: &[u8]) -> Option<usize>
     first_from(a, b, agreeing(a, b))
 }
 
-/// Returns the position of the first byte that differs. The slices must agree in all bytes before `from`.
 fn first_from(a: &[u8], b: &[u8], from: usize) -> Option<usize>
     requires same_length { length a.now ≡ length b.now }
     requires within { from ≤ length a.now }
@@ -74,8 +71,6 @@ fn first_from(a: &[u8], b: &[u8], from: usize) -> Option<usize>
     None
 }
 
-/// Returns a position before which `a` and `b` agree: the start of the first whole 256-byte block in which they differ,
-/// or the end of the last block.
 fn agreeing(a: &[u8], b: &[u8]) -> usize
     requires { length a.now ≡ length b.now }
     ensures within { result ≤ length a.now }
@@ -127,8 +122,6 @@ pub fn raises(old: &[u8], target: &[u8]) -> bool
     false
 }
 
-/// Returns the differences of the 256 bytes from `at` on, combined into 32 lanes: lane `i` has those of the bytes at
-/// `at + i`, `at + i + 32`, and so on.
 #[inline(always)]
 fn changes_256(a: &[u8], b: &[u8], at: usize) -> u8x32
     requires a_within { at + 256 ≤ length a.now }
@@ -151,7 +144,6 @@ fn changes_32(a: &[u8], b: &[u8], at: usize) -> u8x32
     u8x32::from_slice(&a[at..]) ^ u8x32::from_slice(&b[at..])
 }
 
-/// Returns a mask whose bit `i` is set if and only if `a` and `b` differ in the byte at `at + i`.
 #[inline(always)]
 fn differing(a: &[u8], b: &[u8], at: usize) -> u64
     requires a_within { at + 32 ≤ length a.now }
@@ -163,8 +155,6 @@ fn differing(a: &[u8], b: &[u8], at: usize) -> u64
         .to_bitmask()
 }
 
-/// Returns a mask whose bit `i` is set if and only if the byte at `at + i` has a bit that is 1 in `target` and 0 in
-/// `old`.
 #[inline(always)]
 fn rising(old: &[u8], target: &[u8], at: usize) -> u64
     requires old_within { at + 32 ≤ length old.now }

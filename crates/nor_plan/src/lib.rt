@@ -2,14 +2,6 @@
 //! of each page must be programmed. For a set of sectors, it finds the fewest erases. The crate sends nothing and
 //! allocates no memory.
 //!
-//! - `set.rt`: sets of sectors
-//! - `plan.rt`: whether a sector must be written, and whether it must be erased first
-//! - `lanes.rt`: comparisons of byte slices, 32 bytes at a time
-//! - `page.rt`: the spans to program, at most one per page
-//! - `page/iter.rt`: the iterator over spans
-//! - `erase.rt`: the fewest erases for a set of sectors
-//! - `erase/iter.rt`: the iterator over erases
-//!
 //! ```rust
 //! use nor_plan::{PageSpan, raises, spans};
 //!

@@ -12,12 +12,11 @@ mod iter;
 
 pub use iter::Spans;
 
-/// A range of bytes within one page. Both positions count from the start of the slice.
+/// A range of bytes within one page, from the position `first` to the position `last`, inclusive. Positions count from
+/// the start of the compared slices.
 #[derive(Clone, Copy, Debug, PartialEq, Eq)]
 pub struct PageSpan {
-    /// The position of the first byte of the range.
     pub first: usize,
-    /// The position of the last byte of the range.
     pub last: usize,
 }
 
@@ -31,7 +30,6 @@ pub fn spans<'a>(old: &'a [u8], target: &'a [u8]) -> Spans<'a>
     Spans::new(old, target)
 }
 
-/// Returns the first span from the page `page` on, and the number of the page after it.
 #[tactic(auto, using(crate::proofs::PageSpans::page_steps))]
 fn next_span(old: &[u8], target: &[u8], page: usize) -> Option<(PageSpan, usize)>
     requires { length old.now ≡ length target.now }

@@ -27,7 +27,6 @@ pub row_has : (holds : Part → Bool) (of_id : List ℕ) (part : Part) → list_
     → part_with_id of_id ≡ Some part → holds part ≡ true
 row_has holds of_id part all is = (found_has (λ p. bytes_eq p.id of_id) holds chips part all is).1
 
--- Holds if the type has the ID, size, erase types and block protection of the configuration.
 record IsPartOf (config : Config) (part : Part) : Type 0 where
   id : part.id ≡ id_of config
   size : part.size ≡ config.size

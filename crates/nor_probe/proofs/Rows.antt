@@ -7,7 +7,6 @@ use Rattle.nor_probe.specs.declared.table.Part.{Part}
 use Rattle.nor_probe.specs.Table.{chips, tiny64, part_with_name, name_text, IsEmulatedPart}
 use Rattle.nor_probe.proofs.Configs.{found_has}
 
--- True if no two rows of the list have the same ID.
 abbrev have_own_ids : List Part → Bool
 have_own_ids [] = true
 have_own_ids (first ∷ parts) = list_all (λ p. not (bytes_eq first.id p.id)) parts && have_own_ids parts

@@ -27,7 +27,6 @@ abbrev pub IsWanted : (named : Option ChipName) → ChipName → Type 0
 IsWanted None name = ⊤
 IsWanted (Some wanted) name = wanted ≡ name
 
--- Holds if a probe with the requested name `named` may return this fault. `OtherName` needs a requested name.
 abbrev pub BlamesName : Option ChipName → ProbeFault → Type 0
 BlamesName None OtherName = ⊥
 BlamesName named fault = ⊤
@@ -37,11 +36,9 @@ abbrev pub reads_by : Option Part → ℕ
 reads_by (Some part) = 1
 reads_by None = 4
 
--- the number of reads of a probe that reads the ID `of_id`: the SFDP isn't read if the ID shows that there is no chip
 abbrev pub reads_of : List ℕ → ℕ
 reads_of of_id = if is_no_chip of_id then 1 else reads_by (part_with_id of_id)
 
--- the number of reads of a probe that reads the ID `of_id`, on a bus with or without further types
 abbrev pub reads_for : (further : Bool) → List ℕ → ℕ
 reads_for further of_id = if is_no_chip of_id then 1 else reads_by (part_for further of_id)
 
@@ -49,9 +46,7 @@ reads_for further of_id = if is_no_chip of_id then 1 else reads_by (part_for fur
 abbrev pub needed : Chip → ℕ
 needed chip = chip.busy + 1 + reads_of (id_of chip.config)
 
--- Holds for each chip that a probe finds, on every bus: its size is one that a chip may have, and its row is the one
--- that applies on this bus (`part_for further`). If no row applies, it was identified by its SFDP, and has no block
--- protection.
+-- Holds for each chip that a probe finds, on every bus.
 pub record IsPart (further : Bool) (found : Found) : Type 0 where
   pub driven : is_no_chip found.id ≡ false
   pub origin : (part_for further found.id ≡ Some (part_in found))
@@ -61,14 +56,12 @@ pub record IsPart (further : Bool) (found : Found) : Type 0 where
   pub at_most : found.size ≤ 16777216
   pub in_blocks : found.size % 65536 ≡ 0
 
--- Holds for the number of transactions of a probe that found a chip.
 pub record IsCounted (old : BusState) (probed : Probed) : Type 0 where
   pub least : 1 + reads_for old.further probed.found.id ≤ probed.transactions
   pub most : probed.transactions ≤ most_probe
   pub sent : old.honest ≡ true → probed.transactions ≡ needed old.chip
 
--- Holds after a probe on a well-behaved bus that found a chip. `found` is what the chip on the bus shows about itself
--- (`shown_as`). That chip is now idle, and its bytes and non-volatile status bits are unchanged.
+-- Holds after a probe on a well-behaved bus that found a chip.
 pub record Finds (old new : BusState) (found : Found) : Type 0 where
   pub rested : Rested old new
   pub part : shown_as old.chip.config ≡ Ok (part_in found)
@@ -77,8 +70,6 @@ pub record Finds (old new : BusState) (found : Found) : Type 0 where
   pub status1 : found.status1 ≡ status1_of new.chip
   pub count : Spent (needed old.chip) old new
 
--- Holds if the configuration is that of a known chip with the ID, size, erase types and block protection of `found`.
--- For a genuine chip this follows if `found` is what the chip shows (`shown_as`).
 pub record IsConfigOf (config : Config) (found : Found) : Type 0 where
   pub known : IsKnown config
   pub id : found.id ≡ id_of config
@@ -86,24 +77,21 @@ pub record IsConfigOf (config : Config) (found : Found) : Type 0 where
   pub kinds : found.kinds ≡ config.kinds
   pub scheme : found.scheme ≡ config.scheme
 
--- Holds if the chip shows a chip type that has the requested name, if a name is requested.
 pub record IsNamed (named : Option ChipName) (config : Config) : Type 0 where
   pub part : Part
   pub shown : shown_as config ≡ Ok part
   pub wanted : IsWanted named part.name
 
--- Holds if the chip shows a chip type that has another name than the requested one.
 pub record HasOtherName (named : Option ChipName) (config : Config) : Type 0 where
   pub part : Part
   pub shown : shown_as config ≡ Ok part
   pub other : ¬ IsWanted named part.name
 
--- Holds if a probe on a well-behaved bus sent all the transactions that the chip needs.
 pub record HasProbed (old new : BusState) : Type 0 where
   pub rested : Rested old new
   pub count : Spent (needed old.chip) old new
 
--- The meaning of each fault on a well-behaved bus. A timeout doesn't occur.
+-- The meaning of each fault on a well-behaved bus.
 abbrev pub ProbeErrors : Option ChipName → (old new : BusState) → ProbeFault → Type 0
 ProbeErrors named old new NoChip = (shown_as old.chip.config ≡ Err NoChip) × HasProbed old new
 ProbeErrors named old new (UnknownChip fault) = (shown_as old.chip.config ≡ Err (UnknownChip fault)) × HasProbed old new
@@ -113,15 +101,11 @@ ProbeErrors named old new Timeout = ⊥
 
 -- The promises of a probe on every bus.
 pub record ProbeAlways (named : Option ChipName) (old new : BusState) (result : Result Found ProbeFault) : Type 0 where
-  -- no modifying command was sent; on a punctual bus, at most 65,540 transactions were carried out
   pub only_reads : OnlyReads most_probe old new
-  -- the row of a chip found is the one that applies on this bus
   pub part : IfOk result (IsPart old.further)
   pub wanted : IfOk result (λ found. IsWanted named found.name)
   pub blames : IfErr result (BlamesName named)
   pub polled_ready : OnOk result (new.polled_ready ≡ true)
-  -- the ID and status 1 of a chip found are what the bus replied and, if no row applies, so are its size and erase
-  -- types
   pub replied : IfOk result (IsFoundBy old.further new.history)
   pub last_transaction : IfErr result (ProbeEndsAt new.history)
 

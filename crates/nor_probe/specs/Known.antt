@@ -25,16 +25,13 @@ is_no_chip of_id = bytes_eq of_id (0xFF ∷ 0xFF ∷ 0xFF ∷ []) || bytes_eq of
 abbrev pub pointer_in : (first : List ℕ) → ℕ
 pointer_in first = slice_index first 4 + 256 * slice_index first 5 + 65536 * slice_index first 6
 
--- The geometry that the chip's SFDP describes, or the fault of the SFDP.
 unfoldable pub chip_says : Config → Result Geometry SfdpFault
 chip_says config = sfdp_says (shown config 0 8) (shown config 8 8) (shown config (pointer_in (shown config 8 8)) 36)
 
--- the type of a chip that is known only by its SFDP, and is assumed to have no block protection
 abbrev pub sfdp_part : (with_id : List ℕ) → Geometry → Part
 sfdp_part with_id geometry =
     record { name = Sfdp; id = with_id; size = geometry.size; kinds = geometry.kinds; scheme = false }
 
--- the type of a chip that its SFDP describes, or `UnknownChip` with the fault for which the SFDP is refused
 abbrev pub part_by_sfdp : (with_id : List ℕ) → Result Geometry SfdpFault → Result Part ProbeFault
 part_by_sfdp with_id (Ok geometry) = Ok (sfdp_part with_id geometry)
 part_by_sfdp with_id (Err fault) = Err (UnknownChip fault)
@@ -63,7 +60,6 @@ pub record IsGenuine (config : Config) : Type 0 where
   pub described : part_with_id (id_of config) ≡ None
       → (geometry : Geometry) → chip_says config ≡ Ok geometry → HasGeometry geometry config
 
--- Holds for the configuration of a chip that is genuine, and that a probe can identify by its row or its SFDP.
 pub record IsKnown (config : Config) : Type 0 where
   pub genuine : IsGenuine config
   pub shown : IsOk (shown_as config)
@@ -72,7 +68,6 @@ pub record IsKnown (config : Config) : Type 0 where
 abbrev pub IsEmulated : Config → Type 0
 IsEmulated config = (part : Part) × IsEmulatedPart part × IsMadeOf part config
 
--- Holds for a modelled bus: it is well-behaved (`honest`), and its chip is genuine.
 pub record IsModelled (state : BusState) : Type 0 where
   pub honest : state.honest ≡ true
   pub genuine : IsGenuine state.chip.config

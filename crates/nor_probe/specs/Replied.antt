@@ -34,15 +34,11 @@ pub record IsTypeBySfdp (history : List Exchange) (part : Part) : Type 0 where
   pub says : sfdp_says header first table ≡ Ok geometry
   pub is : part ≡ sfdp_part part.id geometry
 
--- Holds if `found` is what the bus replied: its ID to the last 9Fh, and its status 1 to the last poll. If no row
--- applies to the ID, its size and erase types are those that reads of the SFDP returned.
 pub record IsFoundBy (further : Bool) (history : List Exchange) (found : Found) : Type 0 where
   pub id : last_reply (begins_with 0x9F) history ≡ found.id
   pub status1 : last_reply is_poll history ≡ found.status1 ∷ []
   pub by_sfdp : part_for further found.id ≡ None → IsTypeBySfdp history (part_in found)
 
--- The last transaction of a probe that returned this fault: the bus stopped at it, or for `Timeout` it is a poll that
--- showed BUSY. Nothing is stated for other faults.
 abbrev pub ProbeEndsAt : List Exchange → ProbeFault → Type 0
 ProbeEndsAt history Stopped = EndsStopped history
 ProbeEndsAt history Timeout = EndsBusy history

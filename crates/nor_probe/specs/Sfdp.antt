@@ -12,7 +12,6 @@ use Rattle.nor_probe.specs.declared.sfdp.SfdpFault.TheVariants.{Signature, Major
 unfoldable pub double_word : (k : ℕ) → (table : List ℕ) → ℕ
 double_word k table = little_from (4 * (k - 1)) 4 table
 
--- true if the header begins with the letters SFDP
 unfoldable pub has_signature : (header : List ℕ) → Bool
 has_signature header =
     slice_index header 0 == 0x53 && slice_index header 1 == 0x46
@@ -57,7 +56,6 @@ header_faults header first =
     ∷ (nat_lt (slice_index first 3) 9, Length)
     ∷ []
 
--- the faults of the table, in the same form
 abbrev pub table_faults : (table : List ℕ) → List (Bool × SfdpFault)
 table_faults table =
     (nat_le 2 (address_mode table), Address)
@@ -66,7 +64,6 @@ table_faults table =
     ∷ (not (has_erase_type 0x0C 0x20 table), NoSector)
     ∷ []
 
--- the geometry of the table, with the erase types of 32 KiB with opcode 52h and of 64 KiB with opcode D8h
 abbrev pub geometry_of : (table : List ℕ) → Geometry
 geometry_of table = record {
   size = size_in_bits (double_word 2 table) / 8;
@@ -77,7 +74,6 @@ abbrev pub first_fault_or : Geometry → List (Bool × SfdpFault) → Result Geo
 first_fault_or geometry [] = Ok geometry
 first_fault_or geometry (case ∷ cases) = if case.0 then Err case.1 else first_fault_or geometry cases
 
--- the geometry that these SFDP bytes describe, or the first fault for which they are refused
 abbrev pub sfdp_says : (header first table : List ℕ) → Result Geometry SfdpFault
 sfdp_says header first table = first_fault_or (geometry_of table) (header_faults header first ++ table_faults table)
 

@@ -21,7 +21,6 @@ abbrev pub fault_of : OperationError → ProbeFault
 fault_of OperationFails.Stopped = Stopped
 fault_of (OperationFails.Timeout address) = Timeout
 
--- the number of reads that identify a chip of this name
 abbrev pub reads_under : ChipName → ℕ
 reads_under Sfdp = 4
 reads_under _ = 1
@@ -31,8 +30,6 @@ pub record AreParameters (config : Config) (parameters : Parameters) : Type 0 wh
   pub first : parameters.first ≡ shown config 8 8
   pub table : parameters.table ≡ shown config (pointer_in (shown config 8 8)) 36
 
--- Holds, on every bus, for a type that was identified after its ID was read as `of_id`. Its name requires the same
--- number of reads (`reads_under`) as its ID (`reads_for further`).
 pub record IsIdentified (further : Bool) (of_id : List ℕ) (part : Part) : Type 0 where
   pub driven : is_no_chip of_id ≡ false
   pub same_id : part.id ≡ of_id
@@ -41,13 +38,11 @@ pub record IsIdentified (further : Bool) (of_id : List ℕ) (part : Part) : Type
   pub sized : is_chip_size part.size ≡ true
   pub reads : reads_under part.name ≡ reads_for further of_id
 
--- Holds on a well-behaved bus after the header, the first parameter header and the table of the SFDP were read.
 pub record ReadsParameters (old new : BusState) (parameters : Parameters) : Type 0 where
   pub rested : Rested old new
   pub count : Spent 3 old new
   pub shown : old.chip.busy ≡ 0 → AreParameters old.chip.config parameters
 
--- Holds on a well-behaved bus after the SFDP was read.
 pub record ReadsGeometry (old new : BusState) (geometry : Geometry) : Type 0 where
   pub rested : Rested old new
   pub count : Spent 3 old new
@@ -60,11 +55,10 @@ GeometryErrors old new (UnknownChip fault) =
 GeometryErrors old new Stopped = RanOut 3 old new
 GeometryErrors old new _ = ⊥
 
--- Holds if a punctual bus carried out exactly the reads of a probe after the read of the ID.
+-- Holds if a punctual bus carried out the reads of a probe except the read of the ID, which `reads_of` counts, too.
 abbrev pub SpentAfterId : (old new : BusState) → Type 0
 SpentAfterId old new = old.punctual ≡ true → old.left + 1 ≡ new.left + reads_of (id_of old.chip.config)
 
--- Holds for the faults that are possible after the ID was read, and before names are compared.
 abbrev pub IsIdentityFault : ProbeFault → Type 0
 IsIdentityFault NoChip = ⊤
 IsIdentityFault (UnknownChip fault) = ⊤
@@ -72,7 +66,6 @@ IsIdentityFault OtherName = ⊥
 IsIdentityFault Stopped = ⊤
 IsIdentityFault Timeout = ⊥
 
--- Holds if an idle chip on a well-behaved bus was identified as `part` after its ID was read.
 pub record Identifies (old new : BusState) (part : Part) : Type 0 where
   pub rested : Rested old new
   pub shows : shown_as old.chip.config ≡ Ok part

@@ -30,7 +30,6 @@ abbrev pub winbond : ChipName → (with_id : List ℕ) → (with_size : ℕ) →
 winbond called with_id with_size =
     record { name = called; id = with_id; size = with_size; kinds = all_kinds; scheme = true }
 
--- the table of the chips that are known by their ID
 abbrev pub chips : List Part
 chips =
     winbond W25Q64FV (0xEF ∷ 0x40 ∷ 0x17 ∷ []) 8388608
@@ -76,7 +75,6 @@ abbrev pub name_or : (unlisted : ChipName) → Option Part → ChipName
 name_or unlisted (Some part) = part.name
 name_or unlisted None = unlisted
 
--- the name that a text spells: that of a row, `Sfdp` for "SFDP", or `Other` for any other text
 abbrev pub name_of : List ℕ → ChipName
 name_of text =
     name_or (if bytes_eq text (codes "SFDP") then Sfdp else Other)
@@ -86,7 +84,6 @@ name_of text =
 abbrev pub tiny64 : Part
 tiny64 = record { name = Sfdp; id = 0xFE ∷ 0x10 ∷ 0x10 ∷ []; size = 65536; kinds = all_kinds; scheme = false }
 
--- the type of the emulated chip with this value of `emulate=`
 abbrev pub emulated_named : (text : List ℕ) → Option Part
 emulated_named text = if bytes_eq text (codes "TINY64") then Some tiny64 else part_with_name text
 
@@ -96,6 +93,5 @@ emulated_with_id of_id = if bytes_eq of_id tiny64.id then Some tiny64 else part_
 abbrev pub IsEmulatedPart : Part → Type 0
 IsEmulatedPart part = emulated_with_id part.id ≡ Some part
 
--- Holds for the configuration of an emulated chip of the type `part` whose unique ID is all zeros.
 abbrev pub IsMadeOf : Part → Config → Type 0
 IsMadeOf part config = IsEmulatedWith part.id part.size part.kinds part.scheme config

@@ -1,12 +1,6 @@
 //! Identifies the chip on a bus: by a table of IDs or, if the ID isn't in the table, by its SFDP (JESD216). The crate
 //! sends only polls and reads of the ID and SFDP.
 //!
-//! - `table.rt`: the names of chips, the table of the chips that are known by their ID, the emulated chips, and the
-//!   further rows that only programs for real chips use
-//! - `sfdp.rt`: decodes SFDP bytes into the size and the erase types of a chip
-//! - `probes.rt`: finds the chip on a bus, over nor_driver
-//! - `laws.rt`: a theorem: the emulated chips are known, and a known chip may have any unique ID
-//!
 //! ```rust
 //! use nor_chip::{Config, Delays, Meter, SimBus};
 //! use nor_probe::{ChipName, ProbeFault, probe};

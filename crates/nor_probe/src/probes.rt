@@ -46,7 +46,6 @@ pub struct Found {
     pub id: [u8; 3],
     /// The size in bytes. A probe returns a power of two from 65,536 to 16,777,216.
     pub size: u32,
-    /// The erase types.
     pub kinds: Kinds,
     /// Whether the chip has block protection. It is false for a chip that was identified by its SFDP.
     pub scheme: bool,
@@ -130,8 +129,6 @@ impl Part {
     }
 }
 
-// Returns the type of the chip whose ID was read as `id`. The clauses `shown` and `errors` hold only on a well-behaved
-// bus without further types, if the chip is idle and `id` is its ID.
 fn identify<B: Bus>(bus: &mut B, further: bool, id: [u8; 3]) -> Result<Part, ProbeFault>
     ensures leaves { OnlyReads 3 (B.state bus.old) (B.state bus.new) }
     ensures polled_ready { (B.state bus.new).polled_ready ≡ (B.state bus.old).polled_ready }
@@ -192,7 +189,6 @@ fn read_geometry<B: Bus>(bus: &mut B) -> Result<Geometry, ProbeFault>
     Ok(geometry)
 }
 
-// The parts of the SFDP that are read: the header, the first parameter header, and the table.
 #[derive(Clone, Copy)]
 struct Parameters {
     header: [u8; 8],
@@ -224,7 +220,6 @@ fn read_parts<B: Bus>(bus: &mut B) -> Result<Parameters, Stopped>
     })
 }
 
-// Returns the address of the table, which is in bytes 4 to 6 of a parameter header, little-endian (JESD216).
 fn pointer_in(first: &[u8; 8]) -> u32
     ensures pointer { result ≡ pointer_in first.now }
     ensures reachable { result < 2 ^ 24 }

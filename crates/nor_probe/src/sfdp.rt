@@ -18,7 +18,6 @@ use thiserror::Error;
 pub struct Geometry {
     /// The size in bytes. `read_sfdp` returns a power of two from 65,536 to 16,777,216.
     pub size: u32,
-    /// Which of two more erase types the chip has, besides 4 KiB with opcode 20h: 32 KiB with 52h, and 64 KiB with D8h.
     pub kinds: Kinds,
 }
 
@@ -133,7 +132,6 @@ fn is_basic_table(first: &[u8; 8]) -> bool
     first[0] == 0 && first[2] == 1
 }
 
-// Returns bits 17 and 18 of double word 1: 0 for three-byte addresses, 1 for three or four, 2 for four; 3 is reserved.
 #[tactic(auto, unfolding(crate::specs::Sfdp::address_mode))]
 fn address_bits(table: &[u8; 36]) -> u32
     ensures { result ≡ address_mode table.now }

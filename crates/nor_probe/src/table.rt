@@ -8,35 +8,27 @@ ghost use Rattle.nor_probe.specs.Table.{emulated_named, IsEmulatedPart};
 
 use nor_model::{ALL_KINDS, Kinds};
 
-/// The name of a chip type.
+/// The name of a chip type. The names that begin with `W25Q` are those of Winbond's chips.
 #[derive(Clone, Copy, Debug, PartialEq, Eq)]
 pub enum ChipName {
-    /// Winbond W25Q64FV, 8 MiB.
     W25Q64FV,
-    /// Winbond W25Q128FV, 16 MiB.
     W25Q128FV,
-    /// Winbond W25Q32FV, 4 MiB.
     W25Q32FV,
-    /// Winbond W25Q32FW, 4 MiB.
     W25Q32FW,
-    /// Winbond W25Q64FW, 8 MiB.
     W25Q64FW,
-    /// Winbond W25Q128FW, 16 MiB.
     W25Q128FW,
-    /// Winbond W25Q32JV-M, 4 MiB.
     W25Q32JVM,
-    /// Winbond W25Q64JV-M, 8 MiB.
     W25Q64JVM,
-    /// Winbond W25Q128JV-M, 16 MiB.
     W25Q128JVM,
     /// The name of every chip that is known only by its SFDP.
     Sfdp,
-    /// Any other name. No chip has it.
+    /// Any other name, which no chip has.
     Other,
 }
 
 impl ChipName {
-    /// Returns the name whose text is `text`, in upper case: that of a chip with a row, or `Sfdp`. Otherwise `Other`.
+    /// Returns the name with exactly the text `text` (upper case): that of a chip with a row, or `Sfdp`. Returns
+    /// `Other` for any other text.
     pub fn of(text: &str) -> ChipName
         ensures { result ≡ name_of text.now }
     {
@@ -76,7 +68,6 @@ pub struct Part {
     pub id: [u8; 3],
     /// The size in bytes.
     pub size: u32,
-    /// The erase types.
     pub kinds: Kinds,
     /// Whether the chip has block protection.
     pub scheme: bool,
@@ -135,7 +126,8 @@ pub fn part_of(id: [u8; 3]) -> Option<Part>
     CHIPS.iter().find(|part| part.id == id).copied()
 }
 
-/// Returns the row that applies to a chip with this ID: that of the table or, if `further` is true, the further row.
+/// Returns the row that applies to a chip with this ID: that of the table or, if `further` is true and the table has
+/// none, the further row. Returns `None` if there is no such row.
 pub fn part_for(further: bool, id: [u8; 3]) -> Option<Part>
     ensures { result ≡ part_for further id }
 {

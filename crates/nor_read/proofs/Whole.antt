@@ -26,7 +26,6 @@ pub record Sends (old new : BusState) : Type 0 where
   pub largest : OnlyReads (most_read 16777216) old new
   pub own : IsModelled old → OnlyReads (most_read old.chip.config.size) old new
 
--- Holds after the bus stopped.
 pub record OperationFails (old new : BusState) : Type 0 where
   pub last : EndsStopped new.history
   pub largest : old.honest ≡ true → RanOut (most_read 16777216) old new

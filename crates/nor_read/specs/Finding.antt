@@ -22,15 +22,12 @@ use Rattle.nor_request.specs.declared.report.Report.{Report}
 abbrev pub most_status : ℕ
 most_status = 65541
 
--- Holds if `found` describes the chip that was found. On a modelled bus `found` has the configuration of the chip on
--- the bus.
 pub record IsFound (named : Option ChipName) (old : BusState) (found : Found) : Type 0 where
   pub part : IsPart old.further found
   pub has_name : IsWanted named found.name
   pub shown : old.honest ≡ true → shown_as old.chip.config ≡ Ok (part_in found)
   pub config : IsModelled old → IsConfigOf old.chip.config found
 
--- Holds after a probe found a chip.
 pub record HasFound (named : Option ChipName) (old new : BusState) (probed : Probed) : Type 0 where
   pub is : IsFound named old probed.found
   pub most : probed.transactions ≤ most_probe
@@ -43,12 +40,12 @@ pub record HasFound (named : Option ChipName) (old new : BusState) (probed : Pro
 
 -- ---- the checks of the chip that was found
 
--- Holds if the chip has the requested name, and some included address is past the end of the chip.
+-- Holds if the chip has the requested name, if any, and some included address is past the end of the chip.
 pub record IsPassed (named : Option ChipName) (included : Option (List Span)) (config : Config) : Type 0 where
   pub is : IsNamed named config
   pub past : ReachesPast included config.size
 
--- Holds if the chip has the requested name, and all included addresses are on the chip.
+-- Holds if the chip has the requested name, if any, and all included addresses are on the chip.
 pub record IsTaken (named : Option ChipName) (included : Option (List Span)) (config : Config) : Type 0 where
   pub is : IsNamed named config
   pub fits : FitsInto included config.size
@@ -61,8 +58,8 @@ most_read size = most_probe + size / 4096
 
 -- ---- the report
 
--- The promises about the report of `read_out` and `verify` on every bus. `further` says whether the bus has further
--- types.
+-- The promises about the report of `read_out` and `verify` on every bus. `further` says whether the bus knows the
+-- further rows of the table of chips.
 pub record ReportsPart (named : Option ChipName) (further : Bool) (report : Report) : Type 0 where
   pub part : IsPart further report.found
   pub has_name : IsWanted named report.found.name
@@ -73,7 +70,6 @@ pub record ReportsPart (named : Option ChipName) (further : Bool) (report : Repo
 
 -- The promises about the report of a call that read `reads` sectors on a well-behaved bus.
 pub record ReportsReads (reads : ℕ) (old new : BusState) (report : Report) : Type 0 where
-  -- The reported chip type is the one that the chip shows (`shown_as`).
   pub shown : shown_as old.chip.config ≡ Ok (part_in report.found)
   pub rested : Rested old new
   pub idle : new.chip.busy ≡ 0
@@ -84,7 +80,6 @@ pub record ReportsReads (reads : ℕ) (old new : BusState) (report : Report) : T
 
 -- ---- errors
 
--- Holds for the errors that may be returned while the chip is identified.
 abbrev pub IsFindRefusal : Refusal → Type 0
 IsFindRefusal NoChip = ⊤
 IsFindRefusal (UnknownChip fault) = ⊤

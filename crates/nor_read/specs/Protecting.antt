@@ -40,8 +40,6 @@ pub record ProtectionAlways (old new : BusState) (result : Result Protection Ref
   pub only_reads : OnlyReads most_status old new
   pub sized : IfOk result (λ protection. is_chip_size protection.size ≡ true)
   pub refuses : IfErr result IsProtectionRefusal
-  -- After error 12 the bus stopped at the last transaction. After error 13 the last transaction was a poll that showed
-  -- BUSY.
   pub last_transaction : IfErr result (λ refusal. EndsAtError refusal new.history)
   pub polled_ready : OnOk result (new.polled_ready ≡ true)
 

@@ -16,11 +16,9 @@ use Rattle.nor_request.specs.declared.report.Report.{Report}
 use Rattle.nor_request.specs.Errors.{EndsAtError}
 use Rattle.nor_read.specs.Finding.{IsPassed, IsTaken, ReportsPart, ReportsReads, IsFindRefusal, ReadingErrors, most_read}
 
--- The byte at address `a` of the copy of a chip.
 abbrev pub copied : Option (List Span) → (ℕ → ℕ) → ℕ → ℕ
 copied included content a = if includes included a then content a else 255
 
--- Holds if the vault has its earlier bytes and then `count` more bytes.
 pub record Grows (count : ℕ) (old new : VaultState) : Type 0 where
   pub bytes : List ℕ
   pub long : length bytes ≡ count
@@ -63,8 +61,6 @@ pub record ReadOutAlways (named : Option ChipName) (included : Option (List Span
   -- After success a faithful (`telling`) vault has accepted one byte for each address of the chip that was found.
   pub whole : IfOk result (λ report. TakesWhole report.found.size vault vault')
   pub refuses : IfErr result (IsReadRefusal vault vault')
-  -- After error 12 the bus stopped at the last transaction. After error 13 the last transaction was a poll that showed
-  -- BUSY.
   pub last_transaction : IfErr result (λ refusal. EndsAtError refusal new.history)
   pub polled_ready : OnOk result (new.polled_ready ≡ true)
 
@@ -94,7 +90,6 @@ ReadOutErrors named included old new vault vault' _ = ⊤
 pub record ReadOutModelled (named : Option ChipName) (included : Option (List Span)) (old new : BusState)
     (vault vault' : VaultState) (result : Result Report Refusal) : Type 0 where
   pub only_reads : OnlyReads (most_read old.chip.config.size) old new
-  -- After success the report has the configuration of the chip on the bus.
   pub config : IfOk result (λ report. IsConfigOf old.chip.config report.found)
   -- After success a faithful (`telling`) vault has its earlier bytes and then the whole copy: the chip's bytes at the
   -- included addresses, and FFh at all others.

@@ -96,7 +96,7 @@ pub record VerifyAlways (named : Option ChipName) (included : Option (List Span)
   pub whole : IfOk result (λ report. length image ≡ report.found.size)
   pub refuses : IfErr result IsVerifyRefusal
   -- After error 12 the bus stopped at the last transaction. After error 13 the last transaction was a poll that showed
-  -- BUSY.
+  -- BUSY. After error 14 the sector of the difference was read, and then only sectors were read.
   pub last_transaction : IfErr result (VerifyEnds old.history new.history)
   pub read_back : HasReadBack included image old.history new.history result
   pub polled_ready : OnOk result (new.polled_ready ≡ true)
@@ -121,23 +121,20 @@ VerifyErrors named included image old new _ = ⊤
 pub record VerifyModelled (named : Option ChipName) (included : Option (List Span)) (image : List ℕ)
     (old new : BusState) (result : Result Report Refusal) : Type 0 where
   pub only_reads : OnlyReads (most_read old.chip.config.size) old new
-  -- After success the report has the configuration of the chip on the bus.
   pub config : IfOk result (λ report. IsConfigOf old.chip.config report.found)
   pub equal : IfOk result (λ report. AgreeIn included image old.chip.bytes 0 old.chip.config.size)
   pub errors : IfErr result (VerifyErrors named included image old new)
 
 -- ---- the comparison, sector by sector
 
--- Holds if `first` is the first included address in this range at which `content` differs from the image, if any.
 abbrev pub FindsFirst : Option (List Span) → List ℕ → (ℕ → ℕ) → (from to : ℕ) → Option ℕ → Type 0
 FindsFirst included image content from to first =
     MatchOption first (AgreeIn included image content from to) (IsFirstOther included image content from to)
 
--- Holds if the sector that contains the address `first`, if any, was read, and only reads of sectors followed.
 abbrev pub ReadsDifference : (old new : List Exchange) → Option ℕ → Type 0
 ReadsDifference old new first = MatchOption first ⊤ (λ address. HasReadAt address old new)
 
--- Holds for `reads`, the reads with which a sector was compared, after any history `earlier`. `first` is the first
+-- Holds for the reads with which one sector was compared (`reads`), after any earlier history. `first` is the first
 -- included address in this sector at which the last reply differs from the image, if any.
 pub record ComparesReply (included : Option (List Span)) (image : List ℕ) (sector : ℕ) (reads earlier : List Exchange)
     (first : Option ℕ) : Type 0 where

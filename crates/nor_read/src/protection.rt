@@ -17,7 +17,6 @@ pub struct Protection {
     pub range: Option<(u32, u32)>,
     /// True if the status is locked (SRP0 or SRP1 is set).
     pub locked: bool,
-    /// The chip's size in bytes.
     pub size: u32,
 }
 

@@ -16,7 +16,6 @@ use nor_model::{Bus, Stopped};
 use nor_probe::ChipName;
 use nor_request::{Refusal, Report};
 
-// The length of one piece of the copy: sixteen sectors.
 const PIECE_LEN: usize = 65_536;
 
 /// Appends a copy of the whole chip to `out`: the chip's byte at each included address (at every address if `included`
@@ -75,7 +74,6 @@ fn copy_all<B: Bus, V: Vault>(
     Ok(reads)
 }
 
-// Writes the sixteen sectors of this piece to `bytes`, and returns the number of transactions.
 fn read_piece<B: Bus>(
     bus: &mut B,
     included: Option<&Ranges>,
@@ -97,7 +95,6 @@ fn read_piece<B: Bus>(
     Ok(reads)
 }
 
-// Writes one sector of the copy to `bytes`, and returns the number of transactions, 0 or 1.
 fn read_part<B: Bus>(
     bus: &mut B,
     included: Option<&Ranges>,
@@ -120,8 +117,6 @@ fn read_part<B: Bus>(
     Ok(1)
 }
 
-// Appends a piece to the vault, which has accepted the `piece` earlier pieces. Error 19 counts the bytes that a
-// faithful vault accepted, including the earlier pieces.
 fn put_piece<V: Vault>(out: &mut V, piece: u32, bytes: &[u8; PIECE_LEN]) -> Result<(), Refusal>
     requires reachable { piece < 256 }
     requires unsealed { (V.state out.old).sealed ≡ false }

@@ -16,7 +16,6 @@ use nor_plan::bounds;
 use nor_probe::ChipName;
 use nor_request::{Refusal, Report};
 
-// The first included address that differs, if any, and the number of sectors that were read.
 #[derive(Clone, Copy)]
 struct Compared {
     first: Option<u32>,
@@ -113,8 +112,8 @@ fn compare_part<B: Bus>(
     Ok(Compared { first, reads: 1 })
 }
 
-// Returns the first included address at which `bytes`, read from the chip, differ from the image, if any. Overwrites
-// the bytes at other addresses with those of the image, so that one comparison of whole sectors is enough.
+// Overwrites the bytes at excluded addresses with those of the image, so that one comparison of whole sectors is
+// enough.
 fn first_other(
     image: &[u8],
     included: Option<&Ranges>,

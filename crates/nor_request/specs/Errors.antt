@@ -10,9 +10,7 @@ use Rattle.nor_probe.specs.Found.{ProbeErrors}
 use Rattle.nor_request.specs.declared.refusal.Refusal.{Refusal}
 use Rattle.nor_request.specs.declared.refusal.Refusal.TheVariants.{NoChip, UnknownChip, OtherName, Stopped, Timeout, Mismatch}
 
--- The meaning of an error of identification, which needs at most `most` transactions. On a well-behaved bus, errors 1
--- to 3 mean the same as the faults of a probe, and a timeout doesn't occur. On every bus, nothing is sent after a stop
--- or a timeout.
+-- The meaning of an error of identification, which needs at most `most` transactions.
 abbrev pub IdentificationErrors : (most : ℕ) → Option ChipName → (old new : BusState) → Refusal → Type 0
 IdentificationErrors most named old new NoChip = old.honest ≡ true → ProbeErrors named old new Probes.NoChip
 IdentificationErrors most named old new (UnknownChip fault) =
@@ -23,8 +21,6 @@ IdentificationErrors most named old new (Timeout address) =
     (address ≡ 0) × EndsBusy new.history × (old.honest ≡ true → ⊥)
 IdentificationErrors most named old new _ = ⊥
 
--- The last transaction before this error: for error 12 one at which the bus stopped, for error 13 a poll that showed
--- BUSY, and for error 14 a read of the sector with the error's address. Nothing is stated for other errors.
 abbrev pub EndsAtError : Refusal → List Exchange → Type 0
 EndsAtError Stopped history = EndsStopped history
 EndsAtError (Timeout address) history = EndsBusy history

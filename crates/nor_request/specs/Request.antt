@@ -15,12 +15,10 @@ abbrev pub is_data : What → Bool
 is_data (WpRange start len) = false
 is_data _ = true
 
--- The byte that a write or erase stores at the included address `a`. For a protection range the value isn't used.
 abbrev pub target : What → (image : List ℕ) → (a : ℕ) → ℕ
 target Write image a = slice_index image a
 target _ image a = 255
 
--- true if the request may change the byte at the address `a`, on a chip of `size` bytes
 abbrev pub is_requested : Request → (size a : ℕ) → Bool
 is_requested request size a = is_data request.what && (nat_lt a size && includes request.included a)
 
@@ -29,12 +27,9 @@ abbrev pub wanted : Request → (image : List ℕ) → Chip → (a : ℕ) → �
 wanted request image chip a =
     if is_requested request chip.config.size a then target request.what image a else chip.bytes a
 
--- the number of sectors that a session scans on a chip of `size` bytes
 abbrev pub scanned_sectors : Request → (size : ℕ) → ℕ
 scanned_sectors request size = if is_data request.what then sectors_included request.included size else 0
 
--- Holds if `code` is the target of the protection bits: for a protection range the least defined value that protects
--- exactly the range, otherwise the chip's own.
 abbrev pub IsWantedCode : What → Chip → (code : ℕ) → Type 0
 IsWantedCode (WpRange start len) chip code = IsLeastCode chip.config.size start len code
 IsWantedCode _ chip code = code ≡ code_of chip.kept

@@ -7,11 +7,9 @@ use Rattle.nor_probe.specs.Sfdp.{sfdp_fault_number as sfdp_number}
 use Rattle.nor_request.specs.declared.refusal.Refusal.{Refusal}
 use Rattle.nor_request.specs.declared.refusal.Refusal.TheVariants.{NoChip, UnknownChip, OtherName, ImageSize, RegionOutside, NoProtection, UndefinedProtection, RangeNotOffered, StatusLocked, Protected, Vault, Stopped, Timeout, Mismatch, BadJournal, OtherChip, StatusDiffers, Memory, Output, OtherUnit}
 
--- the lower-case hexadecimal digits of `number`, with leading zeros if there are fewer than `width` digits
 abbrev pub hex_digits : (width number : ℕ) → List ℕ
 hex_digits width number = replicate (width - length (digits 16 false number)) 48 ++ digits 16 false number
 
--- the text of the address `place`: `0x` and at least six lower-case hexadecimal digits
 abbrev pub address : ℕ → List ℕ
 address place = codes "0x" ++ hex_digits 6 place
 

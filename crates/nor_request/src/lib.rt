@@ -1,10 +1,6 @@
 //! Defines the requests that a session can be asked to perform, the reports that calls return on success, and the
 //! errors that they return on failure. Each error has a number and a text.
 //!
-//! - `request.rt`: requests for a session
-//! - `report.rt`: what a call that succeeded did
-//! - `refusal.rt`: the errors of calls, their numbers and their texts
-//!
 //! ```rust
 //! use nor_request::{Refusal, Request};
 //!

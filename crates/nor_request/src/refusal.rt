@@ -11,7 +11,7 @@ use std::error::Error;
 use std::fmt;
 
 /// The reason why a call failed. A session checks errors 1 to 10 in the order of their numbers, and returns the first
-/// one that applies, unless the bus or the vault fails first.
+/// one that applies, unless the bus stops, the chip stays busy or the vault fails first.
 #[derive(Clone, Copy, Debug, PartialEq, Eq)]
 pub enum Refusal {
     /// 1: the ID reads `FF FF FF` or `00 00 00`, as it does if nothing drives the bus.
@@ -48,8 +48,8 @@ pub enum Refusal {
     BadJournal(JournalFault),
     /// 16: the chip's ID or size differs from the journal's.
     OtherChip,
-    /// 17: a status bit that flashnor never changes differs from the journal's or, on a chip without block protection,
-    /// any non-volatile status bit.
+    /// 17: a non-volatile status bit differs from the journal's. On a chip with block protection, the protection bits
+    /// may differ.
     StatusDiffers,
     /// 18: out of memory.
     Memory,

@@ -6,7 +6,7 @@ ghost use Rattle.nor_request.specs.declared.request.What.TheVariants as Whats;
 use nor_layout::Ranges;
 use nor_probe::ChipName;
 
-/// The change for which a session is asked. For a write and for an erase, the image must be as long as the chip.
+/// The change for which a session is asked. For a write or an erase, the session's image must be as long as the chip.
 #[derive(Clone, Copy, Debug, PartialEq, Eq)]
 pub enum What {
     /// A write: each included byte becomes the image's byte at the same address.
@@ -20,7 +20,6 @@ pub enum What {
 /// A request for a session, for example `Request::write().named(ChipName::W25Q64FV).verified()`.
 #[derive(Clone, Debug, Drop)]
 pub struct Request {
-    /// The change for which the session is asked.
     pub what: What,
     /// The name that the chip must have, or `None` for any chip.
     pub named: Option<ChipName>,

@@ -57,8 +57,6 @@ pub record HasScanned (request : Request) (size n : ℕ) (image image' : List �
       → slice_index image' a ≡ wanted_at request image size old.chip.bytes a
   pub rest : (a : ℕ) → 4096 * n ≤ a → slice_index image' a ≡ slice_index image a
 
--- `seen` says whether sector `s` was seen, and `old` whether `s` was seen and passes a test. If sector `n` is seen now,
--- too, and passes the test if and only if `verdict` is true, then `more` and `new` say the same of `s` afterwards.
 tested : (n s : ℕ) (test : ℕ → Bool) (seen more : Bool) {verdict old new : Bool} → verdict ≡ test n → more ≡ ((s == n) || seen)
     → old ≡ (seen && test s) → new ≡ ((verdict && (s == n)) || old) → new ≡ (more && test s)
 tested n s test seen more is one was inserted = grind (arith, nat_tests)

@@ -20,7 +20,6 @@ most_identity = 65542
 abbrev pub needed_to_identify : Chip → ℕ
 needed_to_identify chip = needed chip + 2
 
--- the two status bytes that were read
 abbrev pub status_read : Identity → List ℕ
 status_read identity = identity.found.status1 ∷ identity.status2 ∷ []
 

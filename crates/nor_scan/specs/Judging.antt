@@ -51,21 +51,15 @@ abbrev pub AcceptsIdentity : Request → ℕ → Identity → Result ℕ Refusal
 AcceptsIdentity request len identity judged = (chip : Chip) (image : List ℕ) → IsIdentityOf chip identity
     → IsNamed request.named chip.config → length image ≡ len → IfOk judged (IdentityAccepts request image chip)
 
--- Holds if an error of the check against the identification is the verdict on the request, for each image of `len`
--- bytes and each chip that has this identification and the requested name, if any.
 abbrev pub RefusesIdentity : Request → ℕ → Identity → Result ℕ Refusal → Type 0
 RefusesIdentity request len identity judged = (chip : Chip) (image : List ℕ) → IsIdentityOf chip identity
     → IsNamed request.named chip.config → length image ≡ len → IfErr judged (IsVerdict request image chip)
 
--- Holds if `found` is the first touched sector with a protected address, or `None` if there is none, on each chip with
--- this identification.
 abbrev pub FindsProtected : (ℕ → Bool) → Identity → Option ℕ → Type 0
 FindsProtected touched identity found =
     (chip : Chip) → IsIdentityOf chip identity
     → MatchOption found (NoneProtected touched chip) (IsLeastProtected touched chip)
 
--- Holds if `needed` says whether the request needs a status write, on each chip with this identification and for each
--- set of touched sectors that fits `is_touched_protected`.
 abbrev pub FindsNeed : Request → Identity → Bool → ℕ → Bool → Type 0
 FindsNeed request identity is_touched_protected code needed = (chip : Chip) (touched : ℕ → Bool)
     → IsIdentityOf chip identity
@@ -80,14 +74,10 @@ OfTouched request identity code touched promise = (chip : Chip) (image : List �
     → IdentityAccepts request image chip code
     → ((s : ℕ) → touched s ≡ is_touched chip.bytes (wanted request image chip) s) → promise image chip
 
--- Holds if the check against the touched sectors accepts only what `ScanAccepts` allows, for each chip and image that
--- `OfTouched` describes.
 abbrev pub AcceptsScan : Request → Identity → ℕ → (ℕ → Bool) → Result Bool Refusal → Type 0
 AcceptsScan request identity code touched judged =
     OfTouched request identity code touched (λ image chip. IfOk judged (ScanAccepts request image chip))
 
--- Holds if an error of the check against the touched sectors is the verdict on the request, for each chip and image
--- that `OfTouched` describes.
 abbrev pub RefusesScan : Request → Identity → ℕ → (ℕ → Bool) → Result Bool Refusal → Type 0
 RefusesScan request identity code touched judged =
     OfTouched request identity code touched (λ image chip. IfErr judged (IsVerdict request image chip))

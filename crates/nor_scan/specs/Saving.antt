@@ -19,7 +19,6 @@ pub record IsIdentityOf (chip : Chip) (identity : Identity) : Type 0 where
   pub two : identity.status2 ≡ chip.kept.two
   pub unique : identity.unique ≡ unique_of chip.config
 
--- Holds if the bus is well-behaved, and its chip is idle and the same as `chip`.
 pub record HasIdleChip (chip : Chip) (state : BusState) : Type 0 where
   pub honest : state.honest ≡ true
   pub idle : state.chip.busy ≡ 0
@@ -65,7 +64,6 @@ abbrev pub header_found : Identity → Content
 header_found identity =
     empty_content identity.found.id (Some identity.unique) (kept_read identity) identity.found.size
 
--- the header of a journal of this chip
 abbrev pub header_of : Chip → Content
 header_of chip =
     empty_content (id_of chip.config) (Some (unique_of chip.config)) ((4 * chip.kept.one) ∷ chip.kept.two ∷ [])

@@ -29,7 +29,6 @@ use Rattle.nor_layout.specs.Sectors.{includes, has_in_sector}
 abbrev pub wanted_at : Request → (image : List ℕ) → (size : ℕ) → (content : ℕ → ℕ) → (a : ℕ) → ℕ
 wanted_at request image size content a = if is_requested request size a then target request.what image a else content a
 
--- Holds if `new` records the plan of this sector and one more read.
 pub record HasMarked (sector : ℕ) (plan : SectorPlan) (old new : Scanned) : Type 0 where
   pub touched : (s : ℕ) → has new.touched s ≡ ((plan.touched && (s == sector)) || has old.touched s)
   pub raised : (s : ℕ) → has new.raised s ≡ ((plan.raised && (s == sector)) || has old.raised s)
@@ -42,13 +41,12 @@ pub record IsBlank (scanned : Scanned) : Type 0 where
   pub count : scanned.count ≡ 0
   pub reads : scanned.reads ≡ 0
 
--- Holds if the marks and `count` fit each other. A scan ensures this on every bus.
 pub record AreMarks (n : ℕ) (scanned : Scanned) : Type 0 where
   pub below : (s : ℕ) → has scanned.touched s ≡ true → s < n
   pub inside : (s : ℕ) → has scanned.raised s ≡ true → has scanned.touched s ≡ true
   pub count : scanned.count ≡ sector_count (has scanned.touched)
 
--- Holds if exactly those sectors in `seen` are marked that are touched or raised.
+-- Holds if the marks of the sectors in `seen` are right, and no other sector is marked.
 pub record AreRight (wanted content : ℕ → ℕ) (seen : ℕ → Bool) (scanned : Scanned) : Type 0 where
   pub touched : (s : ℕ) → has scanned.touched s ≡ (seen s && is_touched content wanted s)
   pub raised : (s : ℕ) → has scanned.raised s ≡ (seen s && is_raised content wanted s)
@@ -80,8 +78,8 @@ abbrev pub IsScanned : Request → (size : ℕ) → (a : ℕ) → Type 0
 IsScanned request size a = (is_data request.what ≡ true) × (a / 4096 < size / 4096)
     × (has_in_sector (includes request.included) (a / 4096) ≡ true)
 
--- Holds after each sector with an included address was scanned. The marks and the target bytes are right for the bytes
--- that were read and, on a well-behaved bus with an idle chip of this size, for the chip's bytes.
+-- Holds after a scan. The marks and the target bytes are right for the bytes that were read and, on a well-behaved bus
+-- with an idle chip of this size, for the chip's bytes.
 pub record Scans (request : Request) (size : ℕ) (image image' : List ℕ) (old new : BusState)
     (scanned : Scanned) : Type 0 where
   pub marks : AreMarks (size / 4096) scanned
@@ -100,7 +98,6 @@ pub record Scans (request : Request) (size : ℕ) (image image' : List ℕ) (old
   pub merged : IsOpen size old → (a : ℕ) → has scanned.touched (a / 4096) ≡ true
       → slice_index image' a ≡ wanted_at request image size old.chip.bytes a
 
--- Holds if a scan may return this error. Error 12 means that the bus stopped at the last transaction.
 abbrev pub ScanErrors : ℕ → (old new : BusState) → Refusal → Type 0
 ScanErrors most old new Stopped = HasStopped most old new
 ScanErrors most old new Vault = ⊤

@@ -48,7 +48,6 @@ pub record IsVerdict (request : Request) (image : List ℕ) (chip : Chip) (refus
 abbrev pub IsAccepted : Request → (image : List ℕ) → Chip → Type 0
 IsAccepted request image chip = (refusal : Refusal) → ¬ RefusalHolds request image chip refusal
 
--- Holds if no error applies whose number is at most `number`.
 abbrev pub NoneHoldsTo : (number : ℕ) → Request → (image : List ℕ) → Chip → Type 0
 NoneHoldsTo number request image chip =
     (refusal : Refusal) → refusal_number refusal ≤ number → ¬ RefusalHolds request image chip refusal

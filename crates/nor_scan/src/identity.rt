@@ -11,7 +11,6 @@ pub struct Identity {
     pub found: Found,
     pub status2: u8,
     pub unique: [u8; 8],
-    /// The number of transactions that the identification sent.
     pub transactions: u64,
     pub ghost sized: { IsTrue (is_chip_size found.size) },
 }

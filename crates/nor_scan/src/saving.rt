@@ -35,10 +35,12 @@ pub struct SavedScan {
 /// image's touched sectors have the target bytes.
 ///
 /// Returns error 9 (the status registers must be written and are locked), 10 (a touched sector is protected, and the
-/// request doesn't unlock), 11 (the vault failed) or 12 (the bus stopped). On such a bus, error 9 or 10 is the lowest
-/// error that applies if none of the errors 1 to 8 does. After an error the vault is unsealed. On such a bus a faithful
-/// vault then holds a prefix of the chip's journal, which after an error other than 11 ends after the header or a
-/// record.
+/// request doesn't unlock), 11 (the vault failed) or 12 (the bus stopped). After an error the vault is unsealed. If bus
+/// and chip are as above:
+///
+/// - Error 9 or 10 is the lowest error that applies, unless one of the errors 1 to 8 does.
+/// - A faithful vault holds a prefix of the chip's journal. After an error other than 11, the prefix ends after the
+///   header or a record.
 pub fn save<B: Bus, V: Vault>(
     bus: &mut B,
     vault: &mut V,

@@ -64,10 +64,6 @@ impl Scanned {
     }
 }
 
-/// Reads one sector into `bytes`, sets `part`, the sector's part of the image, to the target bytes, and returns the
-/// sector's plan. Returns `Stopped` if the bus stopped.
-///
-/// `part` must have 4,096 bytes, and the sector must be on a chip of `size` bytes, at most 16 MiB.
 fn scan_sector<B: Bus>(
     bus: &mut B,
     request: &Request,

@@ -21,15 +21,15 @@ use nor_journal::{Vault, Writer};
 use nor_model::Bus;
 use nor_request::Refusal;
 
-/// Saves every sector of the chip that was found in a journal, and seals the vault, which must be empty and unsealed.
-/// The call sends at most one read for each sector (exactly one if it succeeds), and no other transaction.
+/// Saves every sector of the identified chip to a journal, and seals the vault, which must be empty and unsealed. The
+/// call sends at most one read for each sector (exactly one if it succeeds), and no other transaction.
 ///
 /// After success on any bus, a faithful vault (`telling`) holds a journal of all sectors of a chip of the size that was
 /// found. Each record has the bytes of the last reply to a read of its sector. If the bus is well-behaved, and its chip
 /// is idle and is the one that `identity` describes, this is the chip's journal.
 ///
-/// Returns error 11 (the vault failed) or 12 (the bus stopped). After an error the vault is unsealed; on such a bus a
-/// faithful vault then holds a prefix of the chip's journal.
+/// Returns error 11 (the vault failed) or 12 (the bus stopped). After an error the vault is unsealed. If bus and chip
+/// are as above, a faithful vault then holds a prefix of the chip's journal.
 pub fn save_whole<B: Bus, V: Vault>(
     bus: &mut B,
     vault: &mut V,

@@ -16,7 +16,6 @@ use Rattle.nor_serprog.specs.Enabled.{enabled_device, SameChipOf, SendsBatch, Ex
 use Rattle.nor_serprog.proofs.Enabled.{enable_cut, cut_from}
 use Rattle.nor_serprog.proofs.Enabling.{enable_carried, steps_from}
 
--- A write enable waits only if the link is in step.
 pub in_step_if : {P C : Type 0} {over : Ghosts P C} (batch : Batch P C over) → batch.waits ≡ true
     → is_in_step batch.link ≡ true
 in_step_if batch waits = elim (cases_Bool (is_in_step batch.link)) [

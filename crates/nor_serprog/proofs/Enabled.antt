@@ -37,7 +37,6 @@ unlatched chip = elim (cases_Bool (is_idle chip)) [
   ]
 ]
 
--- A loss of power doesn't depend on the latch.
 lost_from : (old new : Chip) → PowerLost old new → PowerLost (enabled true old) new
 lost_from old new lost = record {
   config = lost.config;

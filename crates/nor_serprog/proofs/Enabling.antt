@@ -1,4 +1,4 @@
--- A write enable that waits, as the chip of the bus has it: carried out, it leaves that chip as it is.
+-- A write enable that waits: carrying it out leaves the chip of the bus, which has the latch set already, as it is.
 use Rattle.std.proofs.Common.{◌≡◌, ◌∙◌, ◌⊎◌, ℕ, zero, suc, Bool, true, false, List, [], ◌∷◌, length, take, drop, refl, sym, ap, subst, arith, inl, inr}
 use Rattle.std.specs.Prelude.{◌==◌, ◌||◌, if◌then◌else◌}
 use Rattle.std.proofs.lemmas.Bool.{cases_Bool}
@@ -24,24 +24,20 @@ same_chip a b config bytes kept latch busy running =
     ∙ ap (λ (v : ℕ). record b { busy = v; running = a.running }) busy
     ∙ ap (λ (v : Running). record b { running = v }) running
 
--- A command that the chip ignores changes nothing.
 ignored : (old new : Chip) (out answer : List ℕ) → Does Ignored out old answer new → new ≡ old
 ignored old new out answer d = same_chip new old d.config d.bytes d.kept d.latch d.busy d.running
 
--- A write enable that is carried out sets the latch.
 enables : (old new : Chip) (out answer : List ℕ) → is_idle old ≡ true → Does WriteEnable out old answer new
     → new ≡ enabled true old
 enables old new out answer idle d =
     let set : new.latch ≡ (enabled true old).latch = d.latch ∙ sym (ap (λ (b : Bool). b || old.latch) idle) in
     same_chip new (enabled true old) d.config d.bytes d.kept set d.busy d.running
 
--- A busy chip ignores a write enable.
 pub busy_same : (chip : Chip) → is_idle chip ≡ false → chip ≡ enabled true chip
 busy_same chip busy =
     let kept : chip.latch ≡ (enabled true chip).latch = sym (ap (λ (b : Bool). b || chip.latch) busy) in
     same_chip chip (enabled true chip) refl (λ x. refl) refl kept refl refl
 
--- Holds if the chip ignores the command, or is idle and carries out a write enable.
 abbrev pub MayEnable : Chip → Command → Type 0
 MayEnable chip command = (command ≡ Ignored) ⊎ ((command ≡ WriteEnable) × (is_idle chip ≡ true))
 
@@ -58,7 +54,7 @@ done_enable chip replies =
     if is_carried_out chip command then command else Ignored in
     elim (replies == 0) as (λ b. MayEnable chip (done b)) [ true ↦ carried_if (is_idle chip) | false ↦ inl refl ]
 
--- If `count` bytes of a write enable are sent, these are none or all.
+-- The first `count` bytes of a write enable are none or all of it.
 pub done_first : (chip : Chip) (count replies : ℕ) → MayEnable chip (done_of chip (take count (0x06 ∷ [])) replies)
 done_first chip zero replies = inl refl
 done_first chip (suc n) replies =
@@ -76,7 +72,6 @@ pub no_wear : (chip : Chip) (command : Command) (s : ℕ) → MayEnable chip com
 no_wear chip command s (inl is) = ap (λ (c : Command). wears c s) is
 no_wear chip command s (inr (is, idle)) = ap (λ (c : Command). wears c s) is
 
--- The write enable that waited was carried out.
 pub enable_carried : (answer : List ℕ) (old new : Device) → StepsOnce (0x06 ∷ []) answer old new → length answer ≡ 0
     → SameChipOf (enabled_device true old) new
 enable_carried answer old new steps none =
@@ -97,7 +92,6 @@ enable_carried answer old new steps none =
           ∙ or-false (old.worn s);
     }
 
--- A write enable that waits from now on counts as carried out.
 enable_step : (chip : Chip) (reply : List ℕ) → length reply ≡ 0 → Step chip (0x06 ∷ []) reply (enabled true chip)
 enable_step chip reply none =
     let done : done_of chip (0x06 ∷ []) (length reply) ≡ (if is_idle chip then WriteEnable else Ignored) =
@@ -136,7 +130,6 @@ enable_waits reply old base same none = record {
       (no_wear old.chip (done_of old.chip (0x06 ∷ []) (length reply)) s (done_enable old.chip (length reply))));
 }
 
--- What follows from one state follows from any with the same chip and sectors.
 pub steps_from : (out answer : List ℕ) (base between new : Device) → SameChipOf base between
     → StepsOnce out answer between new → StepsOnce out answer base new
 steps_from out answer base between new same steps = record {

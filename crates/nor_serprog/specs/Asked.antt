@@ -11,7 +11,6 @@ bytes_of_calls (last ∷ before) = bytes_of_calls before ++ last
 abbrev pub enable_frame : List ℕ
 enable_frame = operation_frame (0x06 ∷ []) 0
 
--- The frame that waits to be sent: that of a write enable, or none.
 abbrev pub lead_frame : (waits : Bool) → List ℕ
 lead_frame waits = if waits then enable_frame else []
 
@@ -21,18 +20,18 @@ acks is_led = if is_led then 0x06 ∷ [] else []
 abbrev pub AsksLead : (waits : Bool) → (old new : List (List ℕ)) → Type 0
 AsksLead waits old new = new ≡ (if waits then enable_frame ∷ old else old)
 
--- Holds if an O_SPIOP that sends `out` and reads `replies` bytes fits into a frame. The programmer then reads exactly
--- this command from its `operation_frame`.
+-- Holds if an O_SPIOP that sends `out` and reads `replies` bytes fits into a frame.
 abbrev pub FitsOperation : (out : List ℕ) → (replies : ℕ) → Type 0
 FitsOperation out replies = (length out ≤ 260) × (replies < 16777216)
 
--- Holds if the chip takes `out` for a page program (02h), with at least 32 data bytes. These are more bytes than a
--- synchronization sends, so if the frame was cut inside the address, no synchronization completes it.
+-- Holds if `out` is a page program (02h) with at least 32 data bytes. This is more than a synchronization sends, so if
+-- the frame is cut inside the address, no synchronization completes it.
 abbrev pub IsLongProgram : (out : List ℕ) → Type 0
 IsLongProgram out = (slice_index out 0 ≡ 0x02) × (36 ≤ length out)
 
--- Holds if the port was asked to send a write enable if it waited, and then the frame of the O_SPIOP that sends `out`
--- and reads `replies` bytes: in one call, if `out` is a long program; or in one call each.
+-- Holds if the port was asked to send the frame of the O_SPIOP that sends `out` and reads `replies` bytes. If a write
+-- enable waited, the port was asked to send its frame first: in a call of its own or, if `out` is a long program, in
+-- the same call.
 pub record AsksInOrder (waits : Bool) (out : List ℕ) (replies : ℕ) (old new : List (List ℕ)) : Type 0 where
   pub fits : FitsOperation out replies
   pub asks : ((new ≡ (lead_frame waits ++ operation_frame out replies) ∷ old) × (waits ≡ true → IsLongProgram out))
@@ -51,8 +50,8 @@ abbrev pub AsksSync : (old new : List (List ℕ)) → Type 0
 AsksSync old new =
     (new ≡ old) ⊎ ((new ≡ (0x00 ∷ []) ∷ old) ⊎ (new ≡ nop_row ∷ (0x00 ∷ []) ∷ old))
 
--- Holds if `argument`, what one call of the port was asked to send, is one frame of O_SPIOP. The frame of a long
--- program may come after the frame of a write enable (06h). So nothing comes after a frame that modifies the chip.
+-- Holds if `argument`, what one call of the port was asked to send, is one frame of O_SPIOP, or the frame of a write
+-- enable (06h) and then that of a long program.
 pub record IsOneOperation (argument : List ℕ) : Type 0 where
   pub waits : Bool
   pub out : List ℕ
@@ -85,8 +84,8 @@ abbrev pub AreFrames : List Exchange → List ℕ → Type 0
 AreFrames [] bytes = AreNops bytes
 AreFrames (exchange ∷ earlier) bytes = EndsFraming exchange (AreFrames earlier) bytes
 
--- Holds if all that the port was asked to send since it had been asked for `start`, followed by the write enable if it
--- waits, are the frames of the transactions of the history, in order, and synchronizations.
+-- Holds if everything that the port was asked to send after `start`, and then the write enable that may wait, are the
+-- frames of the transactions of the history, in order, with only synchronizations between them.
 pub record IsFramed (start asked : List (List ℕ)) (waits : Bool) (history : List Exchange) : Type 0 where
   pub later : List (List ℕ)
   pub since : asked ≡ later ++ start

@@ -8,11 +8,9 @@ use Rattle.nor_serprog.specs.Firmware.{buffer_at}
 use Rattle.nor_serprog.specs.Enabled.{enabled_device}
 use Rattle.nor_serprog.specs.Link.{is_in_step, IsSettled}
 
--- The link to the programmer.
 abbrev pub batch_link : {P C : Type 0} {over : Ghosts P C} → Batch P C over → Link P C
 batch_link batch = batch.link
 
--- True if the frame of a write enable waits to be sent.
 abbrev pub waits_in : {P C : Type 0} {over : Ghosts P C} → Batch P C over → Bool
 waits_in batch = batch.waits
 

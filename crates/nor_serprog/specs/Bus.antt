@@ -41,14 +41,14 @@ port_in bus = bus.link.port
 abbrev pub history_of : {P C : Type 0} {over : Ghosts P C} → SerprogBus P C over → List Exchange
 history_of bus = bus.history.exchanges
 
--- The transactions in the history that may modify the chip, whether they succeeded or not.
 abbrev pub sent_of : {P C : Type 0} {over : Ghosts P C} → SerprogBus P C over → Sent
 sent_of bus = sent_in (history_of bus)
 
 abbrev pub polled_ready_of : {P C : Type 0} {over : Ghosts P C} → SerprogBus P C over → Bool
 polled_ready_of bus = polled_ready_in (history_of bus)
 
--- Transactions that were rejected because an earlier one failed don't count.
+-- The cause of the last failure. A transaction that is rejected because an earlier one failed leaves this
+-- cause as it is.
 abbrev pub cause_of : {P C : Type 0} {over : Ghosts P C} → SerprogBus P C over → Option (Failure C)
 cause_of bus = bus.cause
 

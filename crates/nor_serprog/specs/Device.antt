@@ -11,7 +11,6 @@ use Rattle.nor_serprog.specs.declared.command.Command.TheVariants.{Operate}
 use Rattle.nor_serprog.specs.Frame.{IsFrame, out_in, replies_in}
 use Rattle.nor_serprog.specs.Firmware.{Firmware, ProgrammerSettings, HaveReplies, frames_of, replies_of, settings_after_all, buffer_at, unknown_firmware}
 
--- The state of a programmer and its chip.
 pub record Device : Type 0 where
   pub chip : Chip
   -- the sectors that the chip has erased
@@ -29,7 +28,6 @@ pub record IsIdle (device : Device) : Type 0 where
   pub begun : device.begun ≡ []
   pub pending : device.pending ≡ []
 
--- The state of a port, as contracts see it.
 pub record PortState : Type 0 where
   pub device : Device
   -- for a well-behaved port, the greatest number of further calls that will succeed, which no program can read
@@ -62,7 +60,6 @@ pub record IsCut (out : List ℕ) (old new : Device) : Type 0 where
   pub steps : StepsOnce (take count out) read old reached
   pub then : MayLoseDevicePower reached new
 
--- Holds if the programmer carried out a whole frame of O_SPIOP.
 pub record OperatesFrame (frame : List ℕ) (old new : Device) : Type 0 where
   pub answer : List ℕ
   pub len : length answer ≡ replies_in frame
@@ -88,13 +85,11 @@ pub record CompletesBoth (first second bytes : List ℕ) (old : Device) : Type 0
   pub second_opcode : slice_index second 0 ≡ 0x13
   pub fits : length bytes ≤ buffer_at old.firmware
 
--- Holds if the programmer carried out the frames `first` and `second` of O_SPIOP, in this order.
 pub record OperatesBoth (first second : List ℕ) (old new : Device) : Type 0 where
   pub between : Device
   pub former : OperatesFrame first old between
   pub latter : OperatesFrame second between new
 
--- Holds if the programmer carried out the frame `first`, and the transaction of the frame `second` was cut.
 pub record CutsSecond (first second : List ℕ) (old new : Device) : Type 0 where
   pub between : Device
   pub former : OperatesFrame first old between
@@ -135,16 +130,14 @@ pub record IsWithinLimits (frame : List ℕ) (device : Device) : Type 0 where
   pub sends : length (out_in frame) ≤ 260
   pub reads : replies_in frame ≤ 4096
 
--- Holds if `commands` are within the limits of every well-behaved port.
 pub record AreWithinLimits (commands : List Command) (device : Device) : Type 0 where
   pub none_pending : device.pending ≡ []
   pub sends : length (frames_of commands) ≤ 260
   pub reads : length (replies_of device.firmware commands) ≤ 4096
 
--- Holds if the port failed while it sent `bytes`, after any number of them. If they would complete a frame of O_SPIOP,
--- its transaction was cut, since a programmer may begin a transaction before its frame is complete. If they are two
--- frames of O_SPIOP, the transaction of one was cut, and that of the second was cut only after the first was carried
--- out. Bytes within the limits fail only if no call was left; of two frames of O_SPIOP this isn't required.
+-- Holds if the port failed while it sent `bytes`, after any number of them. If these would complete a frame of O_SPIOP,
+-- its transaction was cut, because a programmer may begin a transaction before its frame is complete. Of two frames,
+-- the first was cut, or the first was carried out and the second cut.
 pub record IsCutOff (bytes : List ℕ) (old new : PortState) : Type 0 where
   pub firmware : new.device.firmware ≡ old.device.firmware
   pub none_left_for_commands : (commands : List Command) → AsksFor commands bytes old.device

@@ -8,7 +8,7 @@ use Rattle.nor_serprog.specs.Frame.{IsFrame, operation_frame, replies_in}
 use Rattle.nor_serprog.specs.Device.{Device, PortState, IsIdle, StepsOnce, IsCut}
 use Rattle.nor_serprog.specs.Firmware.{buffer_at}
 
--- The chip after a write enable that waits: its latch is set if the chip is idle. Without one the chip is as it is.
+-- The chip of a bus on which a write enable may wait: if one waits and the chip is idle, its latch is set.
 abbrev pub enabled : (waits : Bool) → Chip → Chip
 enabled waits chip = record chip { latch = (waits && is_idle chip) || chip.latch }
 
@@ -28,7 +28,7 @@ pub record SendsBatch (waits : Bool) (out : List ℕ) (replies : ℕ) (frames : 
   pub reads : replies_in (operation_frame out replies) ≡ replies
   pub fits : waits ≡ true → length frames ≤ buffer_at device.firmware
 
--- Holds if the ACK of a write enable was received, if it was sent (`is_led`).
+-- Holds if the ACK of the write enable was received, or if none was sent (`is_led` is false).
 pub record TakesAcks (is_led : Bool) (old new : PortState) : Type 0 where
   pub pending : old.device.pending ≡ acks is_led ++ new.device.pending
   pub begun : new.device.begun ≡ old.device.begun

@@ -6,7 +6,8 @@ use Rattle.nor_serprog.specs.declared.command.Command.{Command}
 use Rattle.nor_serprog.specs.declared.command.Command.TheVariants.{Nop, QueryInterface, QueryCommands, QueryName, QuerySerialBuffer, QueryBuses, QueryLongestWrite, SyncNop, QueryLongestRead, SetBuses, Operate, SetFrequency, SetPins, SelectChip}
 use Rattle.nor_serprog.specs.Frame.{frame_of, three_of, four_of}
 
--- The firmware of a programmer: its replies to the queries, and the settings that it accepts. No command changes them.
+-- The firmware of a programmer: its replies to the queries, and the settings that it accepts. No command changes the
+-- firmware.
 pub record Firmware : Type 0 where
   -- the version of the protocol (Q_IFACE)
   pub version : ℕ
@@ -59,11 +60,9 @@ nak = 0x15 ∷ []
 abbrev pub queried : Firmware → (opcode : ℕ) → (bytes : List ℕ) → List ℕ
 queried firmware opcode bytes = if has_command firmware opcode then 0x06 ∷ bytes else nak
 
--- The reply to a setting: ACK if the programmer accepts it, or NAK.
 abbrev pub taken : Bool → List ℕ
 taken accepts = if accepts then 0x06 ∷ [] else nak
 
--- The reply to S_SPI_FREQ: ACK and the clock that was set, or NAK.
 abbrev pub clocked : Option ℕ → List ℕ
 clocked (Some set) = 0x06 ∷ four_of set
 clocked None = nak
@@ -129,7 +128,6 @@ abbrev pub HaveReplies : Firmware → List Command → Type 0
 HaveReplies firmware [] = ⊤
 HaveReplies firmware (command ∷ rest) = HasReply firmware command × HaveReplies firmware rest
 
--- An arbitrary firmware, for a programmer about which nothing is known.
 abbrev pub unknown_firmware : Firmware
 unknown_firmware = record {
   version = 0;

@@ -33,7 +33,7 @@ frame_of (SetFrequency hertz) = 0x14 ∷ four_of hertz
 frame_of (SetPins enabled) = 0x15 ∷ (if enabled then 1 else 0) ∷ []
 frame_of (SelectChip number) = 0x16 ∷ number ∷ []
 
--- Holds if the command fits into one frame of this crate.
+-- Holds if this crate can encode the command as one frame.
 abbrev pub FitsFrame : Command → Type 0
 FitsFrame (Operate out replies) = (length out.now ≤ 260) × (replies < 16777216)
 FitsFrame _ = ⊤

@@ -121,7 +121,6 @@ identify_faults least firmware hertz =
     ∷ refused 0x15 (has_command firmware 0x15) (firmware.takes_pins true)
     ∷ []
 
--- The error of a handshake that requires the limits `least`; `None` if the programmer can be used.
 abbrev pub least_fault : {C : Type 0} → Least → Firmware → (hertz : Option ℕ) → Option (HandshakeFault C)
 least_fault least firmware hertz = first_handshake_fault (identify_faults least firmware hertz)
 
@@ -159,7 +158,8 @@ IsPortFault (Failure failure) = IsPortFailure failure
 IsPortFault _ = ⊥
 
 -- Holds for the result of a part of the handshake with at most `calls` calls, over a well-behaved port to an idle
--- programmer. `fault` is the error that the firmware causes. `old` is the state of the port before the part, but with
+-- programmer. `fault` is the error that the firmware causes. `old` is the state of the port before this part, except
+-- that it has the settings that the programmer has after a success.
 -- the settings that the programmer has after success.
 pub record Concludes {T C : Type 0} (calls : ℕ) (fault : Option (HandshakeFault C)) (IsValue : T → Type 0)
     (result : Result T (HandshakeFault C)) (old new : PortState) : Type 0 where
@@ -168,7 +168,6 @@ pub record Concludes {T C : Type 0} (calls : ℕ) (fault : Option (HandshakeFaul
   pub asks : OnOk result (OnlyAsks calls old new)
   -- an error is the one that the firmware causes; or the port failed, because fewer than `calls` calls were left
   pub fails : IfErr result (λ found. (fault ≡ Some found) ⊎ (IsPortFault found × (old.left < calls)))
-  -- after any error the chip is as it was, or has lost its power
   pub power : OnErr result (MayLoseDevicePower old.device new.device)
 
 pub record IsInStepWith {P C : Type 0} (port : P → PortState) (firmware : Firmware) (link : Link P C) : Type 0 where

@@ -19,7 +19,6 @@ programmer_name programmer = programmer.reported.name
 abbrev pub buffer_of : Programmer → ℕ
 buffer_of programmer = programmer.reported.serial_buffer
 
--- The same of a programmer with lower limits.
 abbrev pub any_buffer_of : AnyProgrammer → ℕ
 any_buffer_of programmer = programmer.serial_buffer
 

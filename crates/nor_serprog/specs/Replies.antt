@@ -7,7 +7,6 @@ use Rattle.nor_serprog.specs.Frame.{frame_of}
 use Rattle.nor_serprog.specs.Firmware.{reply_of, settings_after, nak}
 use Rattle.nor_serprog.specs.Device.{PortState, IsIdle, MayLoseDevicePower, with_settings}
 
--- Holds if the port is well-behaved, and its programmer is idle.
 pub record AwaitsCommand (port : PortState) : Type 0 where
   pub honest : port.honest ≡ true
   pub idle : IsIdle port.device
@@ -63,5 +62,4 @@ pub record EndsExchange {C : Type 0} (command : Command) (count : ℕ) (reply : 
   -- if the programmer replies NAK: `Refused`, or a failure of the port because fewer than two calls were left
   pub refused : reply_of old.device.firmware command ≡ nak
       → OnOk result ⊥ × IfErr result (IsRefused (slice_index (frame_of command) 0) 2 old.left)
-  -- after any error the chip is as it was, or has lost its power
   pub power : OnErr result (MayLoseDevicePower old.device new.device)

@@ -10,10 +10,8 @@ ghost use Rattle.nor_serprog.specs.Link.{port_of, is_in_step};
 use crate::{AnyProgrammer, Command, Failure, Frame, Link, Port, Sync};
 use arrayvec::ArrayVec;
 
-// The frame of a write enable (06h).
 const ENABLE: [u8; 8] = [0x13, 1, 0, 0, 0, 0, 0, 0x06];
 
-// The length of the frames of a write enable and a full page program.
 const LONGEST_PAIR: usize = 275;
 
 // The least length of a page program that is sent together with its write enable: an opcode, three address bytes and 32
@@ -21,12 +19,7 @@ const LONGEST_PAIR: usize = 275;
 // complete it, even if `Link::synchronize` takes the ACK of the write enable for the reply to its NOP.
 const LONG_PROGRAM: usize = 36;
 
-/// A link, and whether the frame of a write enable waits to be sent over it.
-///
-/// The write enable is sent in one write to the port with the frame of the next transaction if that is a page program
-/// with at least 32 data bytes, and both fit into the programmer's serial buffer. Otherwise it is sent alone, and its
-/// ACK is received, before that transaction. Nothing is sent after the frame of any other command before its reply is
-/// received: if bytes of a frame are lost on the way, the programmer takes the next bytes as the rest of the frame.
+/// A link, and whether the frame of a write enable waits to be sent over it (`BatchingBus` describes when it is sent).
 ///
 /// Erases and status writes are never sent together with their write enable. So if the host stops in the middle of such
 /// a frame, no reply is pending, and a later `Link::synchronize` can't take an old ACK for the reply to its NOP.
@@ -56,7 +49,6 @@ impl<P: Port + Drop> Batch<P> {
         }
     }
 
-    /// Returns the link.
     pub(crate) fn link(&self) -> &Link<P>
         ensures { result.now ≡ batch_link self.now }
     {
@@ -70,8 +62,8 @@ impl<P: Port + Drop> Batch<P> {
     /// does not fit into one frame, or reads more than the programmer can; then nothing was sent, and the write enable
     /// still waits. After any other error nothing waits.
     ///
-    /// Over a well-behaved port, the chip with the write enable that waits (`device_at`) made one step, or this step
-    /// was cut.
+    /// Over a well-behaved port, the chip, as if the write enable that waits had been carried out (`device_at`), makes
+    /// one step, or this step is cut.
     pub(crate) fn transact(&mut self, out: &[u8], reply: &mut [u8]) -> Result<(), Failure<P::Cause>>
         ensures silent { is_in_step (batch_link self.old) ≡ false → self.new ≡ self.old }
         ensures was_in_step { OnOk result (is_in_step (batch_link self.old) ≡ true) }
@@ -145,7 +137,7 @@ impl<P: Port + Drop> Batch<P> {
         self.link.exchange_batch(&ENABLE, false, &mut [])
     }
 
-    /// Synchronizes the programmer, as `Link::synchronize` does, if the link is out of step. Nothing waits then.
+    /// Synchronizes the programmer, as `Link::synchronize` does, if the link is out of step.
     pub(crate) fn synchronize(&mut self) -> Result<(), Failure<P::Cause>>
         ensures ok { OnOk result (is_in_step (batch_link self.new) ≡ true) }
         ensures err { OnErr result (is_in_step (batch_link self.new) ≡ false) }
@@ -161,7 +153,6 @@ impl<P: Port + Drop> Batch<P> {
         self.link.synchronize()
     }
 
-    // Lets a write enable wait. If another one waits already, sends that first.
     fn wait(&mut self) -> Result<(), Failure<P::Cause>>
         requires in_step { is_in_step (batch_link self.old) ≡ true }
         ensures ok { OnOk result (is_in_step (batch_link self.new) ≡ true) }
@@ -197,21 +188,18 @@ fn encode<C>(out: &[u8], replies: u32) -> Result<Frame, Failure<C>>
     command.encode().map_err(|_| Failure::TooLong)
 }
 
-// Returns whether `out` is a write enable.
 fn is_enable(out: &[u8]) -> bool
     ensures { result ≡ true → out.now ≡ 0x06 ∷ [] }
 {
     matches!(out, [0x06])
 }
 
-// Returns whether `out` is a page program with at least 32 data bytes.
 fn is_long_program(out: &[u8]) -> bool
     ensures { result ≡ true → IsLongProgram out.now }
 {
     out.len() >= LONG_PROGRAM && matches!(out, [0x02, ..])
 }
 
-// Returns the frame of a write enable, followed by `frame`.
 fn after_enable(frame: &Frame) -> ArrayVec<u8, LONGEST_PAIR>
     requires { length frame.now.items ≤ 267 }
     ensures { result.items ≡ enable_frame ++ frame.now.items }

@@ -17,15 +17,12 @@ use nor_model::{Bus, History, Stopped};
 /// both frames have to arrive whole, or the chip ignores the command.
 ///
 /// - `transfer` of a write enable that reads no reply may return `Ok` before it is sent. If it fails later, the
-///   transaction or `flush` that sends it returns `Stopped`.
-/// - Every other transaction that isn't rejected sends the write enable that waits: in one write with its own frame if
-///   it is a page program with at least 32 data bytes, otherwise in a write of its own, whose ACK it receives first. It
-///   returns `Ok` only after ACK was received for each frame (`acked`), so nothing waits then.
-/// - `flush` sends the write enable that waits. Without `flush` or a later transaction it is never sent.
-/// - The two frames that are sent together fit into the programmer's serial buffer. Nothing waits if the programmer
-///   does not report the size of that buffer.
-/// - Whatever the port was asked to send since the bus was made is, in order, the frames of the transactions in the
-///   history, except for synchronizations (`frames`).
+///   transaction or `flush` that sends it returns `Stopped`; without one of these it is never sent.
+/// - Every other transaction that isn't rejected sends the write enable that waits. It returns `Ok` only after ACK was
+///   received for each frame (`acked`), so nothing waits then.
+/// - Nothing waits if the programmer does not report the size of its serial buffer.
+/// - Everything that the port was asked to send since the bus was made is, in order, the frames of the transactions in
+///   the history, with only synchronizations between them (`frames`).
 ///
 /// Over any port the history lists each transaction with its reply; a transaction that failed or was rejected is listed
 /// without a reply. A write enable that waits is already in the history, with an empty reply.
@@ -40,7 +37,7 @@ use nor_model::{Bus, History, Stopped};
 /// punctual, and may stop at any transaction, even if calls of the port are left.
 ///
 /// The buses that `new` and `over` return are for real chips, and may have chips of further types. A contract sees no
-/// such bus as well-behaved. They send the same.
+/// such bus as well-behaved, although it sends the same bytes.
 #[derive(Drop)]
 pub struct BatchingBus<P: Port + Drop> {
     batch: Batch<P>,
@@ -48,7 +45,6 @@ pub struct BatchingBus<P: Port + Drop> {
     cause: Option<Failure<P::Cause>>,
     history: History,
     further: bool,
-    // As for `SerprogBus`, and the programmer's serial buffer holds as many bytes as the batch assumes.
     ghost settled: { further ≡ false → IsSettledBatch batch },
 }
 

@@ -23,8 +23,6 @@ pub struct SerprogBus<P: Port + Drop> {
     programmer: Programmer,
     cause: Option<Failure<P::Cause>>,
     history: History,
-    // Over a well-behaved port, if the link is in step, the programmer waits for a frame and no reply is pending.
-    // Otherwise the port has too few calls left for a transaction.
     ghost idle: { IsSettled P.state link },
 }
 

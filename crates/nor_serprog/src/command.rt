@@ -7,7 +7,8 @@ ghost use Rattle.nor_serprog.specs.declared.command.Answer.TheVariants as Answer
 use arrayvec::ArrayVec;
 use thiserror::Error;
 
-/// The greatest number of bytes that an O_SPIOP sends to the chip here: an opcode, three address bytes and a page.
+/// The greatest number of bytes that an O_SPIOP of this crate sends to the chip: an opcode, three address bytes and a
+/// page.
 pub const LONGEST_OUT: usize = 260;
 
 // The length of the header of an O_SPIOP frame: its opcode and two 24-bit lengths.
@@ -15,7 +16,6 @@ const HEADER_LEN: usize = 7;
 
 const LONGEST_FRAME: usize = HEADER_LEN + LONGEST_OUT;
 
-// The least number of reply bytes that doesn't fit in 24 bits.
 const REPLIES_END: u32 = 1 << 24;
 
 /// The bytes of one command: its opcode and its arguments.
@@ -62,7 +62,7 @@ pub enum Command<'a> {
 pub struct TooLong;
 
 impl Command<'_> {
-    /// Returns the frame of the command, or `TooLong`, which only `Operate` can be. A programmer reads exactly this
+    /// Returns the frame of the command, or `TooLong`, which only `Operate` can cause. A programmer reads exactly this
     /// command from the frame, and no longer frame begins with it.
     pub fn encode(self) -> Result<Frame, TooLong>
         ensures fits { IsOk result ↔ FitsFrame self.entry }
@@ -145,7 +145,6 @@ pub fn frame_len(begun: &[u8]) -> Option<usize>
     }
 }
 
-// Returns the number of argument bytes after an opcode that has a fixed number of them; 0 for all opcodes after 16h.
 fn arguments_len(opcode: u8) -> usize
     ensures { result ≡ argument_count opcode }
 {

@@ -35,8 +35,8 @@ pub enum HandshakeFault<C> {
     SmallBuffer(u16),
 }
 
-/// The replies of a programmer to its identification. Its transactions can send 5 bytes and read 1 byte. If one
-/// transaction can't send a page program or read a sector, use a `SplittingBus`.
+/// The replies of a programmer to its identification. Its transactions can send at least 5 bytes and read at least 1
+/// byte. If one transaction can't send a page program or read a sector, use a `SplittingBus`.
 #[derive(Clone, Copy, Debug, PartialEq, Eq)]
 pub struct AnyProgrammer {
     pub(crate) name: [u8; 16],
@@ -47,7 +47,6 @@ pub struct AnyProgrammer {
     pub(crate) longest_part: u32,
     pub(crate) serial_buffer: u16,
     pub(crate) frequency: Option<u32>,
-    // True if the programmer has the command S_SPI_CS.
     pub(crate) selects: bool,
     // The shortest part of a program sends an opcode, three address bytes and one data byte.
     ghost parts: { 5 ≤ longest_part },
@@ -130,7 +129,7 @@ impl Programmer {
         self.reported.name
     }
 
-    /// Returns the replies of the programmer for a bus that sends transactions in parts.
+    /// Returns the replies of the programmer, as for a bus that sends transactions in parts.
     pub fn reported(&self) -> &AnyProgrammer
         ensures { result.now ≡ self.now.reported }
     {

@@ -41,7 +41,6 @@ use Rattle.nor_session.proofs.ReadyChip.{status1_if_idle, opening_of}
 use Rattle.nor_session.proofs.Rescanned.{restored_saved}
 use Rattle.nor_session.proofs.RestoredBytes.{unraised_byte}
 
--- The facts after a restore identified the chip (from `old` to `mid`) and chose its sectors (from `mid` to `new`).
 pub record AreRead (choice : Choice) (journal : Content) (identity : Identity) (scanned : Scanned) (old mid new : BusState) : Type 0 where
   pub only_reads : OnlyReads most_identity old mid
   pub opens : ReadsIdentity None old mid identity

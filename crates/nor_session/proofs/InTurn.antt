@@ -42,7 +42,7 @@ changes_nothing journal first old new report saves same done =
     let untouched = λ (s : ℕ). none_touched journal first old.chip s saves same in
     let never = never_needed journal first old.chip saves same in
     let touched = done.reported.sectors ∙ count_below-none 4096 _ (λ s below. untouched s) in
-    -- The report has the least number of erases, and the empty list of erases covers exactly the raised sectors: none.
+    -- No sector is raised, so the empty list of erases covers exactly the raised sectors, and the least number is 0.
     let least = done.reported.erases.least [] record {
       units = λ k any below. absurd (omega arith);
       union = λ s. sym (none_raised journal first old.chip s saves same);

@@ -131,7 +131,6 @@ module _ {n : ℕ} {journal : Content} {old mid new : BusState} (allows : Allows
   under_refuses refusal gives always returned never =
       let leaves = allow_leaves journal old mid allows in search (arith, not_bus_error)
 
--- Holds after `n` restores were run in turn, and all of them were stopped.
 pub record AreStopped (journal : Content) (stops : List ℕ) (old now : BusState) (n : ℕ) : Type 0 where
   pub leaves : LeavesRestores journal n old now
   pub allowed : now.allowances ≡ allowances_of stops n ++ old.allowances

@@ -87,7 +87,6 @@ pub changed_fits : {journal : Content} {old mid new : BusState} → FitsReplies 
     → FitsReplies journal old new
 changed_fits fits later = search (continues_then fits.after later.history)
 
--- The facts after a restore's preparation (from `old` to `mid`) and its changes (from `mid` to `new`).
 pub record AreChanged (choice : Choice) (journal : Content) (prepared : PreparedRestore) (old mid new : BusState) : Type 0 where
   pub sound : IsSoundChoice choice
   pub only_reads : OnlyReads (most_reads (choice.reads (length journal.saved))) old mid

@@ -28,7 +28,6 @@ use Rattle.nor_session.specs.Headline.{SavesChip, CanRestoreFrom}
 
 -- ---- which chips a backup can restore
 
--- Holds if the journal saves this chip (`SavesChip`), and contains the chip's unique ID and every sector of the chip.
 pub record SavesWholeChip (journal : Content) (first : Chip) : Type 0 where
   pub chip : SavesChip journal first
   pub device : journal.unique ≡ Some (unique_of first.config)
@@ -46,7 +45,7 @@ writable_addresses first a = nat_lt a first.config.size && not (is_locked first.
 -- ---- on every bus
 
 -- The promises about the report of a backup. The number of transactions is at least four (the shortest identification)
--- plus one for each sector. `further` says whether the bus has further types.
+-- plus one for each sector. `further` says whether the bus knows the further rows of the table of chips.
 pub record ReportsBackup (named : Option ChipName) (further : Bool) (report : Report) : Type 0 where
   pub part : IsPart further report.found
   pub has_name : IsWanted named report.found.name
@@ -103,22 +102,18 @@ pub record BackupAlways (named : Option ChipName) (old new : BusState) (vault va
   -- On a punctual bus, the number of transactions is at most that of identifying and reading the largest chip.
   pub only_reads : OnlyReads (most_reads 4096) old new
   pub sealed : OnOk result (Completed vault vault')
-  -- the vault, which was unsealed at the start, is still unsealed
   pub answers : IfErr result (BackupReturns vault vault')
   -- after success a faithful vault holds a journal that has every sector as the bus replied it
   pub replied : IfOk result (λ report. vault'.telling ≡ true
       → IsBackupOfReplies old.further report.found new vault'.bytes)
   pub reported : IfOk result (ReportsBackup named old.further)
   pub polled_ready : OnOk result (new.polled_ready ≡ true)
-  -- after error 12 the last transaction is the one at which the bus stopped; after error 13 it is a poll that showed
-  -- BUSY
   pub last_transaction : IfErr result (λ refusal. EndsAtError refusal new.history)
 
 -- The promises of a backup on a well-behaved bus.
 pub record BackupHonest (named : Option ChipName) (old new : BusState) (result : Result Report Refusal) : Type 0 where
   pub errors : IfErr result (BackupErrors (most_reads 4096) named old new)
   pub same : OnOk result (IsSame old.chip new.chip)
-  -- the report counts exactly the transactions that were sent
   pub counted : IfOk result (λ report. Spent report.transactions old new)
 
 -- The promises of a backup on a modelled bus.
@@ -128,7 +123,6 @@ pub record BackupModelled (named : Option ChipName) (old new : BusState) (vault'
   pub errors : IfErr result (BackupErrors (most_reads (old.chip.config.size / 4096)) named old new)
   pub config : IfOk result (λ report. IsConfigOf old.chip.config report.found)
   pub saves : OnOk result (vault'.telling ≡ true → IsBackupOf vault'.bytes old.chip)
-  -- after success the journal in a faithful vault can restore the chip
   pub restorable : OnOk result (vault'.telling ≡ true → CanRestoreFrom vault'.bytes old.chip new)
   -- after an error a faithful vault is empty, or holds a prefix of the only journal that the backup can write
   pub cut : vault'.telling ≡ true → OnErr result (HoldsBackupBegun old.chip vault'.bytes)

@@ -26,7 +26,6 @@ use Rattle.nor_request.specs.declared.refusal.Refusal.TheVariants.{Stopped, Time
 abbrev pub touched_count : Changes → ℕ
 touched_count changes = sector_count (touched_in changes)
 
--- a bound on the transactions of the changes and of their check
 abbrev pub most_changed : Changes → ℕ
 most_changed changes = most_applied (touched_count changes) + touched_count changes
 
@@ -65,8 +64,8 @@ CheckRefuses changes wanted old new _ = ⊥
 abbrev pub HasBytes : (sectors : ℕ → Bool) → (wanted : ℕ → ℕ) → Chip → Type 0
 HasBytes sectors wanted chip = (a : ℕ) → sectors (a / 4096) ≡ true → chip.bytes a ≡ wanted a
 
--- Holds at every exit of the changes and their check. The numbers of operations are within the limits `most_sent`.
--- Targets and status bytes outside these limits are allowed if they had occurred before the changes.
+-- Holds at every exit of the changes and their check. What was sent since the state `old` is within the limits
+-- `most_sent`.
 abbrev pub LeavesChange : Changes → (wanted : ℕ → ℕ) → (old new : BusState) → Type 0
 LeavesChange changes wanted =
     Leaves (most_changed changes) (most_sent changes) (CanApply changes wanted)

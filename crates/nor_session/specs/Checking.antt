@@ -45,21 +45,18 @@ abbrev pub NamesDifference : (ℕ → Bool) → CheckFault → Type 0
 NamesDifference sectors Stopped = ⊤
 NamesDifference sectors (Mismatch address) = sectors (address / 4096) ≡ true
 
--- Holds if the only transaction was a read of this sector, and its reply has 4,096 bytes for which `Is` holds.
 pub record ReadsWhole (sector : ℕ) (Is : List ℕ → Type 0) (old new : List Exchange) : Type 0 where
   pub bytes : List ℕ
   pub answered : Answered (names 0x03 (4096 * sector)) old new bytes
   pub whole : length bytes ≡ 4096
   pub is : Is bytes
 
--- Holds if the result of the verification of a sector fits its reply. A mismatch names the first byte that differs.
 abbrev pub ChecksReply : (sector : ℕ) → (target : List ℕ) → (old new : List Exchange) → Result Unit CheckFault → Type 0
 ChecksReply sector target old new (Ok done) = ReadsWhole sector (λ bytes. AllAgree bytes target) old new
 ChecksReply sector target old new (Err Stopped) = ⊤
 ChecksReply sector target old new (Err (Mismatch address)) = (first : ℕ) × (address ≡ 4096 * sector + first)
     × ReadsWhole sector (λ bytes. IsFirstDifference bytes target first) old new
 
--- Holds if the result of the verification fits the replies, on every bus.
 abbrev pub ChecksReplies : (sectors : ℕ → Bool) → (wanted : ℕ → ℕ) → (old new : List Exchange) → Result ℕ CheckFault
     → Type 0
 ChecksReplies sectors wanted old new (Ok sent) = ReadsBack (addresses_of sectors) wanted old new

@@ -19,7 +19,6 @@ use Rattle.nor_scan.specs.Verdict.{IsNamed, IdentityAccepts}
 use Rattle.nor_probe.specs.Known.{IsModelled}
 use Rattle.nor_session.specs.Session.{SessionAlways, SessionHonest, SessionModelled}
 
--- Holds if the checks accepted the request for an image of `image` bytes, with the target protection bits `code`.
 pub record IsJudged (request : Request) (image : ℕ) (identity : Identity) (code : ℕ) : Type 0 where
   pub is_size : is_chip_size identity.found.size ≡ true
   pub at_most : identity.found.size ≤ 16777216
@@ -32,8 +31,8 @@ pub record IsJudged (request : Request) (image : ℕ) (identity : Identity) (cod
   pub accepts : (chip : Chip) (bytes : List ℕ) → IsIdentityOf chip identity → IsNamed request.named chip.config
       → length bytes ≡ image → IdentityAccepts request bytes chip code
 
--- Holds if `promise` holds for every state of the bus from which an identification with this result leads to the state
--- `now`.
+-- Holds if `promise` holds for every bus state from which an identification with this result can have started, if it
+-- ended in the state `now`.
 abbrev pub SinceIdentity : Option ChipName → Identity → BusState → (BusState → Type 0) → Type 0
 SinceIdentity named identity now promise =
     (first : BusState) → OnlyReads most_identity first now → ReadsIdentity named first now identity → promise first

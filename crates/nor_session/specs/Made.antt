@@ -32,10 +32,9 @@ pub record IsTargetChip (wanted : ℕ → ℕ) (old new : Chip) : Type 0 where
   pub idle : new.busy ≡ 0
   pub latch : new.latch ≡ true → old.latch ≡ true
 
--- Holds if the report is right, and exactly the raised sectors were added to the sectors that were ever erased
--- (`worn`). BUSY and WEL in the reported status 1 are known only if the chip was idle. The erases are the least number
--- that covers exactly the raised sectors. The programs are the pages of touched sectors that differ from the target
--- once the raised sectors are erased.
+-- Holds if the report is right, and exactly the raised sectors were added to the erased sectors (`worn`). The erases
+-- are the least number that covers exactly the raised sectors. The programs are the pages of touched sectors that
+-- differ from the target once the raised sectors are erased.
 pub record IsReportedFor (touched raised : ℕ → Bool) (wanted : ℕ → ℕ) (old new : BusState)
     (report : Report) : Type 0 where
   pub worn : (s : ℕ) → new.worn s ≡ (old.worn s || raised s)
@@ -47,7 +46,6 @@ pub record IsReportedFor (touched raised : ℕ → Bool) (wanted : ℕ → ℕ) 
   pub programs : report.programs
       ≡ count_below 65536 (is_programmed touched (once_erased raised old.chip.bytes) wanted)
 
--- Holds if the report is right for the sectors that are touched and raised with this target.
 abbrev pub IsReported : (wanted : ℕ → ℕ) → (old new : BusState) → Report → Type 0
 IsReported wanted old new report =
     IsReportedFor (is_touched old.chip.bytes wanted) (is_raised old.chip.bytes wanted) wanted old new report

@@ -74,20 +74,14 @@ abbrev pub FitsIdentity : Content → Identity → Type 0
 FitsIdentity journal identity =
     (chip : Chip) → chip.kept.two < 128 → IsIdentityOf chip identity → FitsJournal journal chip
 
--- Holds if `shown` says whether the status bits that a restore can't write are the journal's, on each chip that
--- `FitsIdentity` describes.
 abbrev pub ShowsFixed : Content → Identity → Bool → Type 0
 ShowsFixed journal identity shown = (chip : Chip) → chip.kept.two < 128 → IsIdentityOf chip identity
     → MatchBool shown (FitsStatus journal chip) (¬ FitsStatus journal chip)
 
--- Holds if the check of the unique ID and the status bits accepts only chips that the journal fits, among those with
--- this identification and the journal's ID and size.
 abbrev pub AcceptsDevice : Content → Identity → Result Unit Refusal → Type 0
 AcceptsDevice journal identity judged = (chip : Chip) → chip.kept.two < 128 → IsIdentityOf chip identity
     → IsOfType journal chip.config → OnOk judged (FitsJournal journal chip)
 
--- Holds if the check of the unique ID and the status bits returns only the error of the first failed check, for each
--- chip with this identification and the journal's ID and size.
 abbrev pub RefusesDevice : Content → Identity → Result Unit Refusal → Type 0
 RefusesDevice journal identity judged = (choice : Choice) (chip : Chip) → chip.kept.two < 128
     → IsIdentityOf chip identity → IsOfType journal chip.config → IfErr judged (RestoreJudges choice journal chip)
@@ -108,8 +102,8 @@ PrepareErrors choice journal most old new refusal = IsRefusedFor choice journal 
 
 -- ---- the scan
 
--- Holds after a sector was read. The plan says what must change to turn contents with the bytes `bytes` into contents
--- with the bytes `saved`.
+-- Holds after a sector was read as `bytes`. The plan says whether the sector must change, and whether it needs an
+-- erase, to get the bytes `saved`.
 pub record PlansSaved (sector : ℕ) (saved bytes : List ℕ) (old new : BusState) (plan : SectorPlan) : Type 0 where
   pub small : (k : ℕ) → slice_index saved k < 256
   pub read : ReadsSector sector old new bytes
@@ -119,8 +113,8 @@ pub record PlansSaved (sector : ℕ) (saved bytes : List ℕ) (old new : BusStat
   pub planned : (content wanted : ℕ → ℕ) → AreBytesOf content bytes → AreBytesOf wanted saved
       → IsPlan content wanted 4096 plan
 
--- Holds after a restore marked the sectors that `choice` gives for the bytes that were read and, on a well-behaved bus
--- with an idle chip of the journal's size, for the chip's bytes.
+-- Holds after a restore marked its sectors as `choice` gives them for the bytes that were read. On a well-behaved bus
+-- with an idle chip of the journal's size, these are the chip's bytes.
 pub record MarksChosen (choice : Choice) (journal : Content) (old new : BusState) (scanned : Scanned) : Type 0 where
   pub marks : AreMarks (journal.size / 4096) scanned
   pub saved : (s : ℕ) → has scanned.touched s ≡ true → is_saved journal s ≡ true
@@ -138,7 +132,6 @@ pub record MarksChosen (choice : Choice) (journal : Content) (old new : BusState
 abbrev pub plan_of_rewritten : SectorPlan
 plan_of_rewritten = record { touched = true; raised = true }
 
--- Holds if exactly the saved sectors are marked, as touched and as raised.
 pub record MarksSaved (journal : Content) (scanned : Scanned) : Type 0 where
   pub touched : (s : ℕ) → has scanned.touched s ≡ is_saved journal s
   pub raised : (s : ℕ) → has scanned.raised s ≡ is_saved journal s
@@ -167,17 +160,14 @@ pub record MayChangeStatus (journal : Content) (touched : ℕ → Bool) (chip : 
   pub free : changes.unlock ≡ true ⊎ NoneProtected touched chip
   pub not_locked : is_locked chip.kept ≡ true → ¬ NeedsStatusWith journal touched chip
 
--- Holds if the status is locked, but would have to be written.
 pub record IsShut (journal : Content) (touched : ℕ → Bool) (chip : Chip) : Type 0 where
   pub locked : is_locked chip.kept ≡ true
   pub needs : NeedsStatusWith journal touched chip
 
--- Holds if the changes, if any were returned, treat the status of each chip with this identification correctly.
 abbrev pub MakesChanges : Content → Identity → (ℕ → Bool) → Result Changes Refusal → Type 0
 MakesChanges journal identity touched judged =
     (chip : Chip) → IsIdentityOf chip identity → IfOk judged (MayChangeStatus journal touched chip)
 
--- Holds if an error means that the status of each chip with this identification is locked (`IsShut`).
 abbrev pub RefusesShut : Content → Identity → (ℕ → Bool) → Result Changes Refusal → Type 0
 RefusesShut journal identity touched judged =
     (chip : Chip) → IsIdentityOf chip identity → OnErr judged (IsShut journal touched chip)
@@ -240,7 +230,6 @@ pub record IsSoundChoice (choice : Choice) : Type 0 where
       → choice.touched journal content s ≡ true
   pub few : (saved : ℕ) → choice.reads saved ≤ saved
 
--- Holds if a restore that began in the state `old` has prepared its changes, and left the state `new`.
 pub record HasPrepared (choice : Choice) (journal : Content) (old new : BusState)
     (prepared : PreparedRestore) : Type 0 where
   pub sound : IsSoundChoice choice
@@ -248,7 +237,6 @@ pub record HasPrepared (choice : Choice) (journal : Content) (old new : BusState
   pub is : IsPreparedRestore choice journal old new prepared
   pub replies : FitsReplies journal old new
 
--- The promises of a restore whose preparation succeeded, for any choice of its sectors.
 pub record KeepsPromises (choice : Choice) (journal : Content) (old new : BusState)
     (result : Result Report Refusal) : Type 0 where
   pub restores_original : IsModelled old → RestoresOriginal journal old new result

@@ -83,7 +83,6 @@ abbrev pub FitsLastStop : (sectors : ℕ) → (stops : List ℕ) → (left resto
 FitsLastStop sectors stops left restores =
     restores ≤ length stops → left + (4 + sectors) ≤ slice_index stops (restores - 1)
 
--- What a rehearsal that returned an error leaves on a modelled bus.
 pub record LeavesRefused (old new : BusState) (vault : VaultState) : Type 0 where
   pub same : IsSame old.chip new.chip
   pub latch : new.chip.latch ≡ true → old.chip.latch ≡ true
@@ -93,7 +92,6 @@ pub record LeavesRefused (old new : BusState) (vault : VaultState) : Type 0 wher
 abbrev pub IsRehearsalRefusal : (old new : VaultState) → Refusal → Type 0
 IsRehearsalRefusal old new refusal = SessionReturns old new refusal ⊎ ((new.sealed ≡ true) × IsRestoreRefusal refusal)
 
--- Holds if the error is neither 12 (the bus stopped) nor 13 (the chip stayed busy).
 abbrev pub IsNoBusError : Refusal → Type 0
 IsNoBusError refusal = list_any (λ n. refusal_number refusal == n) (12 ∷ 13 ∷ []) ≡ false
 
@@ -121,7 +119,6 @@ pub record RehearsalAlways (request : Request) (stops : List ℕ) (old new : Bus
   pub polled_ready : IfOk result (λ rehearsal. rehearsal.sealed ≡ true → new.polled_ready ≡ true)
   -- A call that is stopped by its entry in `stops` is no error of the rehearsal.
   pub last_transaction : IfErr result (λ refusal. EndsAtError refusal new.history)
-  -- if the vault isn't sealed, no modifying command was sent
   pub unsent : vault'.sealed ≡ false → new.sent ≡ old.sent
   pub sends : vault'.sealed ≡ true → (journal : IsJournal vault'.bytes)
       × SendsSaved (IsRehearsedCode request.what journal.content) (1 + max 1 (length stops)) journal.content old new
@@ -135,7 +132,6 @@ pub record RehearsalModelled (request : Request) (image stops : List ℕ) (old n
   pub refuses : OnErr result (LeavesRefused old new vault')
   pub errors : IfErr result (RehearsalErrors request image old.chip vault vault')
   pub accepts : vault'.sealed ≡ true → IsAccepted request image old.chip
-  -- a sealed vault holds a journal of the original chip that saves exactly the sectors that the session touches
   pub saves : vault'.sealed ≡ true
       → JournalSaves (header_of old.chip) old.chip.bytes
       (is_touched old.chip.bytes (wanted request image old.chip)) vault'.bytes

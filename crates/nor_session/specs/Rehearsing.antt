@@ -1,5 +1,4 @@
--- The states that the session of a rehearsal and the restores after it leave. Well-behaved and modelled buses are
--- punctual here, because on any other bus an allowance means nothing.
+-- The states that the session of a rehearsal and the restores after it leave.
 use Rattle.std.specs.Prelude.{◌≡◌, ◌≤◌, ◌<◌, ◌+◌, ◌*◌, ◌/◌, ◌++◌, ℕ, Bool, true, false, List, Result, IfOk, IfErr, OnOk, OnErr, length}
 use Rattle.nor_model.specs.Chip.{Chip, IsChip, IsSame, is_locked}
 use Rattle.nor_model.specs.History.{EndsStopped}
@@ -62,7 +61,7 @@ pub record HasWantedBits (what : What) (old new : Chip) : Type 0 where
   pub kept : new.kept ≡ with_code code old.kept
 
 -- Holds if a session with an allowance of `allowance` transactions ended (`ended` is `true`) or was stopped (`ended` is
--- `false`). On a modelled bus a stopped session had an allowance below the bound `most_of`.
+-- `false`). On a modelled, punctual bus a stopped session had an allowance below the bound `most_of`.
 pub record RunsSession (request : Request) (image : List ℕ) (allowance : ℕ) (old new : BusState) (vault : VaultState)
     (ended : Bool) : Type 0 where
   pub seals : ended ≡ true → vault.sealed ≡ true
@@ -75,8 +74,8 @@ pub record RunsSession (request : Request) (image : List ℕ) (allowance : ℕ) 
       → allowance < most_of (old.chip.config.size / 4096)
   pub seal : IsModelled old → old.punctual ≡ true → SealFits request allowance old.chip vault.sealed
 
--- Holds if the session returned this error. On a modelled bus the error is the verdict on the request, or the vault
--- failed. On a well-behaved bus the error is neither a stop nor a timeout.
+-- Holds if the session returned this error. On a modelled, punctual bus the error is the verdict on the request, or the
+-- vault failed. On a well-behaved, punctual bus the error is neither a stop nor a timeout.
 pub record RefusesSession (request : Request) (image : List ℕ) (old new : BusState) (before after : VaultState)
     (refusal : Refusal) : Type 0 where
   pub answers : SessionReturns before after refusal
@@ -99,8 +98,8 @@ pub record LeavesRestores (journal : Content) (restores : ℕ) (old new : BusSta
   pub writes : WritesStatusAtMost (2 * restores) old new
 
 -- Holds if a restore with an allowance of `allowance` transactions ended (`ended` is `true`) or was stopped (`ended` is
--- `false`). If it ended on a modelled bus, a chip that the journal could restore is restored. On a well-behaved bus a
--- stopped restore had an allowance below the bound `most_of`.
+-- `false`). If it ended on a modelled bus, a chip that the journal could restore is restored. On a well-behaved,
+-- punctual bus a stopped restore had an allowance below the bound `most_of`.
 pub record RunsRestore (journal : Content) (allowance : ℕ) (old new : BusState) (ended : Bool) : Type 0 where
   pub back : IsModelled old → ended ≡ true → (first : Chip) → CanRestore journal first old → IsSame first new.chip
   pub latch : IsModelled old → ended ≡ true → new.chip.latch ≡ true → old.chip.latch ≡ true
@@ -122,8 +121,8 @@ pub record RunsRestores (journal : Content) (stops : List ℕ) (old new : BusSta
   pub last : IsModelled old → old.punctual ≡ true → FitsLastStop (length journal.saved) stops new.left restores
   pub back : IsModelled old → (first : Chip) → CanRestore journal first old → IsSame first new.chip
 
--- Holds if one of the restores returned this error. On a modelled bus no error is returned if the journal can restore
--- some chip.
+-- Holds if one of the restores returned this error. On a modelled, punctual bus no error is returned if the journal can
+-- restore some chip.
 pub record StopsRestores (journal : Content) (old new : BusState) (refusal : Refusal) : Type 0 where
   pub answers : IsRestoreRefusal refusal
   pub last_transaction : EndsAtError refusal new.history
@@ -155,7 +154,7 @@ SendsFromJournal text restores old new =
     (journal : IsJournal text) → SendsSaved (IsSavedCode journal.content) restores journal.content old new
 
 -- Holds if the restores from the bytes `text` returned this error. If the bytes can restore the original chip on a
--- modelled bus, no error is returned.
+-- modelled, punctual bus, no error is returned.
 pub record RefusesUndo (text : List ℕ) (old new : BusState) (refusal : Refusal) : Type 0 where
   pub answers : IsJournal text → IsRestoreRefusal refusal
   pub last_transaction : EndsAtError refusal new.history
@@ -164,7 +163,6 @@ pub record RefusesUndo (text : List ℕ) (old new : BusState) (refusal : Refusal
   pub never : IsModelled old → old.punctual ≡ true → (saved : ℕ → Bool) (first : Chip)
       → CanUndo saved first text old → ⊥
 
--- What restores from the bytes `text` with these stops leave, at every exit.
 pub record LeavesUndo (text stops : List ℕ) (old new : BusState) (result : Result ℕ Refusal) : Type 0 where
   pub nature : SameNature old new
   pub wears : WearsSaved text old new

@@ -42,9 +42,8 @@ restored journal old a = if is_saved journal (a / 4096) then saved_byte journal 
 
 -- ---- the sectors that are changed
 
--- A way in which a restore chooses its touched and raised sectors, from the journal and the bytes `content` of the chip
--- at the start. `reads` is the number of sectors that it reads before it changes anything, for a number of saved
--- sectors.
+-- How a restore chooses its touched and raised sectors, from the journal and the chip's bytes `content` at the start.
+-- `reads` is the number of sectors that are read before the first change, for a number of saved sectors.
 pub record Choice : Type 0 where
   pub touched : Content → (content : ℕ → ℕ) → (s : ℕ) → Bool
   pub raised : Content → (content : ℕ → ℕ) → (s : ℕ) → Bool
@@ -103,7 +102,6 @@ checked_in_order = 1 ∷ 2 ∷ 16 ∷ 20 ∷ 17 ∷ 9 ∷ []
 abbrev pub IsCheckedFirst : Refusal → Type 0
 IsCheckedFirst refusal = list_any (λ n. refusal_number refusal == n) checked_in_order ≡ true
 
--- The number of elements of a list before the first `n`, or the length of the list if it doesn't contain `n`.
 abbrev pub index_in : List ℕ → ℕ → ℕ
 index_in [] n = 0
 index_in (first ∷ later) n = if first == n then 0 else 1 + index_in later n
@@ -144,7 +142,6 @@ pub record FitsReplies (journal : Content) (old new : BusState) : Type 0 where
   pub device : HasUniqueRead journal identity
   pub fixed : HasFixedRead journal identity
 
--- Holds if the address `a` is in a saved sector that isn't touched. `read` has the bytes that were read from the chip.
 abbrev pub IsLeft : Choice → Content → (read : ℕ → ℕ) → (a : ℕ) → Type 0
 IsLeft choice journal read a =
     (is_saved journal (a / 4096) ≡ true) × (choice.touched journal read (a / 4096) ≡ false)
@@ -201,7 +198,6 @@ pub record AlwaysBy (choice : Choice) (journal : Content) (old new : BusState)
   pub fits : (new.sent ≡ old.sent) ⊎ FitsReplies journal old new
   pub writes : WritesStatusAtMost 2 old new
   pub answers : IfErr result IsRestoreRefusal
-  -- a timeout names address 0 or an address in a saved sector, and a mismatch names an address in a saved sector
   pub names : IfErr result (NamesSector (λ sector. is_saved journal sector ≡ true))
   -- After an error of the checks, no modifying command was sent. On a punctual bus, the number of transactions is then
   -- at most that of identifying and scanning the largest chip.
@@ -215,8 +211,6 @@ pub record AlwaysBy (choice : Choice) (journal : Content) (old new : BusState)
   -- writes.
   pub read_back : RestoreReadsBack choice journal old.history new.history result
   pub polled_ready : OnOk result (new.polled_ready ≡ true)
-  -- After error 12 the last transaction is the one at which the bus stopped. After error 13 it is a poll that showed
-  -- BUSY, and after error 14 a read of the sector that contains the address (`EndsAtError`).
   pub last_transaction : IfErr result (λ refusal. EndsAtError refusal new.history)
 
 -- The promises of a restore on a well-behaved bus.

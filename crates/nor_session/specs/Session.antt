@@ -96,8 +96,9 @@ pub record WritesOnly (IsCode : (code : ℕ) → Type 0) (journal : Content) (on
   pub clear1 : one % 4 ≡ 0
   pub clear2 : two < 128
 
--- Holds if the modifying commands that `calls` calls with the same journal sent fit this journal. Targets, status bytes
--- and unknown transactions that don't fit the journal are allowed if they had occurred before the calls.
+-- Holds if what `calls` calls sent fits this journal: they targeted only saved sectors (an erase of the whole chip: see
+-- `IsPastChipEnd`), wrote only allowed status bytes, and sent no unknown transaction. What was sent before the calls
+-- doesn't count.
 pub record SendsSaved (IsCode : ℕ → Type 0) (calls : ℕ) (journal : Content) (old new : BusState) : Type 0 where
   pub targeted : (s : ℕ) → (is_targeted new.sent s ≡ is_targeted old.sent s)
       ⊎ ((is_saved journal s ≡ true) ⊎ IsPastChipEnd journal s)
@@ -150,7 +151,6 @@ pub record CountsChanges (reads writes : ℕ) (verify : Bool) (old new : BusStat
       (report.touched + (if verify then report.touched else 0) + 3 * (report.erases + report.programs + writes))
       before.history new.history
 
--- Holds if a session ended with this report.
 pub record EndsSealed (request : Request) (old new : BusState) (vault vault' : VaultState)
     (report : Report) : Type 0 where
   pub sealed : vault'.sealed ≡ true
@@ -191,8 +191,8 @@ pub record IsDone (request : Request) (image : List ℕ) (old new : BusState) (r
   pub unsent : report.touched ≡ 0 → ¬ NeedsStatusWrite request image old.chip → new.sent ≡ old.sent
 
 -- Holds at every exit after the seal, on a modelled bus: a faithful vault holds a journal of the original chip that
--- saves exactly the touched sectors, and the chip changed only as `MayChange` allows. The number of transactions is at
--- least four (the shortest identification) plus one for each scanned sector.
+-- saves exactly the touched sectors, and the chip changed only as `MayChange` allows. On a punctual bus, at least four
+-- transactions (the shortest identification) and one for each scanned sector were sent.
 pub record CanBeUndone (request : Request) (image : List ℕ) (old new : BusState) (vault : VaultState) : Type 0 where
   pub accepted : IsAccepted request image old.chip
   pub journal : vault.telling ≡ true
@@ -227,9 +227,9 @@ touched_for request image size read s =
     sectors_below (size / 4096) s && is_touched read (wanted_at request image size read) s
 
 -- Holds if the result fits what was read back, on every bus. `scanned` is the history at the end of the scan. After
--- success with `verify` set, each sector with an included address had been read by then, and the last transactions read
--- each byte of a touched sector as its target byte. A mismatch names the first address in a touched sector whose byte
--- was read otherwise.
+-- success with `verify` set, each scanned sector had been read by then, and the last transactions read each byte of a
+-- touched sector as its target byte. A mismatch names the first address in a touched sector whose byte was read
+-- otherwise.
 abbrev pub SessionReadsBack : Request → (image : List ℕ) → (old new : List Exchange) → Result Report Refusal → Type 0
 SessionReadsBack request image old new (Ok report) = request.verify ≡ true
     → (scanned : List Exchange) × HaveBeenRead (IsScanned request report.found.size) old scanned
@@ -261,12 +261,10 @@ pub record SessionAlways (request : Request) (image : List ℕ) (old new : BusSt
   pub answers : IfErr result (SessionReturns vault vault')
   pub names : IfErr result (NamesAddress vault')
   pub ends : IfOk result (EndsSealed request old new vault vault')
-  -- After success with `verify` set, each sector that the request may change was read with its target bytes. For a
-  -- touched sector, that read followed all writes.
+  -- After success with `verify` set, each scanned sector was read with its target bytes. For a touched sector, that
+  -- read followed all writes.
   pub read_back : SessionReadsBack request image old.history new.history result
   pub polled_ready : OnOk result (new.polled_ready ≡ true)
-  -- After error 12 the last transaction is the one at which the bus stopped. After error 13 it is a poll that showed
-  -- BUSY, and after error 14 a read of the sector that contains the address (`EndsAtError`).
   pub last_transaction : IfErr result (λ refusal. EndsAtError refusal new.history)
 
 -- The promises of a session on a well-behaved bus.

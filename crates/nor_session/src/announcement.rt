@@ -14,8 +14,6 @@ pub struct Announcement {
     pub erases: u32,
 }
 
-/// Calls `announce` with `touched`, the number of touched sectors, and with the least number of erases that cover
-/// exactly the raised sectors of `changes`, which must be consistent (`AreConsistent`).
 pub(crate) fn announce_changes<F: FnOnce(Announcement)>(
     announce: F,
     changes: &Changes,

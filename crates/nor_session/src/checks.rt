@@ -14,11 +14,9 @@ use nor_model::{Bus, Stopped};
 use nor_plan::{SectorSet, bounds};
 use nor_request::Refusal;
 
-/// The reason why a verification failed.
 #[derive(Clone, Copy, Debug, PartialEq, Eq)]
 pub(crate) enum CheckFault {
     Stopped,
-    /// A byte that was read back isn't the target byte. `address` is that of the first byte that differs.
     Mismatch { address: u32 },
 }
 
@@ -41,11 +39,6 @@ impl From<CheckFault> for Refusal {
     }
 }
 
-/// Reads the touched sectors, in ascending order, and compares them with the bytes of `source`, which must have every
-/// touched sector. Returns the number of transactions.
-///
-/// Returns `Stopped` if the bus stopped, and `Mismatch` with an address in a touched sector if a byte differs. On a
-/// well-behaved bus, if the chip is idle and has the touched sectors, this is the first address that differs.
 pub(crate) fn check_all<B: Bus, S: Source>(
     bus: &mut B,
     source: &S,

@@ -25,9 +25,8 @@ pub(crate) struct Judged<'a, B: Bus, V: Vault> {
 }
 
 impl<'a, B: Bus, V: Vault> Judged<'a, B, V> {
-    /// Saves the touched sectors, announces and makes the changes, and returns the session's report. The clause `keeps`
-    /// states the promises of the whole session for each state of the bus from which an identification with this result
-    /// can have led to the present state.
+    /// The clause `keeps` states the promises of the whole session, which began before this call: it holds for every
+    /// bus state from which the identification can have started.
     pub(crate) fn answer<F: FnOnce(Announcement) + Drop>(
         self,
         announce: F,

@@ -39,9 +39,6 @@ pub(crate) struct Kept<'a, B: Bus, S: Source> {
 }
 
 impl<'a, B: Bus, S: Source> Kept<'a, B, S> {
-    /// Makes the changes, which must be consistent (`AreConsistent`), and checks the touched sectors if `verify` is
-    /// set. `source` must have every touched sector. Returns error 12 (the bus stopped), 13 (the chip stayed busy) or
-    /// 14 (a byte differs).
     pub(crate) fn finish(self, verify: bool) -> Result<Work, Refusal>
         requires consistent { AreConsistent self.changes.now }
         requires sourced { (s : ℕ) → has self.changes.now.touched s ≡ true → S.has self.source.now s ≡ true }
@@ -81,7 +78,6 @@ pub(crate) struct Done<'a, B: Bus, S: Source> {
 }
 
 impl<'a, B: Bus, S: Source> Done<'a, B, S> {
-    // Checks the touched sectors if `verify` is set. The returned counts include these reads.
     fn check(self, verify: bool) -> Result<Work, Refusal>
         requires fits { self.work.transactions ≤ most_applied 4096 }
         requires sourced { (s : ℕ) → has self.changes.now.touched s ≡ true → S.has self.source.now s ≡ true }

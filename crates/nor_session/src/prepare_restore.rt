@@ -22,7 +22,6 @@ use nor_probe::{Found, probe_counted};
 use nor_request::Refusal;
 use nor_scan::{Identity, Scanned, first_protected, read_on};
 
-/// The result of the preparation of a restore or rewrite.
 #[derive(Clone, Copy)]
 pub(crate) struct PreparedRestore {
     pub found: Found,
@@ -31,8 +30,7 @@ pub(crate) struct PreparedRestore {
     pub transactions: u64,
 }
 
-/// Prepares `restore`: identifies the chip, checks that the journal fits it, and reads the saved sectors, to find those
-/// that differ from the journal. Returns error 1, 2, 16, 20, 17 or 9 (checked in this order), 12 or 13.
+/// Returns error 1, 2, 16, 20, 17 or 9 (checked in this order), 12 or 13.
 #[tactic(auto, using(crate::proofs::SavedBytes::saved_room))]
 pub(crate) fn prepare_restore<B: Bus>(
     bus: &mut B,
@@ -56,8 +54,7 @@ pub(crate) fn prepare_restore<B: Bus>(
     })
 }
 
-/// Prepares `rewrite`: identifies the chip, checks that the journal fits it, and marks every saved sector for an erase,
-/// without reading it. Returns the same errors as `prepare_restore`.
+/// Marks every saved sector for an erase, without reading it. Returns the same errors as `prepare_restore`.
 pub(crate) fn prepare_rewrite<B: Bus>(
     bus: &mut B,
     journal: &Journal<'_>,
@@ -116,7 +113,6 @@ fn is_of_type(journal: &Journal<'_>, found: &Found) -> bool
     journal.id() == found.id && journal.size() == found.size
 }
 
-// Returns error 20 if the journal has another unique ID, and otherwise 17 if status bits that can't be written differ.
 fn judge_device(journal: &Journal<'_>, identity: &Identity) -> Result<(), Refusal>
     ensures faults { IfErr result IsDeviceRefusal }
     ensures fits { AcceptsDevice journal.now identity.now result }
@@ -174,7 +170,6 @@ fn mark_saved(journal: &Journal<'_>) -> Scanned
     scanned
 }
 
-// Returns the plan of a rewrite for a saved sector, even if the chip has these bytes already.
 fn plan_rewritten(_saved: &[u8; SECTOR_LEN as usize]) -> SectorPlan
     ensures { result ≡ plan_of_rewritten }
 {
@@ -199,7 +194,6 @@ fn plan_saved<B: Bus>(
     Ok(Plan::of(&*bytes, saved))
 }
 
-// Returns the changes, or error 9 if the status is locked and would have to be written.
 fn judge_changes(
     journal: &Journal<'_>,
     identity: &Identity,

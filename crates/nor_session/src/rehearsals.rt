@@ -80,7 +80,6 @@ const IDENTIFICATION: u64 = 65_542;
 // A bound on the transactions of an operation: write enable, the command, and at most 65,536 polls.
 const OPERATION: u64 = 65_538;
 
-// Returns a bound on the transactions of a session or restore on a chip of 16 MiB.
 fn most_needed() -> u64
     ensures { result ≡ most_of 4096 }
 {
@@ -100,8 +99,6 @@ fn later(stops: &[u64]) -> &[u64]
     stops.get(1..).unwrap_or(&[])
 }
 
-// Runs the session with the first stop as its allowance or, without stops, with `most_needed`. Returns whether it
-// ended; without stops, a bus that stopped is error 12.
 fn stopped_session<B: Meter>(
     bus: &mut B,
     vault: &mut MemVault,
@@ -128,8 +125,6 @@ fn stopped_session<B: Meter>(
     }
 }
 
-// Reads `text` as a journal, and runs restores from it. Returns their number, error 15 if `text` isn't a journal, or an
-// error of `restore_in_turn`.
 fn undo<B: Meter>(bus: &mut B, text: &[u8], stops: &[u64]) -> Result<u32, Refusal>
     requires few { length stops.now ≤ 64 }
     ensures { LeavesUndo text.now stops.now (B.state bus.old) (B.state bus.new) result }
@@ -140,8 +135,6 @@ fn undo<B: Meter>(bus: &mut B, text: &[u8], stops: &[u64]) -> Result<u32, Refusa
     }
 }
 
-// Runs restores until one of them ends: one with each of the stops in turn, then one with `most_needed` transactions.
-// Returns error 12 if the last one was stopped too, and any other error of a restore at once.
 fn restore_in_turn<B: Meter>(
     bus: &mut B,
     journal: &Journal<'_>,
@@ -167,7 +160,6 @@ fn restore_in_turn<B: Meter>(
     Err(Refusal::Stopped)
 }
 
-// Runs a restore with this allowance. Returns `false` if the bus stopped, and any error other than 12.
 fn ends_under<B: Meter>(bus: &mut B, journal: &Journal<'_>, allowance: u64) -> Result<bool, Refusal>
     ensures leaves { LeavesRestores journal.now 1 (B.state bus.old) (B.state bus.new) }
     ensures allowed { (B.state bus.new).allowances ≡ allowance ∷ (B.state bus.old).allowances }

@@ -123,9 +123,8 @@ pub fn rewrite_announced<B: Bus, F: FnOnce(Announcement) + Drop>(
     change_chip(bus, journal, &prepared, announce)
 }
 
-// Announces the prepared changes, makes them, and verifies the result. The clause `keeps` states the promises of the
-// whole restore for every choice of sectors, and for every state `old` from which a preparation with that choice can
-// have led to the present state.
+// The clause `keeps` states the promises of the whole restore, which began before this call: it holds for every choice
+// of sectors, and for every bus state `old` from which the preparation can have started.
 fn change_chip<B: Bus, F: FnOnce(Announcement) + Drop>(
     bus: &mut B,
     journal: &Journal<'_>,

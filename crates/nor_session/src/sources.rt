@@ -24,7 +24,6 @@ impl Source for Image<'_> {
     }
 }
 
-/// The sectors that a journal saved, whose target bytes are the saved bytes.
 #[derive(Drop)]
 pub struct Saved<'a> {
     pub journal: &'a Journal<'a>,
@@ -40,7 +39,6 @@ impl Source for Saved<'_> {
     }
 }
 
-/// Returns a slice of 4,096 bytes as an array. Each element is below 256.
 pub(crate) fn as_sector(bytes: &[u8]) -> &[u8; SECTOR_LEN as usize]
     requires { length bytes.now ≡ 4096 }
     ensures same { result.now ≡ bytes.now }

@@ -4,7 +4,6 @@ use Rattle.std.specs.List.{flat_map}
 use Rattle.std.specs.Option.{unwrap_or}
 use Rattle.sha2.specs.Sha256.{sha256}
 
--- the sum of a sector with these bytes: the first eight bytes of their SHA-256
 unfoldable pub sum_of : (bytes : List ℕ) → List ℕ
 sum_of bytes = take 8 (sha256 bytes)
 
@@ -20,7 +19,6 @@ abbrev pub entry_text : Option (List ℕ) → List ℕ
 entry_text None = replicate 9 0
 entry_text (Some sum) = 1 ∷ sum
 
--- the part of the encoding before its digest: the magic, the chip's ID and unique ID, and the entries
 unfoldable pub sums_body : (id unique : List ℕ) → (entries : List (Option (List ℕ))) → List ℕ
 sums_body id unique entries = codes "NORSUMS1" ++ id ++ unique ++ flat_map entry_text entries
 

@@ -16,8 +16,8 @@ fn clear_bits(bytes: &mut [u8], from: usize, sent: &[u8])
     }
 }
 
-// Programs the bytes of `sent` into one page. The first byte is for index `at`, and after the last byte of the page
-// comes its first one. Only the last byte sent for each index counts.
+// Programs the bytes of `sent` into one page. Only the last byte sent for each index counts, so all but the last 256
+// bytes are skipped.
 pub(crate) fn program(bytes: &mut [u8], at: usize, sent: &[u8])
     requires { at / 256 * 256 + 256 ≤ length bytes.old }
     ensures { HasPageProgrammed at sent.now bytes.old bytes.new }
@@ -38,7 +38,6 @@ pub(crate) fn fill(bytes: &mut [u8], start: usize, len: usize, byte: u8)
     bytes[start..start + len].fill(byte);
 }
 
-// Fills `reply` with the items of `bytes` from index `at` on. After the last item, the read continues at index 0.
 pub(crate) fn read_round(bytes: &[u8], at: usize, reply: &mut [u8])
     requires { at < length bytes.now }
     ensures { (i : ℕ) → i < length reply.new
@@ -54,7 +53,6 @@ pub(crate) fn read_round(bytes: &[u8], at: usize, reply: &mut [u8])
     }
 }
 
-// Fills `reply` with the items of `bytes` from index `at` on. Past the end of `bytes` every byte reads as FFh.
 pub(crate) fn read_padded(bytes: &[u8], at: usize, reply: &mut [u8])
     ensures { (i : ℕ) → i < length reply.new → slice_index reply.new i ≡ slice_index_or bytes.now (at + i) 255 }
 {

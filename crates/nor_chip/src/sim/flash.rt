@@ -83,7 +83,6 @@ impl Flash {
         }
     }
 
-    // Returns the command that the chip carries out for a transaction, or `Ignored` for none.
     pub(crate) fn command(&self, out: &[u8], replies: usize) -> Command
         ensures done { result ≡ done_of (chip_of self.now) out.now replies }
         ensures targeted { HasValidAddress self.now.config.size result }
@@ -111,7 +110,6 @@ impl Flash {
         }
     }
 
-    // Begins an operation: the next `each` polls show BUSY. If `each` is 0, the operation ends at once.
     fn begin(&mut self, running: Running)
         requires { RunsInside self.old.config.size running }
         ensures begins { Begins running self.old.each (chip_of self.old) (chip_of self.new) }
@@ -122,7 +120,6 @@ impl Flash {
         self.latch = self.each != 0;
     }
 
-    // Counts a poll. The poll that shows the last BUSY also clears the write enable latch.
     fn tick(&mut self)
         ensures does { Does Command.Poll [] (chip_of self.old) [] (chip_of self.new) }
         ensures paces { Paces Command.Poll self.old self.new }
@@ -177,7 +174,6 @@ impl Flash {
         }
     }
 
-    // Makes the chip lose its power, which interrupts the operation in progress.
     pub(crate) fn lose_power(&mut self, fill: u8)
         ensures cut { PowerLostWith fill (chip_of self.old) (chip_of self.new) }
         ensures pace { self.new.each ≡ self.old.each }
@@ -189,8 +185,6 @@ impl Flash {
         self.busy = 0;
     }
 
-    // Changes bytes and status bits as a power failure during the operation in progress does. If the operation is
-    // unknown, they stay as they were.
     fn cut(&mut self, fill: u8)
         ensures cut { CutsOff fill (chip_of self.old) (chip_of self.new) }
         ensures pace { self.new.each ≡ self.old.each }
@@ -211,7 +205,6 @@ impl Flash {
         }
     }
 
-    // Performs one transaction, and returns the command that the chip carried out.
     pub(crate) fn step(&mut self, out: &[u8], reply: &mut [u8]) -> Command
         ensures steps { Step (chip_of self.old) out.now reply.new (chip_of self.new) }
         ensures done { result ≡ done_of (chip_of self.old) out.now (length reply.new) }

@@ -3,8 +3,6 @@ use Rattle.nor_plan.specs.SectorSet.{has}
 use Rattle.nor_apply.proofs.ErasingExits.{ErasesSoFar}
 use Rattle.nor_apply.proofs.erases.erase_all.Given as goal
 
--- The invariant of the loop: the planned erases that the iterator has yielded succeeded, and the iterator still has the
--- others.
 abbrev pub invariant-loop-unit : goal.invariant-loop-unit
 invariant-loop-unit g l =
     ErasesSoFar l.fn.kinds l.fn.size (has l.fn.raised) l.yielded (erases_left l.unit-iterator)

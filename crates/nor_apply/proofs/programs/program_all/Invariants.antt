@@ -2,7 +2,6 @@ use Rattle.nor_plan.specs.SectorSet.{has}
 use Rattle.nor_apply.proofs.ProgrammingWhole.{SectorsSoFar}
 use Rattle.nor_apply.proofs.programs.program_all.Given as goal
 
--- The invariant of the loop: the touched sectors below `sector` were programmed.
 abbrev pub invariant-loop-sector : goal.invariant-loop-sector
 invariant-loop-sector g l =
     SectorsSoFar (has l.fn.touched) (has l.fn.raised) (g.S.Source.wanted l.fn.source) l.sector

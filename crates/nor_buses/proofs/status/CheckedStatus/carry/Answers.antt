@@ -4,7 +4,6 @@ use Rattle.nor_buses.proofs.ReadsKeep.{stops_at, on_err}
 use Rattle.nor_buses.proofs.Polls.{made_as}
 use Rattle.nor_buses.proofs.status.CheckedStatus.carry.Goals as goal
 
--- If `P` holds, `OnOk r P` holds for every result `r`.
 on_ok : {T E : Type 0} (r : Result T E) (P : Type 0) → P → OnOk r P
 on_ok (Ok done) P holds = holds
 on_ok (Err stop) P holds = tt

@@ -1,6 +1,5 @@
 use Rattle.nor_chip.proofs.Page.{ClearsFrom}
 use Rattle.nor_chip.proofs.sim.cells.clear_bits.Given as goal
 
--- The bytes of `sent` with an index below `l.i` were ANDed in.
 abbrev pub invariant-loop-i : goal.invariant-loop-i
 invariant-loop-i l = ClearsFrom l.from l.i l.sent l.fn.bytes l.bytes

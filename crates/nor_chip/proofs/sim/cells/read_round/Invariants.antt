@@ -1,7 +1,6 @@
 use Rattle.std.proofs.Common.{◌≡◌, ℕ, ◌+◌, ◌-◌, ◌%◌, ◌<◌, ◌≤◌, length, slice_index, List}
 use Rattle.nor_chip.proofs.sim.cells.read_round.Given as goal
 
--- Holds if the first `done` bytes of `reply` were read, with index 0 after the last one, and `from` is the next index.
 pub record IsReadTo (at from done : ℕ) (bytes reply : List ℕ) : Type 0 where
   pub read : (i : ℕ) → i < done → slice_index reply i ≡ slice_index bytes ((at + i) % length bytes)
   pub within : done ≤ length reply

@@ -3,7 +3,6 @@ use Rattle.nor_model.specs.declared.guard.walk.Offered.{Offered}
 use Rattle.nor_model.specs.Offer.{IsLeastCode}
 use Rattle.nor_model.proofs.guard.walk.OfferedIterator.next.Given as goal
 
--- Holds if no code from the iterator's position up to `code - 1` is the least code of a range.
 pub record IsPassed (first now : Offered) (code : ℕ) : Type 0 where
   pub same : now ≡ first
   pub none : (other start len : ℕ) → first.next ≤ other → other < code → ¬ IsLeastCode first.size start len other
