@@ -14,7 +14,6 @@ request_named word =
     else if bytes_eq word (codes "answers") then Answers
     else Unknown
 
--- the job that the arguments select: the usage without an argument, and `Unknown` for several arguments
 abbrev pub request_of : List (List ℕ) → Request
 request_of [] = Usage
 request_of (word ∷ []) = request_named word

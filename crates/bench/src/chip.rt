@@ -93,7 +93,6 @@ fn erased_bytes(alloc: Global) -> Result<Vec<u8>, AllocError>
     vec![in alloc; 0xFF; CHIP]
 }
 
-// Returns a bus that shows BUSY in one poll after each operation, and has more transactions left than are needed.
 fn open_bus(alloc: Global) -> Result<SimBus, Fault> {
     let delays = Delays { now: 0, each: 1 };
     let bytes = erased_bytes(alloc)?;

@@ -12,15 +12,11 @@ use std::io;
 pub enum Fault {
     /// The arguments or the clock can't be read, or a line can't be printed.
     System(io::Error),
-    /// Memory can't be allocated.
     Memory,
     /// The simulated chip can't be created, its bus stopped, or a wait for the chip timed out.
     Chip,
-    /// The journal can't be written.
     Vault(VaultFault),
-    /// The bytes that were read are no valid journal.
     Journal(JournalFault),
-    /// A session, a restore or a reading returned an error.
     Refused(Refusal),
 }
 

@@ -51,7 +51,6 @@ pub fn answer<R: Print + AllocGlobal>(rt: &R) -> Result<(), Fault> {
     Ok(())
 }
 
-// Writes the journal of a chip whose bytes are all 5Ah.
 fn write<V: Vault>(vault: &mut V) -> Result<(), VaultFault>
     requires { IsFresh (V.state vault.old) }
     ensures { OnOk result ((V.state vault.new).sealed ≡ true) }

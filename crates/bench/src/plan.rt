@@ -7,7 +7,6 @@ use nor_plan::{bounds, differs};
 use std::alloc::{AllocError, Global};
 use std::rt::Clock;
 
-/// The number of comparisons that are timed together.
 const PASSES: u32 = 1000;
 
 const DIFFERS: Measurement = Measurement {

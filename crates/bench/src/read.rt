@@ -8,7 +8,6 @@ use nor_read::{read_out, verify};
 use std::alloc::{AllocError, Global};
 use std::rt::Clock;
 
-/// The size of the chip in bytes.
 const CHIP: usize = 16777216;
 
 const READING: Measurement = Measurement {
@@ -69,7 +68,6 @@ fn bytes(alloc: Global) -> Result<Vec<u8>, AllocError> {
     vec![in alloc; 0x5A; CHIP]
 }
 
-// Returns a bus with more transactions left than are needed.
 fn open_bus(alloc: Global) -> Result<SimBus, Fault> {
     let delays = Delays { now: 0, each: 0 };
     let mut bus = SimBus::new(Config::w25q128fv(), bytes(alloc)?, [0, 0], delays)?;
@@ -103,7 +101,6 @@ impl Work for Verifying<'_> {
     }
 }
 
-/// The reference, which copies the image into newly allocated memory.
 #[derive(Drop)]
 pub struct Copies<'a> {
     pub alloc: Global,

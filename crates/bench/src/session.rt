@@ -11,7 +11,6 @@ use sha2::{Digest, Sha256};
 use std::alloc::Global;
 use std::rt::Clock;
 
-/// The size of the chip in bytes.
 const CHIP: usize = 16_777_216;
 
 const WRITE: Request = Request {
@@ -99,7 +98,6 @@ fn scattered(alloc: Global) -> Result<Vec<u8>, Fault> {
     Ok(bytes)
 }
 
-// Returns a bus with more transactions left than are needed.
 fn chip_of(bytes: Vec<u8>) -> Result<SimBus, Fault> {
     let idle = Delays { now: 0, each: 0 };
     let mut bus = SimBus::new(Config::w25q128fv(), bytes, [0x00, 0x00], idle)?;
@@ -126,7 +124,6 @@ fn write(alloc: Global, bus: &mut SimBus, image: &[u8]) -> Result<u64, Fault> {
     Ok(session(bus, &mut vault, copy.as_mut_slice(), &WRITE)?.transactions)
 }
 
-// Erases the chip, and then writes a whole image in a session.
 #[derive(Drop)]
 struct Writing {
     alloc: Global,
@@ -145,7 +142,6 @@ impl Work for Writing {
     }
 }
 
-// Erases the chip, reads a journal of all its sectors, and restores the chip from it.
 #[derive(Drop)]
 struct Restoring<'a> {
     bus: SimBus,

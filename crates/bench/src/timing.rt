@@ -6,13 +6,13 @@ use std::fmt;
 use std::rt::Clock;
 use std::time::{Duration, Instant};
 
-/// A piece of work that is timed.
 pub trait Work {
     /// Does the work once. The compiler can't remove the work, because the result depends on it.
     fn run(&mut self) -> Result<u64, Fault>;
 }
 
-/// Returns the sum of `sum` and the byte that it selects, modulo 2^64, so the compiler can't omit the other bytes.
+/// Returns `sum` plus the byte that `sum` selects, modulo 2^64. The compiler can't know which byte this is, so it can't
+/// omit the other bytes.
 pub fn look_at(bytes: &[u8; SECTOR_LEN as usize], sum: u64) -> u64 {
     sum.wrapping_add(u64::from(bytes[(sum % u64::from(SECTOR_LEN)) as usize]))
 }

@@ -16,7 +16,8 @@ are_blank bytes = list_all (λ byte. nat_eq byte 255) bytes
 abbrev pub is_blank : SavedSector → Bool
 is_blank sector = are_blank sector.bytes
 
--- Holds for the first address of the first and the last address of the last saved sector, or `None` without one.
+-- Holds for the first address of the first saved sector and the last address of the last one, or `None` without a saved
+-- sector.
 abbrev pub AreEnds : List SavedSector → Option (ℕ × ℕ) → Type 0
 AreEnds saved None = saved ≡ []
 AreEnds saved (Some ends) =
@@ -32,7 +33,7 @@ pub record Describes (journal : Content) (described : Description) : Type 0 wher
   pub ends : AreEnds journal.saved described.ends
   pub blank : described.blank ≡ count_by is_blank journal.saved
 
--- Holds if this file is the encoding of `journal`, so it is sealed and undamaged, or isn't known (`IsKnownFile`).
+-- Holds if a read of this file returns the encoding of `journal`, which is then sealed and undamaged.
 pub record IsSealed (view : View) (name : Text) (journal : Content) : Type 0 where
   pub sound : IsContent journal
   pub read : IsRead view name 16793662 (text journal)

@@ -27,7 +27,8 @@ pub record IsCopied (bytes : List ℕ) (view : View) (region : RegionFile) : Typ
   pub inside : region.span.last < length bytes
   pub same : is_lawful view ≡ true → view.seen region.file.now ≡ Some (part_at region.span bytes)
 
--- Holds if the file of each region has the bytes that the file `out` has at the region's addresses.
+-- Holds if each region's file has the bytes that the file `out` has at the region's addresses, if the files obey their
+-- contract.
 abbrev pub AreCopiedFrom : (out : Text) → List RegionFile → View → Type 0
 AreCopiedFrom out [] view = ⊤
 AreCopiedFrom out (first ∷ rest) view = (bytes : List ℕ) × IsRead view out 16777217 bytes
@@ -37,7 +38,6 @@ abbrev pub reads_out : (backup : Bool) → Task → Bool
 reads_out false (task.Read file regions) = true
 reads_out _ _ = false
 
--- Holds for the files of regions after a job. Only a read copies bytes into them.
 abbrev pub AreCopiedBy : (backup : Bool) → Task → List RegionFile → View → Type 0
 AreCopiedBy false (task.Read out regions) files view = AreCopiedFrom out.now files view
 AreCopiedBy _ _ files view = ⊤
@@ -45,7 +45,7 @@ AreCopiedBy _ _ files view = ⊤
 abbrev pub AreCopied : Operation → List RegionFile → View → Type 0
 AreCopied operation files view = AreCopiedBy operation.is_backup operation.task files view
 
--- Holds if the file of a read is as it was. Nothing is claimed about the files of another task.
+-- Holds if the file of a read is as it was, if the files obey their contract. Claims nothing for another task.
 abbrev pub KeepsOutput : Task → (old new : FilesState) → Type 0
 KeepsOutput (task.Read out regions) old new = is_lawful old.view ≡ true → KeepsFile out.now old new
 KeepsOutput _ old new = ⊤
@@ -56,8 +56,8 @@ abbrev pub part_if_inside : Span → List ℕ → Option (List ℕ)
 part_if_inside span bytes = if nat_le span.first (span.last + 1) && nat_le (span.last + 1) (length bytes)
     then Some (part_at span bytes) else None
 
--- Holds for file fault 2 of a file that could not be written. It has a prefix of `bytes` (if files obey their
--- contract).
+-- Holds for file fault 2 of a file that could not be written. If the files obey their contract, the file has a prefix
+-- of `bytes`.
 pub record IsWrittenPartly (name : Bor Text) (bytes : List ℕ) (after : View) (fault : Fault) : Type 0 where
   pub is : IsUnmadeFault name.now fault
   pub has : is_lawful after ≡ true → (kept : ℕ) × (after.seen name.now ≡ Some (take kept bytes))
@@ -70,7 +70,6 @@ pub record EndsInRegion (out : Bor Text) (region : RegionFile) (bytes : List ℕ
   pub is : fault ≡ end.File file.Read out causes.Unknown
   pub ends : region.span.first ≤ region.span.last + 1 → length bytes < region.span.last + 1
 
--- Holds if copying a region of the file `out`, whose bytes are `bytes`, into the region's file failed with this fault.
 abbrev pub FailsToCopyRegion : (out : Bor Text) → (log : Option (Bor Text)) → (bytes : List ℕ) → RegionFile
     → (before after : View) → Fault → Type 0
 FailsToCopyRegion out log bytes region before after fault = EndsInRegion out region bytes fault
@@ -84,7 +83,6 @@ FailsAfterRead out log files before after fault = (bytes : List ℕ) × IsRead b
     × (Any (λ region. FailsToCopyRegion out log bytes region before after fault) files
     ⊎ FailsDistinct before.nature files fault)
 
--- Holds if copying the regions of the file `out` into their files failed with this fault.
 abbrev pub FailsToCopy : (out : Bor Text) → (log : Option (Bor Text)) → List RegionFile → (before after : View)
     → Fault → Type 0
 FailsToCopy out log files before after fault =

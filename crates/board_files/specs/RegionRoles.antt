@@ -36,7 +36,6 @@ abbrev pub erases : Task → Bool
 erases (task.Change change) = is_erase change.wanted
 erases _ = false
 
--- Holds if no file of a region has an empty name, and an erase has no such file.
 pub record AreNamed (job : Task) (files : List RegionFile) : Type 0 where
   pub unerased : erases job ≡ true → files ≡ []
   pub named : All (λ region. ¬ region.file.now ≡ []) files
@@ -75,25 +74,23 @@ pub record HaveFileRoles (nature : Nature) (device : Bor Text) (job : Task) (log
   pub each : All (λ region. HasOneRole nature device log (named_by job) region.file) files
   pub distinct : AreDistinctIf nature (named_by job).output files
 
--- Holds if the check of a region's file that a read will write may fail with this fault.
 abbrev pub FailsWrittenRole : Nature → (output layout : Option (Bor Text)) → Bor Text → Fault → Type 0
 FailsWrittenRole nature None layout of fault = ⊥
 FailsWrittenRole nature (Some output) layout of fault = FailsApart nature layout (Some of) fault
     ⊎ (FailsApart nature (Some output) (Some of) fault ⊎ FailsUnprinted nature (Some of) fault)
 
--- Holds if the check of the role of a region's file may fail with this fault.
 abbrev pub FailsFileRole : Nature → Bor Text → (log : Option (Bor Text)) → Named → Bor Text → Fault → Type 0
 FailsFileRole nature device log named of fault = FailsApart nature (Some device) (Some of) fault
     ⊎ (FailsApart nature log (Some of) fault
     ⊎ (FailsApart nature named.journal (Some of) fault ⊎ FailsWrittenRole nature named.output named.layout of fault))
 
--- Holds if `R` holds for an element and a later one, while `AllPairs` holds if `R` holds for all such pairs.
+-- Holds if `R` holds for some element and a later one.
 abbrev pub AnyPair : {X : Type 0} → (X → X → Type 0) → List X → Type 0
 AnyPair {X} R xs = (i : ℕ) × (j : ℕ) × (any : X) × (i < j) × (j < length xs)
     × R (slice_index_or xs i any) (slice_index_or xs j any)
 
 -- Holds if comparing the files of two regions may fail with this fault: file fault 5 with the name of the later file,
--- if the files may be one, or file fault 1 of a file that can't be looked up.
+-- or file fault 1 if a name can't be looked up.
 abbrev pub FailsDistinct : Nature → List RegionFile → Fault → Type 0
 FailsDistinct nature files fault =
     AnyPair (λ earlier later. FailsApart nature (Some earlier.file) (Some later.file) fault) files
@@ -109,7 +106,7 @@ FailsRegionRoles nature device job log files fault =
 
 -- ---- the output
 
--- Holds if the regions' bytes can't be read back from the output, because it is a FIFO or a device.
+-- Holds if the fault is that the regions' bytes can't be read back from the output, because it is a FIFO or a device.
 abbrev pub IsNotReadBack : Nature → (output : Option (Bor Text)) → List RegionFile → RegionFault → Type 0
 IsNotReadBack nature (Some output) files (wrong.NotReadBack name) =
     (name ≡ output) × (¬ files ≡ []) × (nature.fails (Unread output.now) ≡ true)
@@ -136,7 +133,6 @@ FailsOldFiles view _ files fault = ⊥
 
 -- ---- all checks
 
--- Holds if the checks of the regions' files may fail with this fault.
 abbrev pub FailsRegionFiles : View → Bor Text → Task → (log : Option (Bor Text)) → List RegionFile → EarlyEnd → Type 0
 FailsRegionFiles view device job log files (early.Region fault) =
     FailsNames job files fault ⊎ IsNotReadBack view.nature (named_by job).output files fault

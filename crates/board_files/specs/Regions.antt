@@ -51,7 +51,7 @@ with_names names regions = record { layout = regions.layout; form = regions.form
 
 -- ---- the addresses of the regions
 
--- Holds if `span` has the addresses of this region; `shown` are the bytes of a layout on the chip.
+-- Holds if `span` has the addresses of this region. `shown` has the bytes of a layout on the chip.
 abbrev pub IsSpanOf : View → (shown : Option (List ℕ)) → Regions → Bor Text → Span → Type 0
 IsSpanOf view shown regions name span = AreRangesOf view shown (Some (with_names name regions)) (Some (span ∷ []))
 
@@ -113,7 +113,6 @@ pub record EndsBefore (region : RegionFile) (image : Bor Text) (len : ℕ) (name
   pub region_named : of ≡ region.name
   pub ends : region.span.first ≤ region.span.last + 1 → len < region.span.last + 1
 
--- Holds if replacing the bytes of a region in an image of `len` bytes may fail with this fault.
 abbrev pub FailsToReplaceOne : View → Bor Text → RegionFile → (len : ℕ) → EarlyEnd → Type 0
 FailsToReplaceOne view image region len (early.Fault fault) = IsReadingFault view region.file.now 16777217 fault
 FailsToReplaceOne view image region len (early.Region (wrong.Length name found wanted)) =

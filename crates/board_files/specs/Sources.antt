@@ -53,14 +53,13 @@ FailsFiles nature job fault = FailsApart nature (named_by job).layout (named_by 
     ⊎ (FailsApart nature (named_by job).layout (named_by job).journal fault
     ⊎ FailsApart nature (named_by job).wanted (named_by job).journal fault)
 
--- Holds if the check of the roles may fail with this fault, which compares the job's files and what the program prints
--- to.
+-- Holds if a check of the roles may fail with this fault. The checks compare the job's files with each other, with the
+-- device and with what the program prints to.
 abbrev pub FailsRoles : Nature → Bor Text → Task → Fault → Type 0
 FailsRoles nature device job fault = FailsDevice nature device job fault
     ⊎ (FailsFiles nature job fault
     ⊎ (FailsUnprinted nature (named_by job).output fault ⊎ FailsUnprinted nature (named_by job).journal fault))
 
--- Holds if the name of the log is apart from the device and from each file of the job.
 pub record HasOwnLog (nature : Nature) (device : Bor Text) (job : Task) (log : Option (Bor Text)) : Type 0 where
   pub device_log : AreTwo nature (Some device) log
   pub layout_log : AreTwo nature (named_by job).layout log
@@ -81,14 +80,14 @@ abbrev pub IsThere : View → JournalUse → Fault → Type 0
 IsThere view (uses.Journal name) (end.File file.Exists of cause) = (of.now ≡ name.now) × Happens view (There name.now)
 IsThere view _ fault = ⊥
 
--- Holds if a change's journal exists already, or a restore's journal is invalid.
+-- Holds for the fault of a change whose journal exists already, or of a restore whose journal is invalid.
 abbrev pub FailsCheck : View → Task → Fault → Type 0
 FailsCheck view (task.Change change) fault = IsThere view change.journal_use fault
 FailsCheck view (task.Restore journal) fault = IsInvalid view journal.now fault
 FailsCheck view _ fault = ⊥
 
--- Holds if `bytes` were read of the job's image or journal: at most one byte more than the largest chip or the longest
--- journal has. A comparison may have a journal in place of an image.
+-- Holds if `bytes` were read from the job's image or journal: at most one byte more than the longest journal has or,
+-- for a write, than the largest chip. A comparison may use a journal in place of an image.
 abbrev pub AreBytes : View → Task → List ℕ → Type 0
 AreBytes view (task.Verify file regions) bytes = IsRead view file.now 16793662 bytes
 AreBytes view (task.Change change) bytes = IsImage view change.wanted bytes
@@ -105,14 +104,14 @@ abbrev pub AreReplacedIn : View → (image : Option (Bor Text)) → List RegionF
 AreReplacedIn view None files old new = new ≡ old
 AreReplacedIn view (Some image) files old new = AreReplaced view files old new
 
--- Holds if `whole` are the bytes that the job uses in place of those of its image or journal.
+-- Holds if `whole` has the bytes of the image or journal, adapted to the job.
 pub record AreUsed (view : View) (replaced : Bool) (job : Task) (whole : List ℕ) : Type 0 where
   pub found : List ℕ
   pub read : AreBytes view job found
   pub adapted : AreAdapted replaced job found whole
 
--- Holds if `bytes` are those that the job uses, with the bytes of regions that have a file. `is_replaced` is true with
--- `--replaced-chip`.
+-- Holds if `bytes` are those that the job uses: the adapted bytes, in which each region with a file has the bytes of
+-- this file. `is_replaced` is true with `--replaced-chip`.
 pub record ArePreparedBytes (view : View) (is_replaced : Bool) (job : Task) (files : List RegionFile)
     (bytes : List ℕ) : Type 0 where
   pub whole : List ℕ
@@ -133,7 +132,6 @@ abbrev pub FailsToReadOrCheck : View → Task → EarlyEnd → Type 0
 FailsToReadOrCheck view job (early.Fault fault) = FailsToReadBytes view job fault ⊎ FailsCheck view job fault
 FailsToReadOrCheck view job fault = ⊥
 
--- Holds if reading, checking and adapting the files of a task may fail with this fault.
 abbrev pub FailsToPrepare : View → (replaced : Bool) → Task → List RegionFile → EarlyEnd → Type 0
 FailsToPrepare view replaced job files fault = FailsToReadOrCheck view job fault
     ⊎ (FailsToUse view replaced job fault ⊎ FailsToReplaceIn view replaced (named_by job).wanted job files fault)
@@ -147,7 +145,8 @@ ArePlainNames (Some regions) names = names ≡ names_in regions.names.now
 abbrev pub named_regions : Bor Text → Task → Option Regions
 named_regions names job = option_map (with_names names) (regions_of job)
 
--- Holds for the addresses of the job's regions, and the regions with a file; `shown` has a layout on the chip.
+-- Holds for the addresses of the job's regions and for the regions with a file. `shown` has the bytes of a layout on
+-- the chip.
 pub record AreJobRegions (view : View) (shown : Option (List ℕ)) (job : Task) (files : List RegionFile)
     (ranges : Option (List Span)) : Type 0 where
   pub names : Bor Text
@@ -161,13 +160,13 @@ abbrev pub writes_image : Wanted → Bool
 writes_image (wanted.Write image) = true
 writes_image _ = false
 
--- true for `-v`, and for `-w` without `-n` and `-N`: the job ends with a comparison of the chip with an image
+-- true if the job ends with a comparison of the chip with an image: for `-v`, and for `-w` without `-n` and `-N`
 abbrev pub ends_with_image : Operation → Task → Bool
 ends_with_image operation (task.Verify file regions) = true
 ends_with_image operation (task.Change change) = is_compared operation change && writes_image change.wanted
 ends_with_image operation _ = false
 
--- Holds if the bus expects no image, or the job ends with its image. So `-r`, `--backup` and `--restore` read twice.
+-- Holds if the bus expects no image, or expects the image with which the job ends.
 abbrev pub MayExpectImage : Operation → (bytes : List ℕ) → Option (List ℕ) → Type 0
 MayExpectImage operation bytes None = ⊤
 MayExpectImage operation bytes (Some image) = (ends_with_image operation operation.task ≡ true) × (image ≡ bytes)

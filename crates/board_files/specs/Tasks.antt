@@ -9,6 +9,6 @@ abbrev pub changes_bytes : Wanted → Bool
 changes_bytes (wanted.Range start len) = false
 changes_bytes _ = true
 
--- true for a write or an erase without `-n` and `-N`: the whole chip is compared after it
+-- true if the whole chip is compared after a change: for a write or an erase without `-n` and `-N`
 abbrev pub is_compared : Operation → Change → Bool
 is_compared operation change = changes_bytes change.wanted && (change.verify && operation.verifies_all)

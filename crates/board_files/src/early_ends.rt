@@ -12,7 +12,7 @@ use std::fmt;
 pub enum EarlyEnd<'a> {
     /// A fault that `flashnor` reports too.
     Fault(Fault<'a>),
-    /// A region of `-i` with a file, or this file, can't be used.
+    /// A region of `-i` that has a file of its own, or this file, can't be used.
     Region(RegionFault<'a>),
     /// The journal doesn't save the whole chip.
     NotWhole(NotWhole<'a>),

@@ -31,7 +31,6 @@ pub fn status_of<E: Write>(printed: io::Result<()>, errors: &mut E) -> u8
     }
 }
 
-// Prints what to do about a file that can't be written for this reason, if the reason is known.
 fn print_reason<E: Write>(errors: &mut E, reason: SystemReason) {
     if !matches!(reason, SystemReason::Other) {
         let _ = writeln!(errors, "{}", reason_hint(reason));

@@ -15,9 +15,10 @@ use nor_jobs::journal_in;
 use std::io;
 use std::io::Write;
 
-/// Creates or truncates the file `image`, but no journal, and writes the image in the journal `name` into it, without a
-/// sync. Prints the description of the journal to `output`, or to `errors` why there is no image. Returns exit status 0
-/// if the journal is sound and whole, and all was written and printed.
+/// Writes the image in the journal `name` into the file `image`, which is created or truncated, without a sync. Prints
+/// the description of the journal to `output`, or the reason for a failure to `errors`. Returns exit status 0 if the
+/// journal is valid and saves the whole chip, and everything was written and printed. In the real file system, a file
+/// `image` that is a journal stays as it is.
 pub fn extract_image<R: Store, O: Write, E: Write>(
     files: &mut R,
     name: &str,
@@ -46,8 +47,6 @@ pub fn extract_image<R: Store, O: Write, E: Write>(
     }
 }
 
-// Returns file fault 5 if both names are of one file, or the program prints to `image`; `NotWhole` if a sector isn't
-// saved; error 15 if the file is no journal; or a fault of `read_journal` or `write_file`.
 #[tactic(auto, using(crate::proofs::Extracted::others_after, crate::proofs::Extracted::others_same))]
 fn extract<'a, R: Store>(
     files: &mut R,

@@ -15,11 +15,8 @@ use std::fmt;
 /// The fault of a journal that doesn't save every sector of its chip.
 #[derive(Clone, Copy, Drop)]
 pub struct NotWhole<'a> {
-    /// The name of the file with the journal.
     pub name: &'a str,
-    /// The number of saved sectors.
     pub saved: usize,
-    /// The number of sectors of the chip.
     pub sectors: u32,
 }
 
@@ -39,7 +36,7 @@ impl fmt::Display for NotWhole<'_> {
     }
 }
 
-/// Checks that the journal in the file of this name saves every sector of its chip.
+/// Checks that the journal in the file of this name saves every sector of its chip. Returns `NotWhole` if it doesn't.
 pub fn check_whole<'a>(name: &'a str, journal: &Journal<'_>) -> Result<(), NotWhole<'a>>
     ensures ok { OnOk result (IsWhole journal.now) }
     ensures err { IfErr result (IsNotWholeIn journal.now name.entry) }
@@ -58,7 +55,7 @@ pub fn check_whole<'a>(name: &'a str, journal: &Journal<'_>) -> Result<(), NotWh
     Ok(())
 }
 
-/// Returns the number of sectors of a chip of the journal's size.
+/// Returns the number of sectors of the journal's chip.
 pub fn sectors_of(journal: &Journal<'_>) -> u32
     ensures value { result ≡ journal.now.size / 4096 }
     ensures few { result ≤ 4096 }
@@ -95,8 +92,8 @@ fn join_sectors(alloc: Global, journal: &Journal<'_>) -> Result<Vec<u8>, AllocEr
     Ok(image)
 }
 
-/// Returns the image in `bytes` from the file of this name: `bytes` or, if they begin as a journal, the image in it.
-/// Then returns error 15 if they are no journal, `NotWhole` if a sector isn't saved, and error 18 if memory runs out.
+/// Returns `bytes`, read from the file of this name, or the image in them if they begin as a journal. For a journal,
+/// returns error 15 if it is invalid, `NotWhole` if a sector isn't saved, and error 18 if memory runs out.
 pub fn unpacked<'a>(alloc: Global, name: &'a str, bytes: Vec<u8>) -> Result<Vec<u8>, EarlyEnd<'a>>
     ensures ok { IfOk result (λ image. IsUnpacked bytes.items image.items) }
     ensures err { IfErr result (FailsToUnpack bytes.items name.entry) }

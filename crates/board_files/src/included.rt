@@ -24,8 +24,8 @@ pub struct Included<'a> {
     pub farthest: Option<Farthest<'a>>,
 }
 
-/// Returns the addresses of the named regions. `shown` are the bytes of a layout on the chip. Returns the faults of
-/// `read_layout`; the fault of a name that is no region lists the regions of the layout.
+/// Returns the addresses of the named regions. `shown` has the bytes of a layout on the chip. Returns the faults of
+/// `read_layout`, and `NoRegion`, which lists the regions of the layout, for a name that is none of them.
 pub fn find_included<'a, R: Store>(
     rt: &R,
     regions: Option<Regions<'a>>,
@@ -54,7 +54,6 @@ pub fn find_included<'a, R: Store>(
     }
 }
 
-// Returns the region that has the greatest address among those with the comma-separated `names`.
 fn farthest_of<'a>(regions: &[Region], names: &'a str) -> Option<Farthest<'a>> {
     let mut farthest: Option<Farthest<'a>> = None;
     for name in names.split(',') {

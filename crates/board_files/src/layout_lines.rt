@@ -12,9 +12,7 @@ use std::str::from_utf8;
 #[derive(Clone, Copy, Drop)]
 pub struct MapLines {
     fault: MapFault,
-    // `FMAP` or `flash descriptor`.
     table: &'static str,
-    // `on the chip` or `in the file`.
     place: &'static str,
 }
 

@@ -2,7 +2,8 @@
 use std::fmt;
 
 /// The name of a file as one argument for every POSIX shell: unchanged if it has only ASCII letters, digits and
-/// `./_-+,=`, otherwise in single quotes. A name that begins with `-` gets `./`, since it would be an option.
+/// `./_-+,=`, otherwise in single quotes. A name that begins with `-` gets the prefix `./`, because a command would
+/// take it for an option.
 #[derive(Clone, Copy, Drop)]
 pub struct Quoted<'a>(&'a str);
 

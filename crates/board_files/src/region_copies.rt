@@ -16,7 +16,7 @@ use nor_journal::Vault;
 use nor_layout::Span;
 use std::io::ErrorKind;
 
-/// True for a read that isn't a backup: only such a read writes the files of regions.
+/// Returns whether the operation is a read that isn't a backup, the only one that writes the files of regions.
 pub fn reads_out(operation: &Operation<'_>) -> bool
     ensures { result ≡ reads_out operation.now.is_backup operation.now.task }
 {
@@ -51,8 +51,6 @@ pub fn write_region_files<'a, R: Store>(
     }
 }
 
-// Copies the bytes of the file `out` at the addresses of each region into the region's file. Returns the faults of
-// `write_region_files`.
 fn copy_regions<'a, R: Store>(
     rt: &mut R,
     out: &'a str,
@@ -80,7 +78,6 @@ fn copy_regions<'a, R: Store>(
     Ok(())
 }
 
-// Returns the bytes at these addresses, or `None` if the bytes end before.
 fn part_in(bytes: &[u8], span: Span) -> Option<&[u8]>
     ensures { option_map (λ part. part.now) result ≡ part_if_inside span bytes.now }
 {
@@ -111,7 +108,6 @@ pub fn write_file<'a, R: Store>(rt: &mut R, name: &'a str, bytes: &[u8]) -> Resu
     }
 }
 
-// Returns why the file that was written last could not be written.
 fn unwritten_cause<R: Store>(rt: &R) -> Cause {
     match unwritten_by(rt) {
         Some(reason) => Cause::System(reason),

@@ -4,7 +4,7 @@ use nor_args::UsageFault;
 use nor_console::{Escaped, FileFault};
 use std::fmt;
 
-/// A fault of a region that has a file of its own, or of this file.
+/// A fault of a region that has a file of its own, or of its file.
 #[derive(Clone, Copy, Drop)]
 pub enum RegionFault<'a> {
     /// Usage fault 7: an erase has a region with a file.
@@ -32,8 +32,7 @@ pub enum RegionFault<'a> {
     },
 }
 
-// Prints the numbered line of the fault. A line that says what is wrong precedes that of a usage fault, and follows
-// that of a file fault.
+// For a usage fault, a line that says what is wrong precedes the numbered line. For a file fault, it follows.
 impl fmt::Display for RegionFault<'_> {
     fn fmt<W: fmt::Write>(&self, f: &mut fmt::Formatter<W>) -> fmt::Result {
         match *self {

@@ -1,4 +1,4 @@
-//! The regions of `-i` that have a file of their own (`NAME:FILE`): finds them, and replaces the bytes of an image by
+//! The regions of `-i` that have a file of their own (`NAME:FILE`): finds them, and replaces bytes of an image with
 //! those of their files.
 ghost use Rattle.std.specs.Prelude.{◌≡◌, IfErr, IfOk, OnOk, Some, length, map, option_map, string_bytes};
 ghost use Rattle.board_files.specs.Regions.{AreFilesIn, AreFilesOf, AreReplaced, FailsToFindFiles};
@@ -20,11 +20,8 @@ use std::alloc::{AllocError, Global};
 /// A region of `-i` that has a file of its own.
 #[derive(Clone, Copy, Drop)]
 pub struct RegionFile<'a> {
-    /// The name of the region.
     pub name: &'a str,
-    /// The name of its file.
     pub file: &'a str,
-    /// The addresses of the region.
     pub span: Span,
 }
 
@@ -60,7 +57,6 @@ pub fn plain_names(alloc: Global, task: &Task<'_>) -> Result<String, AllocError>
     }
 }
 
-// Returns the names of the regions in the value `text` of `-i`, without their files, separated by commas.
 fn names_in(alloc: Global, text: &str) -> Result<String, AllocError>
     ensures { IfOk result (λ names. string_bytes names ≡ names_in text.now) }
 {
@@ -72,14 +68,12 @@ fn names_in(alloc: Global, text: &str) -> Result<String, AllocError>
     names.join(alloc, ",")
 }
 
-// Returns the entries of the value `text` of `-i`, which commas separate.
 fn entries_in(alloc: Global, text: &str) -> Result<Vec<&str>, AllocError>
     ensures { IfOk result (λ entries. map (λ entry. entry.now) entries.items ≡ entries_of text.now) }
 {
     text.split(',').collect(alloc)
 }
 
-// Returns the name of the region of an entry `NAME` or `NAME:FILE`.
 fn name_in(entry: &str) -> &str
     ensures { result.now ≡ name_in entry.now }
 {
@@ -89,15 +83,14 @@ fn name_in(entry: &str) -> &str
     }
 }
 
-// Returns the name and the file of an entry `NAME:FILE`, or `None` for an entry without a colon.
 fn pair_in(entry: &str) -> Option<(&str, &str)>
     ensures { option_map (λ pair. (pair.0.now, pair.1.now)) result ≡ pair_in entry.now }
 {
     entry.split_once(':')
 }
 
-/// Returns the regions of a task that have a file of their own, in the order of `-i`. `shown` are the bytes that were
-/// read from the chip for the task's layout, if it is on the chip.
+/// Returns the regions of a task that have a file of their own, in the order of `-i`. `shown` has the bytes of the
+/// task's layout, if the layout is on the chip.
 ///
 /// Returns the faults of `read_included` for each of these regions, or error 18 if memory runs out.
 pub fn find_region_files<'a, R: Store>(
@@ -116,7 +109,6 @@ pub fn find_region_files<'a, R: Store>(
     }
 }
 
-// Returns the regions in the value of `-i` that have a file of their own, in order.
 fn find_files_in<'a, R: Store>(
     rt: &R,
     regions: Regions<'a>,
@@ -140,7 +132,6 @@ fn find_files_in<'a, R: Store>(
     Ok(files)
 }
 
-// Returns the addresses of the region with this name.
 fn find_span<'a, R: Store>(
     rt: &R,
     regions: Regions<'a>,
@@ -182,7 +173,6 @@ pub fn replace_regions<'a, R: Store>(
     Ok(())
 }
 
-// Replaces the bytes of a region by those of its file.
 fn replace_region<'a, R: Store>(
     rt: &R,
     image: &'a str,

@@ -67,7 +67,6 @@ fn erases(task: &Task<'_>) -> bool
     )
 }
 
-// Returns file fault 5 with the name of the file, or file fault 1 if a name can't be looked up.
 fn have_file_roles<'a, R: Store>(
     rt: &R,
     device: &'a str,
@@ -115,8 +114,8 @@ fn are_distinct<'a, R: Store>(rt: &R, files: &[RegionFile<'a>]) -> Result<(), Fa
     Ok(())
 }
 
-/// Checks that a region's file is apart from those of the `earlier` regions. Returns file fault 5 with the name `file`,
-/// or file fault 1 with the name that can't be looked up.
+/// Checks that `file` is apart from the files of the `earlier` regions. Returns file fault 5 with the name `file`, or
+/// file fault 1 with the name that can't be looked up.
 pub fn is_apart_from<'a, R: Store>(
     rt: &R,
     earlier: &[RegionFile<'a>],
@@ -133,7 +132,6 @@ pub fn is_apart_from<'a, R: Store>(
     Ok(())
 }
 
-// Returns file fault 1 for an output that is a FIFO or a device.
 fn can_be_read_back<'a, R: Store>(
     rt: &R,
     task: &Task<'a>,
@@ -150,7 +148,6 @@ fn can_be_read_back<'a, R: Store>(
     }
 }
 
-// Returns file fault 4 for a journal, and a fault of `reading` for a file that exists and can't be read.
 fn are_no_journals<'a, R: Store>(
     rt: &R,
     task: &Task<'_>,
@@ -167,7 +164,7 @@ fn are_no_journals<'a, R: Store>(
     Ok(())
 }
 
-// A FIFO or a device isn't read.
+// A FIFO or a device isn't read: it holds no journal, and a read might wait.
 fn is_no_journal<'a, R: Store>(rt: &R, name: &'a str) -> Result<(), Fault<'a>>
     ensures { IfErr result (FailsOldFile (R.state rt.now).view name.entry) }
 {

@@ -6,8 +6,8 @@ use nor_args::{Operation, Task};
 use nor_console::{Fault, Named, apart, named_by, unprinted};
 use nor_files::Store;
 
-/// Checks that the device, the output and the journal have no second role, and that the program doesn't print to output
-/// or journal. A layout and an image, which a job only reads, may be the same file.
+/// Checks that the device, the output and the journal have no second role, and that the program prints neither to the
+/// output nor to the journal. A layout and an image, which a job only reads, may be the same file.
 ///
 /// Returns file fault 5 with the name of that file, or of the later of two roles: device, layout, image to write or
 /// compare, output, journal. Returns file fault 1 if a name can't be looked up.

@@ -16,8 +16,8 @@ use nor_files::Store;
 use nor_jobs::{Sources, journal_in, read_image};
 use nor_layout::Ranges;
 
-/// Returns a copy of the image of `-v`, and of `-w` without `-n` and `-N`, or `None` for any other job or without
-/// memory.
+/// Returns a copy of the image of `-v`, or of `-w` without `-n` and `-N`. Returns `None` for any other job, or if
+/// memory runs out.
 ///
 /// The bus reads data that equals this image only once. If `-w` misreads a sector as equal and skips it, the comparison
 /// at the end detects this, unless it misreads the sector in the same way.
@@ -71,7 +71,7 @@ pub fn prepare_sources<'a, R: Store>(
     Ok(sources)
 }
 
-// A comparison may have a journal in place of an image, which is a little longer.
+// A comparison may use a journal in place of an image, and the longest journal is longer than the largest chip.
 fn read_bytes<'a, R: Store>(rt: &mut R, task: &Task<'a>) -> Result<Vec<u8>, Fault<'a>>
     ensures same { AreUntouched (R.state rt.old) (R.state rt.new) }
     ensures ok { IfOk result (λ bytes. AreBytes (R.state rt.old).view task.now bytes.items) }

@@ -1,5 +1,5 @@
-//! The file with the sums of the sectors before a session (in the encoding of `nor_sums`). Its name is that of the
-//! session's journal with `.sectors` after it.
+//! The file with the sums of the sectors before a session (in the encoding of `nor_sums`), named as the session's
+//! journal with `.sectors` appended.
 
 use crate::file_hints::print_hint;
 use crate::tasks::changes_bytes;
@@ -21,7 +21,7 @@ pub fn sums_name(alloc: Global, journal: &str) -> Result<String, AllocError> {
     Ok(name)
 }
 
-/// Returns the name of the journal of a write or an erase, which notes the sums of the sectors, or `None`.
+/// Returns the name of the journal of a write or an erase, or `None` if the operation is another one or has no journal.
 pub fn noting_journal<'a>(operation: &Operation<'a>) -> Option<&'a str> {
     match &operation.task {
         Task::Change(
@@ -36,7 +36,8 @@ pub fn noting_journal<'a>(operation: &Operation<'a>) -> Option<&'a str> {
 }
 
 /// Checks that there is no file with the sums beside the new journal of a write or an erase. If there is, prints file
-/// fault 4, unless the journal exists, whose fault is printed later. Without memory the file is never written.
+/// fault 4 and returns false. Without a check, returns true if the journal exists, because its own fault is printed
+/// later, or if memory runs out.
 pub fn is_new<R: Store, E: Write>(files: &R, operation: &Operation<'_>, errors: &mut E) -> bool {
     let Some(journal) = noting_journal(operation) else {
         return true;
@@ -53,17 +54,17 @@ pub fn is_new<R: Store, E: Write>(files: &R, operation: &Operation<'_>, errors: 
     false
 }
 
-/// What the file beside a restore's journal says.
+/// The contents of the file beside a restore's journal, or why there are none.
 #[derive(Drop)]
 pub enum Before {
-    /// No comparison is made: there is no restore, or it isn't compared (`-N`), or its journal saves all sectors.
+    /// No comparison is made: the job isn't a restore, it isn't compared (`-N`), or its journal saves all sectors.
     Unneeded,
-    /// The file is missing, as after a session of `--wp-range`, which reads no sector and saves none. Even so, a
-    /// disturbed status write may have reached a sector.
+    /// The file is missing, and the journal saves no sector, as after a session of `--wp-range`. Even so, a disturbed
+    /// status write may have changed a sector.
     Unwritten,
-    /// The file is missing.
+    /// The file is missing, and the journal saves a sector.
     Missing,
-    /// The file can't be read, or has other contents than a session writes.
+    /// The file can't be read, has other contents than a session writes, or memory ran out.
     Damaged,
     /// The file was written for another journal.
     Other,

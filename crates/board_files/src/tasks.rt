@@ -4,19 +4,19 @@ ghost use Rattle.board_files.specs.Tasks.{changes_bytes, is_compared};
 
 use nor_args::{Change, JournalUse, Operation, Task, Wanted};
 
-/// True if the whole chip is compared after this change: a write or an erase without `-n` and `-N`.
+/// Returns whether the whole chip is compared after this change: a write or an erase without `-n` and `-N`.
 pub fn is_compared(operation: &Operation<'_>, change: &Change<'_>) -> bool
     ensures { result ≡ is_compared operation.now change.now }
 {
     changes_bytes(change.wanted) && (change.verify && operation.verifies_all)
 }
 
-/// True for a session: a write, an erase or a change of protection.
+/// Returns whether the task is a session: a write, an erase or a change of protection.
 pub fn is_session(task: &Task<'_>) -> bool {
     matches!(task, Task::Change(_))
 }
 
-/// Returns the name of the journal's file if the task is a session with one.
+/// Returns the name of the session's journal, or `None` for another task or a session without a journal.
 pub fn journal_of<'a>(task: &Task<'a>) -> Option<&'a str> {
     match task {
         Task::Change(
@@ -29,7 +29,7 @@ pub fn journal_of<'a>(task: &Task<'a>) -> Option<&'a str> {
     }
 }
 
-/// True for a write and an erase.
+/// Returns true for a write or an erase.
 pub fn changes_bytes(wanted: Wanted<'_>) -> bool
     ensures { result ≡ changes_bytes wanted.entry }
 {

@@ -16,7 +16,6 @@ abbrev pub AreLinesBy : (named : Bool) → Further → Answer → List ℕ → T
 AreLinesBy true further found text = AreNameLines found text
 AreLinesBy false further found text = (lines : List ℕ) × AreLines found lines × (text ≡ lines ++ further_line further)
 
--- Holds if `text` has the lines of this answer of this operation, for some status bytes.
 abbrev pub AreJobLines : Operation → Answer → List ℕ → Type 0
 AreJobLines operation found text =
     (status : List ℕ) × AreLinesBy operation.is_flash_name (further_of operation.task status) found text

@@ -19,7 +19,8 @@ use Rattle.board_jobs.specs.declared.chip_faults.JobFault.TheVariants as ended
 
 -- ---- the target
 
--- Holds if `read_out`, called with a new faithful vault in memory, kept its promises and returned `result`.
+-- Holds if `read_out` returned `result` as its contract says, with a new faithful vault in memory that then has
+-- `bytes`.
 pub record HasReadToMemory (named : Option ChipName) (ranges : Option (List Span)) (old new : BusState)
     (bytes : List ℕ) (result : Result Report Refusal) : Type 0 where
   pub filled : VaultState
@@ -39,14 +40,14 @@ pub record IsMerged (named : Option ChipName) (spans : List Span) (image : List 
   pub bytes : (a : ℕ) → a < length chip
       → slice_index target a ≡ merged_byte (contains spans) (slice_index image) (slice_index chip) a
 
--- Holds if `target` is the target of a change. For a change of regions that is compared, the chip was read before; for
--- `None`, nothing was sent.
+-- Holds if `target` is the target of a change: without ranges `image`, and nothing was sent. With ranges `target` has
+-- the bytes of `image` there and the chip's bytes elsewhere, for which the whole chip was read.
 abbrev pub IsWholeTarget : Option ChipName → (ranges : Option (List Span)) → (image : List ℕ) → (old new : BusState)
     → (target : List ℕ) → Type 0
 IsWholeTarget named None image old new target = (new ≡ old) × (target ≡ image)
 IsWholeTarget named (Some spans) image old new target = IsMerged named spans image old new target
 
--- the ranges of a change if it is compared; otherwise the chip isn't read before the session
+-- the ranges of a change that is compared, or `None` for any other change, before which the whole chip isn't read
 abbrev pub ranges_if : (compared : Bool) → Option (List Span) → Option (List Span)
 ranges_if true ranges = ranges
 ranges_if false ranges = None
@@ -61,7 +62,8 @@ abbrev pub into_memory : Refusal → Refusal
 into_memory (Output written) = Memory
 into_memory refusal = refusal
 
--- Holds if another chip was read than the one that was identified before, with another size than the image (error 4).
+-- Holds for error 4 if the chip that was read has another size than the image. Its size was checked before, so the chip
+-- was exchanged meanwhile.
 pub record IsOtherRead (named : Option ChipName) (image : List ℕ) (old new : BusState)
     (refusal : Refusal) : Type 0 where
   pub bytes : List ℕ
@@ -75,7 +77,6 @@ FailsInMemory named ranges old new refusal =
     (bytes : List ℕ) × (why : Refusal) × HasReadToMemory named ranges old new bytes (Err why)
     × (refusal ≡ into_memory why)
 
--- Holds if making the target of a change of regions that is compared failed with this error.
 abbrev pub FailsToMerge : Option ChipName → (size : ℕ) → (ranges : Option (List Span)) → (image : List ℕ)
     → (old new : BusState) → Refusal → Type 0
 FailsToMerge named size None image old new refusal = ⊥
@@ -84,7 +85,8 @@ FailsToMerge named size (Some spans) image old new refusal = ((new ≡ old) × I
 
 -- ---- the comparison
 
--- Holds after a session that succeeded and is compared, if no difference was found; otherwise nothing was sent.
+-- Holds if the comparison after a session found no difference. After a session that failed or isn't compared, nothing
+-- was sent.
 abbrev pub IsFollowed : (session : Result Answer Refusal) → (compared : Bool) → Option ChipName → (target : List ℕ)
     → (old new : BusState) → Type 0
 IsFollowed (Ok found) true named target old new =

@@ -35,7 +35,6 @@ further_of_change (wanted.Range start len) verify = further.Protected (if len ==
 further_of_change _ true = further.Nothing
 further_of_change _ false = further.Unverified
 
--- the line after the answer of a task, if these status bytes were read last
 abbrev pub further_of : Task → (status : List ℕ) → Further
 further_of (task.Change change) status = further_of_change change.wanted change.verify
 further_of task.WpStatus status = further.Status status

@@ -33,7 +33,7 @@ shows_srp0 one = one / 128 == 1
 abbrev pub one_with : (srp0 : Bool) → (one : ℕ) → ℕ
 one_with srp0 one = (if srp0 then 128 else 0) + one % 128 / 4 * 4
 
--- the two bytes of a status write, status 1 first; SUS (bit 7 of status 2) is clear
+-- the two bytes of a status write that changes only SRP0, status 1 first; SUS (bit 7 of status 2) is clear
 abbrev pub bytes_with : (srp0 : Bool) → (before : List ℕ) → List ℕ
 bytes_with srp0 before = one_with srp0 (slice_index before 0) ∷ slice_index before 1 % 128 ∷ []
 
@@ -49,14 +49,14 @@ pub record HasOnlySrp0 (srp0 : Bool) (before after : List ℕ) : Type 0 where
 
 -- ---- reading and writing
 
--- Holds if the status registers were read as `bytes`: after a wait for a chip that is ready, and without changing it.
+-- Holds if the status registers were read as `bytes`, after a wait until the chip was ready, and without a modifying
+-- command.
 pub record ReadsStatus (old new : BusState) (bytes : List ℕ) : Type 0 where
   pub polled : BusState
   pub waited : Waited
   pub waits : Waits old polled waited
   pub second : ReadsStatus2 polled new (slice_index bytes 1)
   pub first : slice_index bytes 0 ≡ waited.status1
-  -- The last replies to 05h and to 35h are these bytes.
   pub one_replied : last_reply is_poll new.history ≡ slice_index bytes 0 ∷ []
   pub two_replied : last_reply (begins_with 0x35) new.history ≡ slice_index bytes 1 ∷ []
   pub kept : KeepsSent old new
@@ -68,8 +68,8 @@ pub record WritesSrp0 (srp0 : Bool) (before after : List ℕ) (old new : BusStat
   pub exactly : SendsExactly 0 0 1 old wrote
   pub read : ReadsStatus wrote new after
 
--- Holds if SRP0 has this value: it had it already (`None`), or it was written and is read with all other bits as
--- before.
+-- Holds if SRP0 has this value. Either it had the value already (`after` is `None`), or it was written, and the status
+-- registers were then read with all other non-volatile bits as before.
 abbrev pub IsSet : (srp0 : Bool) → (before : List ℕ) → (after : Option (List ℕ)) → (old new : BusState) → Type 0
 IsSet srp0 before None old new = (shows_srp0 (slice_index before 0) ≡ srp0) × (new ≡ old)
 IsSet srp0 before (Some after) old new =
@@ -101,7 +101,8 @@ SendsLock srp0 old new = KeepsSent old new ⊎ SendsSrp0 srp0 old new
 
 -- ---- errors
 
--- Error 6: the block protection is unknown. Error 9: SRP1 is set. In both cases no status write was sent.
+-- Holds for an error after the identification: 6 (unknown block protection), 9 (SRP1 is set), 12 (the bus stopped) or
+-- 13 (the chip stayed busy). Before error 6 or 9, no status write was sent.
 abbrev pub FailsFound : Found → (old new : BusState) → Refusal → Type 0
 FailsFound chip old new NoProtection = (chip.scheme ≡ false) × (new ≡ old)
 FailsFound chip old new StatusLocked = (bytes : List ℕ) × ReadsStatus old new bytes × (slice_index bytes 1 % 2 ≡ 1)
@@ -115,7 +116,8 @@ pub record FailsToSet (named : Option ChipName) (old new : BusState) (refusal : 
   pub identified : HasIdentified named old found (Ok chip)
   pub fails : FailsFound chip found new refusal
 
--- Holds if `sent` was written, and the status registers were then read as `after`, which differ from it.
+-- Holds if `sent` was written, and the status registers were then read as `after`, in which a non-volatile bit differs
+-- from `sent`.
 pub record HasNotSet (named : Option ChipName) (srp0 : Bool) (old new : BusState) (sent after : List ℕ) : Type 0 where
   pub chip : Found
   pub found : BusState
@@ -145,7 +147,6 @@ registers_lines before (Some after) =
     registers_line (codes "Status before") before ++ registers_line (codes "Status now") after
 registers_lines before None = registers_line (codes "Status (unchanged)") before
 
--- the lines that say what this value of SRP0 means, and how to change it back
 abbrev pub meaning_lines : (srp0 : Bool) → List ℕ
 meaning_lines true =
     line (codes "SRP0 is set: while WP# is low, the status and the protected range can't be changed." ∷ [])

@@ -24,11 +24,11 @@ pub fn check_new<'a, R: Store>(rt: &R, operation: &Operation<'a>) -> Result<(), 
     }
 }
 
-/// Identifies the chip, and then saves it in a journal in a new file, so without a chip no file is created. Sends no
-/// modifying command.
+/// Identifies the chip first, so that without a chip no file is created, and then saves the chip in a journal in a new
+/// file. Sends no modifying command.
 ///
-/// The outer error is a fault of these two steps. After the inner error, one of `backup`, the file may hold only a part
-/// of the journal.
+/// The outer error is a fault of the identification or of creating the file. After the inner error, one of `backup`,
+/// the file may have only a part of the journal.
 pub fn backup_chip<'a, R: Store, B: Progress>(
     rt: &mut R,
     bus: &mut B,

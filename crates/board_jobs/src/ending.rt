@@ -27,7 +27,7 @@ pub enum Further {
     Status { bytes: [u8; 2] },
 }
 
-// An empty range begins at 0, whatever start was given. `status` has the bytes that were read last, status 1 first.
+// An empty range begins at 0, whatever start was given.
 fn further_of(task: &Task<'_>, status: [u8; 2]) -> Further
     ensures { result ≡ further_of task.now status }
 {

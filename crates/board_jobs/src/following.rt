@@ -19,8 +19,8 @@ use nor_read::read_out;
 use nor_session::{Refusal, Report};
 use std::alloc::Global;
 
-/// Returns the target of a change of a chip of `size` bytes: `image` or, with `ranges`, `image` there and the chip's
-/// own bytes elsewhere, for which the whole chip is read into memory.
+/// Returns the target of a change of a chip of `size` bytes. Without `ranges`, this is `image`. With `ranges`, it has
+/// the bytes of `image` there and the chip's own bytes elsewhere, for which the whole chip is read into memory.
 ///
 /// With `ranges`, returns error 4 (`image` isn't as long as the chip), 5 (an address isn't on the chip), 18 (out of
 /// memory) or another error of `read_out`.
@@ -118,8 +118,8 @@ fn fill_rest(target: &mut [u8], chip: &[u8], included: &Ranges)
     }
 }
 
-/// Returns the number of sectors that a change reads first: those with an included address and, if `merged`, before
-/// that the whole chip.
+/// Returns the number of sectors that a change reads first: those with an included address and, if `merged`, also each
+/// sector of the chip.
 pub fn sectors_before_change(size: usize, included: Option<&Ranges>, merged: bool) -> usize {
     let scanned = sectors_to_read(size, included);
     if merged {
@@ -131,7 +131,7 @@ pub fn sectors_before_change(size: usize, included: Option<&Ranges>, merged: boo
 
 /// Returns the number of sectors with an included address on a chip of `size` bytes (with `None`, all).
 pub fn sectors_to_read(size: usize, included: Option<&Ranges>) -> usize {
-    // The length of an image that fits no chip is refused before a sector is read, so its number is never shown.
+    // A length with more sectors than a `u32` counts fits no chip, and is refused before a sector is read.
     let sectors = u32::try_from(size / SECTOR_LEN as usize).unwrap_or(0);
     (0..sectors)
         .filter(|sector| includes_in_sector(included, *sector))

@@ -83,7 +83,7 @@ pub fn compare_rest<B: Progress>(
     }
 }
 
-/// True if the comparison is made after a restore with this result: the restore succeeded, or it returned error 14.
+/// Returns whether the comparison is made after a restore with this result: after a success or error 14.
 pub fn is_followed(outcome: &Outcome) -> bool
     ensures { result ≡ is_followed outcome.now }
 {

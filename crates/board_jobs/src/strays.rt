@@ -53,8 +53,6 @@ pub fn report_strays<'b, B: Bus + Drop, E: Write>(
 
 const EXAMINED: &str = "Comparing the other sectors with those before the change.";
 
-// True if the other sectors are read after this fault: after a write or an erase that ended with error 14 or chip
-// fault 4.
 fn is_examined(fault: &JobFault<'_>, operation: &Operation<'_>) -> bool {
     let is_mismatch = matches!(
         fault,
@@ -66,8 +64,6 @@ fn is_examined(fault: &JobFault<'_>, operation: &Operation<'_>) -> bool {
     is_mismatch && matches!(operation.task, Task::Change(_))
 }
 
-// Reads each sector whose sum before the first modifying command is known, unless a modifying command was to change it.
-// Returns those that differ.
 fn find_strays<B: Bus>(bus: &mut B, notes: &Notes) -> Result<Changed, Stopped>
     ensures { (B.state bus.new).sent ≡ (B.state bus.old).sent }
 {
@@ -84,7 +80,6 @@ fn find_strays<B: Bus>(bus: &mut B, notes: &Notes) -> Result<Changed, Stopped>
     Ok(strays)
 }
 
-// The line after a session that changed other sectors.
 #[derive(Clone, Copy, Drop)]
 struct StraysLine(Changed);
 
@@ -99,7 +94,6 @@ impl fmt::Display for StraysLine {
     }
 }
 
-// The sectors that differ: the addresses of the first ones, and how many more there are.
 #[derive(Clone, Copy, Drop)]
 struct Places(Changed);
 
@@ -124,8 +118,8 @@ impl fmt::Display for Places {
     }
 }
 
-/// Notes the sums of the sectors that a session or a restore reads (`Notes`). Does nothing for other operations. Prints
-/// a line if memory runs out.
+/// For a write or an erase with a journal, or a restore that is compared, starts to note the sums of the sectors that
+/// it reads (`Notes`). Does nothing for other operations. Prints a line if memory runs out.
 pub fn begin_notes<'b, B: Bus + Drop, E: Write>(
     errors: &mut E,
     bus: &mut Shown<'b, B>,
@@ -146,7 +140,6 @@ pub fn begin_notes<'b, B: Bus + Drop, E: Write>(
 const NO_NOTES: &str =
     "Out of memory: damage of sectors that the journal doesn't save may stay unnoticed.";
 
-// Returns empty notes for a session that has a file for the sums, or for a restore that is compared.
 fn new_notes(operation: &Operation<'_>, alloc: Global) -> Result<Option<Notes>, AllocError> {
     match (noting_journal(operation), &operation.task) {
         (Some(journal), _) => {
@@ -160,10 +153,11 @@ fn new_notes(operation: &Operation<'_>, alloc: Global) -> Result<Option<Notes>, 
     }
 }
 
-/// Ends a run that succeeded. If it was a restore, and the sectors that its journal doesn't save differ from those
-/// before the session, prints chip fault 5. Otherwise prints the answer and, after a restore that could not be compared
-/// with the time before the session, a line that says so. After a session or a backup also prints file fault 2 if its
-/// journal was lost after it was sealed. Returns the exit status.
+/// Ends a run that succeeded, and returns the exit status.
+///
+/// If the sectors that a restore's journal doesn't save differ from those before the session, prints chip fault 5.
+/// Otherwise prints the answer, and after a restore without this comparison a line that says why. After a session or a
+/// backup, also prints file fault 2 if its journal was lost after it was sealed.
 pub fn end_compared<'b, R: Store, B: Bus + Drop, O: Write, E: Write>(
     output: &mut O,
     errors: &mut E,
@@ -188,7 +182,6 @@ pub fn end_compared<'b, R: Store, B: Bus + Drop, O: Write, E: Write>(
     report_lost_journal(errors, files, operation, status)
 }
 
-// Returns the sectors whose sums after the restore aren't those before the session.
 fn changed_since<B>(bus: &Shown<'_, B>, before: &Before) -> Changed
     ensures { result.count ≡ 0 → IsAsBefore before.now (notes_of bus.now) }
 {
@@ -198,7 +191,6 @@ fn changed_since<B>(bus: &Shown<'_, B>, before: &Before) -> Changed
     }
 }
 
-// The line of chip fault 5.
 #[derive(Clone, Copy, Drop)]
 struct ChangedText(Changed);
 
@@ -215,8 +207,6 @@ impl fmt::Display for ChangedText {
     }
 }
 
-// If a restore could not compare the sectors that its journal doesn't save with their sums before the session, prints a
-// line that says why.
 fn report_unknown<E: Write>(errors: &mut E, before: &Before, operation: &Operation<'_>) {
     if let Task::Restore { journal } = &operation.task
         && let Some(why) = before.why_unknown()

@@ -2,7 +2,6 @@
 use Rattle.std.proofs.Common.{◌≡◌, ◌^◌, ◌-◌, None, Some, refl}
 use Rattle.board_progress.specs.Estimates.{change_time, minutes_in, percent_of, seconds_in, tenths_of, time_for}
 
--- the percentages of 0, 15, 16 and 17 of 16, of 0 of 0, of all but one sector of 16 MiB, and of the greatest numbers
 none_done : percent_of 0 16 ≡ Some 0
 none_done = refl
 
@@ -24,7 +23,6 @@ one_less = refl
 most_done : percent_of (2 ^ 64 - 1) (2 ^ 64 - 1) ≡ Some 100
 most_done = refl
 
--- 8 MiB in 8 s, 100 KiB in 60 s, no bytes in a second, no time, and a rate above the greatest `u64`
 whole_chip : tenths_of 8388608 8000000 ≡ Some 10240
 whole_chip = refl
 
@@ -40,7 +38,6 @@ no_time = refl
 too_fast : tenths_of (2 ^ 64 - 1) 1 ≡ Some (2 ^ 64 - 1)
 too_fast = refl
 
--- 512 of 2048 sectors took 15 s
 three_quarters : time_for 1536 512 15000000 ≡ Some 45000000
 three_quarters = refl
 
@@ -50,7 +47,6 @@ nothing_left = refl
 nothing_done : time_for 2048 0 60000000 ≡ None
 nothing_done = refl
 
--- 0 s, 1 microsecond less than 60 s, 60 s and 3600 s
 start : (minutes_in 0 ≡ 0) × (seconds_in 0 ≡ 0)
 start = (refl, refl)
 

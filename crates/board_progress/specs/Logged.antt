@@ -1,6 +1,5 @@
 -- A writer that also writes to the log of a run, as contracts see it.
 use Rattle.board_progress.specs.declared.run_log.Logged.{Logged}
 
--- the other writer
 abbrev pub written_by : {W : Type 0} → Logged W → W
 written_by logged = logged.inner

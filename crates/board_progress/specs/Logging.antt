@@ -9,25 +9,23 @@ use Rattle.nor_console.specs.declared.causes.Cause.TheVariants as causes
 use Rattle.nor_console.specs.declared.messages.Fault.TheVariants as end
 use Rattle.nor_console.specs.declared.messages.FileFault.TheVariants as file
 
--- Holds for the first 23 bytes of a file that isn't empty and doesn't begin as a log.
 pub record BeginsNoLog (start : List ℕ) : Type 0 where
   pub some : ¬ (start ≡ [])
   pub other : ¬ (start ≡ codes "Log of flashnor-serprog")
 
--- Holds for file fault 4 of a file that begins as no log. Nothing is claimed if the file isn't known (`IsKnownFile`).
 pub record IsExistingLog (view : View) (name : Bor Text) (fault : Fault) : Type 0 where
   pub start : List ℕ
   pub read : IsRead view name.now 23 start
   pub begins : BeginsNoLog start
   pub is : fault ≡ end.File file.Exists name causes.Unknown
 
--- Holds if no file except the log was changed.
+-- Holds if no file except the log was changed, if the files obey their contract.
 abbrev pub CreatesLog : Option (Bor Text) → (old new : FilesState) → Type 0
 CreatesLog None old new = AreUntouched old new
 CreatesLog (Some name) old new = (new.view.nature ≡ old.view.nature)
     × (is_lawful old.view ≡ true → OthersStay name.now old new)
 
--- Holds if reads of each file except the log return the same before and after the log was created.
+-- Holds if reads of each file except the log return the same before and after, if the files obey their contract.
 abbrev pub StayButLog : Option (Bor Text) → (old new : View) → Type 0
 StayButLog None old new = new ≡ old
 StayButLog (Some name) old new = (new.nature ≡ old.nature)

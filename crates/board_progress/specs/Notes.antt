@@ -2,6 +2,5 @@
 use Rattle.nor_sums.specs.declared.sums.Sums.{Sums}
 use Rattle.board_progress.specs.declared.notes.Notes.{Notes}
 
--- the sums of the comparison after a restore
 abbrev pub after_of : Notes → Sums
 after_of notes = notes.after

@@ -3,7 +3,6 @@ use Rattle.std.specs.Prelude.{Option}
 use Rattle.board_progress.specs.declared.notes.Notes.{Notes}
 use Rattle.board_progress.specs.declared.progress.Shown.{Shown}
 
--- the bus inside
 abbrev pub shown_bus : {B : Type 0} → Shown B → B
 shown_bus shown = shown.bus
 

@@ -44,7 +44,6 @@ pub struct ExpectedTime {
 // The bytes that are transferred for a touched sector: those programmed, and those read back.
 const SECTOR_TRANSFER: u64 = 2 * 4096;
 
-// In microseconds.
 const SECOND: u64 = 1_000_000;
 
 impl fmt::Display for ExpectedTime {
@@ -69,8 +68,9 @@ impl fmt::Display for ExpectedTime {
     }
 }
 
-/// The line before the first modifying command of a session, whose journal is in the file of this name. A programmer
-/// that received only a part of a frame takes the first byte of the next run for the rest, unless it lost its power.
+/// The line before the first modifying command of a session, with the name of the journal's file if it is known. After
+/// an interruption the programmer may wait for the rest of a frame, and take the next run's first bytes for it, until
+/// its power is disconnected.
 #[derive(Clone, Copy, Drop)]
 pub struct SealedLine<'a>(pub Option<&'a str>);
 

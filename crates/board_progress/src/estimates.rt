@@ -25,7 +25,8 @@ pub fn tenths_of_kib(bytes: u64, micros: u64) -> Option<u64>
     Some(cap(u128::from(bytes) * 10_000_000 / (u128::from(micros) * 1024)))
 }
 
-/// Returns the microseconds for `amount` if `done` took `micros`, rounded down and at most `u64::MAX`, or `None` for 0.
+/// Returns the microseconds for `amount` if `done` took `micros`, rounded down and at most `u64::MAX`; or `None` if
+/// `done` is 0.
 pub fn time_for(amount: u64, done: u64, micros: u64) -> Option<u64>
     ensures { result ≡ time_for amount done micros }
 {
@@ -35,9 +36,9 @@ pub fn time_for(amount: u64, done: u64, micros: u64) -> Option<u64>
     Some(cap(u128::from(amount) * u128::from(micros) / u128::from(done)))
 }
 
-/// Returns the typical time of a change in microseconds, without the transfers: of its erases, and of 16 page programs
-/// for each touched sector. (W25Q64FV datasheet, AC Electrical Characteristics.) All touched sectors are taken to be
-/// erased, by erases of 4 KiB and 64 KiB, or by one of the whole chip.
+/// Returns the typical time of a change in microseconds, without transfers (W25Q64FV datasheet, AC Electrical
+/// Characteristics). The estimate assumes that each touched sector is erased, by 4 KiB and 64 KiB erases or one chip
+/// erase, and gets 16 page programs.
 pub fn change_micros(touched: u32, erases: u32) -> u64
     ensures { result ≡ change_time touched erases }
 {

@@ -4,7 +4,7 @@ use crate::steps::{Step, StepLine, Tally, Total};
 use crate::terminal::Transfer;
 use std::time::Instant;
 
-// Microseconds between two drawings of the progress line; the line of a complete step is drawn at once.
+// The progress line of a step that isn't complete is drawn at most once in this number of microseconds.
 const BETWEEN: u64 = 100_000;
 
 const READ_STATUS: u8 = 0x05;
@@ -51,16 +51,14 @@ impl Tallies {
 #[derive(Clone, Copy)]
 pub struct Gauge {
     tallies: Tallies,
-    // the operation that the chip performs, with the number of its data bytes
     running: Option<(Step, u64)>,
     // when the last operation was done, or when `restart` was called after that
     last: Option<Instant>,
-    // when the line was drawn last for a step that was not complete
     drawn: Option<Instant>,
 }
 
 impl Gauge {
-    /// Returns a gauge that counted nothing, and measures from `now` on.
+    /// Returns a gauge that has counted nothing, and measures from `now` on.
     pub fn new(now: Option<Instant>) -> Gauge {
         Gauge {
             tallies: Tallies::default(),
@@ -80,8 +78,8 @@ impl Gauge {
         self.tallies.scan = Tally::default();
     }
 
-    /// Records a transaction of this step, or of no step, that was carried out before `now`. Returns the step whose
-    /// line changed.
+    /// Records a transaction that was carried out before `now`. `step` is `None` for a transaction that no step counts.
+    /// Returns the step whose line changed, if any.
     pub fn record(
         &mut self,
         step: Option<Step>,
@@ -103,7 +101,6 @@ impl Gauge {
         }
     }
 
-    // A poll belongs to no step, but may complete the operation of one.
     fn record_poll(&mut self, out: &[u8], reply: &[u8], now: Option<Instant>) -> Option<Step> {
         let (step, bytes) = self.running?;
         let ([READ_STATUS, ..], Some(status)) = (out, reply.last()) else {
@@ -145,7 +142,6 @@ impl Gauge {
         self.drawn.is_none() || micros_between(self.drawn, now) >= BETWEEN
     }
 
-    /// Records that the line was drawn.
     pub fn record_drawing(&mut self, now: Option<Instant>) {
         self.drawn = now;
     }

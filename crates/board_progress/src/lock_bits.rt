@@ -29,7 +29,7 @@ impl Lock {
         }
     }
 
-    /// Returns the line after that of error 9: which bit is set, and what to do.
+    /// Returns the line that follows that of error 9: which bit is set, and what to do.
     pub fn advice(self) -> &'static str {
         match self {
             Lock::Open => "Neither SRP0 nor SRP1 is set now: repeat the run.",
@@ -40,7 +40,7 @@ impl Lock {
         }
     }
 
-    /// Returns the end of the line after that of error 10, which says how to lift the protection.
+    /// Returns the end of the line that follows that of error 10: how to lift the protection.
     pub fn advice_to_unlock(self) -> &'static str {
         match self {
             Lock::Open => ", or use --unlock.",

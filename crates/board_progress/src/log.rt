@@ -28,8 +28,6 @@ pub fn command_name(out: &[u8]) -> Option<&'static str> {
     }
 }
 
-// Returns the three-byte address in the command `out`, and the number of bytes after this address. Returns `None` if
-// `out` has fewer than four bytes.
 fn address_and_len(out: &[u8]) -> Option<(u32, usize)>
     ensures { IfSome result (λ found. found.0 ≡ address_in out.now) }
 {
@@ -53,7 +51,6 @@ impl fmt::Display for CommandText<'_> {
     }
 }
 
-// A number of bytes, with its noun.
 #[derive(Clone, Copy, Drop)]
 struct Bytes(usize);
 
@@ -78,7 +75,6 @@ impl fmt::Display for EventText {
     }
 }
 
-// A time in microseconds, printed as seconds with three decimals, as `61.005`.
 #[derive(Clone, Copy, Drop)]
 struct Seconds(u64);
 
@@ -89,7 +85,6 @@ impl fmt::Display for Seconds {
     }
 }
 
-// Returns the whole seconds of a time in microseconds, and the whole milliseconds that are left.
 fn split_millis(micros: u64) -> (u64, u64)
     ensures seconds { result.0 ≡ whole_seconds_in micros }
     ensures millis { result.1 ≡ millis_in micros }

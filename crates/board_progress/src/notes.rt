@@ -14,14 +14,14 @@ use std::fmt;
 
 /// The sums that a run notes, and the file for them. All memory is allocated when the notes are made.
 ///
-/// `before` has the last reply to a read of each sector before the first modifying command. After that command, a
-/// sector is unknown again if an erase or a program was to change it, so that all known sectors must stay as they were.
-/// `after` has the last reply to a read of each sector in the comparison after a restore; a session doesn't need it.
+/// `before` has the sum of the last read of each sector before the first modifying command. A sector becomes unknown
+/// when an erase or program of it is sent, so all known sectors must keep their bytes. `after` has the sum of the last
+/// read of each sector in the comparison after a restore.
 #[derive(Drop)]
 pub struct Notes {
     before: Sums,
     after: Sums,
-    // the name of the file, and room for its bytes; `None` if the run writes no such file
+    // the file's name, and memory for its bytes; `None` if the run writes no such file
     file: Option<(String, Vec<u8>)>,
 }
 
@@ -55,7 +55,6 @@ impl Notes {
         }
     }
 
-    // Makes the sectors unknown that an erase or a program is to change.
     fn forget(&mut self, out: &[u8]) {
         let (first, count) = match out {
             [0x02 | 0x20, high, middle, ..] => (sector_at(*high, *middle), 1),
@@ -81,8 +80,8 @@ impl Notes {
         &self.after
     }
 
-    /// Writes the sums to the file, if the notes have one, and syncs it. Must be called before the first modifying
-    /// command. Prints a line if the file can't be written.
+    /// Writes the sums `before` to the file, if the notes have one, and syncs it. Must be called before the first
+    /// modifying command. Prints a line if the file can't be written.
     pub fn write(&mut self, terminal: Terminal<'_>, replies: Replies) {
         let Some((name, room)) = &mut self.file else {
             return;
@@ -106,8 +105,6 @@ impl Notes {
     }
 }
 
-// Creates the file of this name with these bytes, and syncs it. Returns false if one of these steps fails, after which
-// the file may be missing or incomplete. Never overwrites a file.
 fn store<R: Store>(files: &mut R, name: &str, bytes: &[u8]) -> bool {
     let Ok(mut vault) = files.vault_in_new(name) else {
         return false;
@@ -117,7 +114,6 @@ fn store<R: Store>(files: &mut R, name: &str, bytes: &[u8]) -> bool {
     is_put
 }
 
-// The line before the first modifying command if the file of this name can't be written.
 #[derive(Clone, Copy, Drop)]
 struct UnwrittenLine<'a>(&'a str);
 
@@ -132,7 +128,6 @@ impl fmt::Display for UnwrittenLine<'_> {
     }
 }
 
-// Returns the number of the sector that a transaction read, if it read all of one sector.
 fn read_sector_of(out: &[u8], reply: &[u8]) -> Option<usize> {
     match out {
         [0x03, high, middle, 0] if middle % 16 == 0 && reply.len() == 4096 => {
@@ -142,7 +137,6 @@ fn read_sector_of(out: &[u8], reply: &[u8]) -> Option<usize> {
     }
 }
 
-// Returns the number of the sector at the address with these upper two bytes.
 fn sector_at(high: u8, middle: u8) -> usize
     ensures { result ≡ 16 * high + middle / 16 }
 {

@@ -2,7 +2,7 @@
 
 use nor_probe::part_for;
 
-// The length of an SFDP table, as a probe reads it (JESD216: double words 1 to 9).
+// The length in bytes of an SFDP table, as a probe reads it (JESD216: double words 1 to 9).
 const TABLE_LEN: usize = 36;
 
 /// What the chip replied last before the first modifying command. Status bytes that were not read are 0.
@@ -12,14 +12,13 @@ pub struct Replies {
     pub unique: Option<[u8; 8]>,
     /// Status 1 and status 2.
     pub status: [u8; 2],
-    // Double word 2 of the SFDP table: the size in bits.
     density: Option<u32>,
     /// True if the SFDP table doesn't say that sectors of 4 KiB can be erased everywhere (JESD216, double word 1).
     pub is_uneven: bool,
 }
 
 impl Replies {
-    /// Stores the reply to a transaction that sent `out`, if it is an ID, a status byte or an SFDP table.
+    /// Stores the reply to a transaction that sent `out`, if it is an ID, a unique ID, a status byte or an SFDP table.
     pub fn remember(&mut self, out: &[u8], reply: &[u8]) {
         match (out, reply) {
             ([0x05, ..], [status1, ..]) => self.status[0] = *status1,
@@ -36,7 +35,8 @@ impl Replies {
         }
     }
 
-    /// Returns the size of the chip in bytes, of the row for its ID or else of its SFDP, if it is known.
+    /// Returns the size of the chip in bytes, from the table of chips or, if the table has no row for its ID, from its
+    /// SFDP. Returns `None` if the ID or this size isn't known.
     pub fn size(&self) -> Option<u32> {
         match part_for(true, self.id?) {
             Some(part) => Some(part.size),
@@ -45,8 +45,8 @@ impl Replies {
     }
 }
 
-// The number of bits minus 1 or, with bit 31 set, its binary logarithm (JESD216, double word 2). `None` for less than 8
-// bits, and for 4 GiB or more.
+// Double word 2 is the number of bits minus 1 or, with bit 31 set, the binary logarithm of the number of bits
+// (JESD216).
 fn size_in_bytes(density: u32) -> Option<u32> {
     match density.checked_sub(1 << 31) {
         None => Some(density / 8 + 1),

@@ -1,4 +1,5 @@
-//! The log of a run, for `-o`: a file that receives, line by line, what the run prints and the lines of `-V`.
+//! The log of a run, for `-o`: a file that receives what the run prints, with its progress as plain lines, and the
+//! lines of `-V`.
 ghost use Rattle.std.specs.Prelude.{◌≡◌, IfErr, IsSomeAnd, false};
 ghost use Rattle.nor_console.specs.Files.{IsMaking};
 ghost use Rattle.board_progress.specs.Logging.{BeginsNoLog, CreatesLog, IsExistingLog};
@@ -25,9 +26,7 @@ pub type LogWriter = BufWriter<LogFile<File>>;
 #[derive(Drop)]
 pub struct RunLog {
     file: RefCell<Option<LogWriter>>,
-    // the system's reason why a line couldn't be written
     lost: Cell<Option<SystemReason>>,
-    // whether the file that was opened for the log is another one
     is_refused: Cell<bool>,
 }
 
@@ -41,9 +40,9 @@ impl RunLog {
         }
     }
 
-    /// Writes the first line of the log to the file, and then each further line. A log that is in the file is truncated
-    /// before; or, if `appends` is true, it is kept, and an empty line follows it. Any other file stays as it is
-    /// (`is_refused`).
+    /// Starts the log in this file, with its first line. A log that is in the file is truncated before or, if `appends`
+    /// is true, kept and followed by an empty line. A file that can't be read, or that isn't empty and doesn't begin as
+    /// a log, stays as it is (`is_refused`).
     pub fn start(&self, file: LogWriter, appends: bool) {
         let mut file = file;
         match file.get_mut().is_empty_or_begins(FIRST.as_bytes()) {
@@ -59,12 +58,12 @@ impl RunLog {
         self.end_if_failed(begun);
     }
 
-    /// Returns whether the file that was opened for the log has bytes, and is no log. It was then left as it is.
+    /// Returns whether `start` left the file as it was.
     pub fn is_refused(&self) -> bool {
         self.is_refused.get()
     }
 
-    /// Returns the system's reason why a line couldn't be written, or `None` if none was lost.
+    /// Returns the system's reason why a line couldn't be written, or `None` if no line was lost.
     pub fn lost(&self) -> Option<SystemReason> {
         self.lost.get()
     }
@@ -82,7 +81,7 @@ impl RunLog {
         self.end_if_failed(self.try_line(text));
     }
 
-    /// Writes a piece of a line to the file, or all of it. The end of a line is written to the file at once.
+    /// Writes a piece of a line to the log. A piece that ends the line is flushed to the file.
     pub fn write_piece(&self, bytes: &[u8]) {
         self.end_if_failed(self.try_piece(bytes));
     }
@@ -113,7 +112,6 @@ impl RunLog {
         }
     }
 
-    // Ends the log if a line couldn't be written.
     fn end_if_failed(&self, written: io::Result<()>) {
         if let Err(error) = written {
             self.lost.set(Some(SystemReason::of_making(&error)));
@@ -122,8 +120,6 @@ impl RunLog {
     }
 }
 
-// Writes the first line of a log. If `appends` is true, and the file has bytes, these are kept, and an empty line
-// follows them.
 fn begin(file: &mut LogWriter, appends: bool) -> io::Result<()> {
     if appends && file.get_mut().append()? {
         writeln!(file)?;
@@ -190,7 +186,6 @@ pub fn check_log<'a, R: Store>(rt: &R, name: Option<&'a str>) -> Result<(), Faul
     }
 }
 
-// True if a file whose first bytes are `start` is empty or begins as a log.
 fn may_begin_log(start: &[u8]) -> bool
     ensures { result ≡ false → BeginsNoLog start.now }
 {

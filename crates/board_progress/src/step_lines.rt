@@ -16,7 +16,6 @@ pub struct Counts {
 }
 
 impl Counts {
-    /// Counts one more transaction of this step, and returns the step's new count.
     pub fn count(&mut self, step: Step) -> u64 {
         let count = match step {
             Step::Identify => &mut self.identify,
@@ -36,7 +35,7 @@ impl Counts {
 #[derive(Clone, Copy, Drop)]
 pub struct PlainLine {
     pub step: Step,
-    /// How many of its transactions the bus was asked to carry out so far.
+    /// How many transactions of the step the bus was asked to carry out so far.
     pub count: u64,
     /// How many sectors a scan or a comparison reads, if that is known.
     pub expected: Option<u64>,

@@ -59,7 +59,6 @@ impl Step {
         }
     }
 
-    /// Returns the step's name.
     pub fn name(self) -> &'static str {
         match self {
             Step::Identify => "identify",
@@ -72,7 +71,6 @@ impl Step {
         }
     }
 
-    // Returns the nouns for one and for several of what the step counts.
     fn nouns(self) -> (&'static str, &'static str) {
         match self {
             Step::Identify => ("ID", "IDs"),
@@ -104,7 +102,6 @@ pub struct Tally {
 }
 
 impl Tally {
-    /// Counts one more operation, of this number of bytes, which took this number of microseconds.
     pub fn add(&mut self, bytes: u64, micros: u64) {
         self.done = self.done.saturating_add(1);
         self.bytes = self.bytes.saturating_add(bytes);
@@ -118,12 +115,11 @@ pub enum Total {
     Unknown,
     AtMost(u64),
     Exactly(u64),
-    /// As many as are done.
+    /// The number of operations that are done.
     Done,
 }
 
 impl Total {
-    /// Returns this total, or `Unknown` if more operations are done.
     fn unless_exceeded(self, done: u64) -> Total {
         match self {
             Total::AtMost(total) | Total::Exactly(total) if done > total => Total::Unknown,
@@ -132,10 +128,8 @@ impl Total {
     }
 }
 
-/// The line that shows a step. While its operations are performed the line is so short that it fits into a row: with
-/// the percentage, the rate and the time left if the total is known, otherwise with the number of operations, and the
-/// time that is left at most or has passed. When they are done, it has the number, the rate and the time that they
-/// took.
+/// The line that shows a step: the percentage and rate if the total number of its operations is known, otherwise the
+/// number so far; then the time left or passed. When all are done, the line has their number, rate and duration.
 #[derive(Clone, Copy, Drop)]
 pub struct StepLine {
     pub step: Step,
@@ -192,7 +186,6 @@ impl fmt::Display for StepLine {
     }
 }
 
-// The rate at which data bytes were transferred, after a comma; or nothing, if none were.
 #[derive(Clone, Copy, Drop)]
 struct RateOf(Tally);
 

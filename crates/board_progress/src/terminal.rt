@@ -22,8 +22,7 @@ const ERASE_TO_END: &str = "\x1b[K";
 const WAITING: &str =
     "Waiting for the programmer. No reply in 10 s? Ctrl-C; see flashnor-serprog(8).";
 
-/// What all copies of a `Terminal` share: the row of the screen, what was announced, how fast data was read, and the
-/// log.
+/// What all copies of a `Terminal` share.
 #[derive(Drop)]
 pub struct Screen {
     known: Cell<Known>,
@@ -42,7 +41,6 @@ struct Known {
 #[derive(Clone, Copy, PartialEq)]
 enum Row {
     Empty,
-    // shows that the run waits for its programmer, until the next output
     Waiting,
     Progress,
 }
@@ -88,7 +86,7 @@ pub enum Look {
     Minutes,
 }
 
-/// Standard error, with how the progress of a job is shown on it, and the log, which receives each line in any case.
+/// Standard error, with how the progress of a job is shown on it, and the log of the run.
 #[derive(Clone, Copy)]
 pub struct Terminal<'a> {
     rt: &'a HostRuntime,
@@ -101,8 +99,8 @@ pub struct Terminal<'a> {
 
 impl<'a> Terminal<'a> {
     /// Returns the terminal at standard error. `Auto` chooses one line on a terminal, lines on another character
-    /// device, and otherwise at most one line a minute. `Plain` and `Hidden` apply in any case, and so do the lines of
-    /// `-V` (`is_verbose`).
+    /// device, and otherwise at most one line per minute. `Plain` and `Hidden` apply in any case, and so do the lines
+    /// of `-V` (`is_verbose`).
     pub fn new(
         rt: &'a HostRuntime,
         screen: &'a Screen,
@@ -261,7 +259,7 @@ impl<'a> Terminal<'a> {
         self.screen.known.set(Known { row, ..known });
     }
 
-    /// Writes a line to the log. If progress is shown, also prints it.
+    /// Writes a line to the log. With `Look::Plain` and `Look::Line`, also prints it.
     pub fn print<T: fmt::Display>(&self, text: &T) {
         if matches!(self.look, Look::Plain | Look::Line) {
             self.end_line();
@@ -352,7 +350,6 @@ fn fit(text: &str, columns: usize) -> &str {
     }
 }
 
-// `COLUMNS`, or less if the environment says so.
 fn columns_of(rt: &HostRuntime) -> usize {
     let Ok(columns) = env::var(rt, "COLUMNS") else {
         return COLUMNS;

@@ -10,7 +10,6 @@ pub not_that : (nature : Nature) (one : Option (Bor Text)) (file : Bor Text) →
     → IsNot nature one file.now
 not_that nature one file two = grind arith
 
--- Holds if each file whose name is apart from `one` and `other` is as it was.
 abbrev pub StayApart : (one other : Option (Bor Text)) → (old new : FilesState) → Type 0
 StayApart one other old new = (any : Name) → IsNot old.view.nature one any → IsNot old.view.nature other any
     → KeepsFile any old new

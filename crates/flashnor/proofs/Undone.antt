@@ -111,7 +111,6 @@ module _ (programmer : Programmer) (file : Text) (start : FilesState) (first : O
         same_journal restorable.journal journal 16793662 restorable.sound is (reads (known_at_rest rest file)
         ∙ ap (option_map (take 16793662)) (restorable.left (mid.view.seen file) (may_stay file)))
 
-    -- `found` is the chip that the run opens from the files `mid`.
     module _ (found : Opened other mid) where
       one_setup : found.bus.chip.config ≡ first.bus.chip.config
       one_setup =

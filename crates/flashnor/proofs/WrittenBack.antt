@@ -79,7 +79,6 @@ module _ {programmer : Programmer} {image_there status_there : Bool} {had bits :
     status_put = grind (arith, other_write_keeps);
   }
 
-  -- the lemma `both_put` for the names that the last looks return
   pub both_looked : {image' status' : Option (Bor Text)} → Looks programmer.image image image' c.view
       → Looks programmer.status status status' c.view → AreWrittenBack programmer chip image' status' c
   unfolding both_put

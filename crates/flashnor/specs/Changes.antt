@@ -90,7 +90,6 @@ ReportsRehearsal request image stops chip vault (answer.Rehearsed rehearsal) =
     IsRehearsed request image stops chip vault rehearsal
 ReportsRehearsal request image stops chip vault _ = ⊥
 
--- Holds for a rehearsal at every exit: the chip is as before.
 pub record HasRehearsed (request : Request) (image stops : List ℕ) (old new : BusState) (vault vault' : VaultState)
     (outcome : Result Answer Refusal) : Type 0 where
   pub same : IsSame old.chip new.chip
@@ -103,7 +102,6 @@ IsKeptIn (uses.Journal file) vault vault' files =
     is_lawful files.view ≡ true → IsKeptFile file.now vault' files
 IsKeptIn (uses.Rehearse stops) vault vault' files = vault.telling ≡ true
 
--- Holds for the result of a change or of a rehearsal. `vault` and `vault'` are its vault before and after.
 abbrev pub HasDone : Request → List ℕ → JournalUse → (old new : BusState) → (vault vault' : VaultState)
     → Result Answer Refusal → Type 0
 HasDone request image (uses.Journal file) old new vault vault' outcome =
@@ -140,7 +138,6 @@ abbrev pub HasGivenName : Option ChipName → Chip → Type 0
 HasGivenName None chip = ⊤
 HasGivenName (Some name) chip = IsNamed (Some name) chip.config
 
--- Holds after an identification that found the given name, if there is one.
 pub record Passes (named : Option ChipName) (old new : BusState) : Type 0 where
   pub same : IsSame old.chip new.chip
   pub modelled : IsModelled new

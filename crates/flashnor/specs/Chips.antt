@@ -28,7 +28,6 @@ IsConfigWith chip None config = IsConfigOfEmulated chip config
 IsConfigWith chip (Some unique) config =
     IsConfigOfEmulated chip (record config { unique = replicate 8 0 }) × (config.unique ≡ unique)
 
--- the number of transactions that the bus carries out
 abbrev pub allowance_of : Programmer → ℕ
 allowance_of programmer = unwrap_or programmer.stop 18446744073709551615
 
@@ -49,7 +48,6 @@ pub record IsContentOf (view : View) (programmer : Programmer) (content : Conten
       (replicate (emulated_part programmer.chip).size 255) content.bytes.items
   pub status : AreOfFile view programmer.status 2 (0 ∷ 0 ∷ []) content.status
 
--- Holds if the chip has the bytes of `content`, and its non-volatile status bits and write enable latch.
 pub record HasContent (content : Content) (chip : Chip) : Type 0 where
   pub bytes : (a : ℕ) → chip.bytes a ≡ slice_index content.bytes.items a
   pub kept : chip.kept ≡ kept_in content.status

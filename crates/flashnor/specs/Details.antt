@@ -25,7 +25,6 @@ abbrev pub unit_line : (journal chip : ℕ) → List ℕ
 unit_line journal chip = concat (codes "error: the journal's unique ID is " ∷ unique_text journal
     ∷ codes ", and the chip's " ∷ unique_text chip ∷ codes "\n" ∷ [])
 
--- the line with what an error compared or the system's reason for it, or no bytes if nothing is known
 abbrev pub detail_line : Detail → List ℕ
 detail_line detail.Unsaid = []
 detail_line detail.NoName = codes "error: no known chip has the name of -c (see -L)\n"

@@ -78,11 +78,9 @@ pub record HasPrinted (wording : Wording) (detail : Detail) (outcome : Result An
   pub no_errors : (IsAnswered outcome → ⊥) → (to ≡ at.Errors → ⊥) → err' ≡ err
   pub silent : IsAnswered outcome → ending.printed ≡ true → unwritten ≡ all_written → err' ≡ err
 
--- Holds if some `Ending` satisfies the predicate and has this exit status.
 abbrev pub EndsWith : (Ending → Type 0) → ℕ → Type 0
 EndsWith IsEnding status = (ending : Ending) × IsEnding ending × (status ≡ ending.status)
 
--- Holds for the end of a run to which the system could not provide the arguments.
 pub record IsUnread (error : Error) (wording : Wording) (out out' err err' : Option (List ℕ))
     (ending : Ending) : Type 0 where
   pub fault : Fault

@@ -25,13 +25,11 @@ abbrev pub was : (there : Bool) → List ℕ → Found
 was true bytes = Some bytes
 was false bytes = None
 
--- Holds after both files of the chip were locked and read: no file changed, and what was found is durable.
 pub record AreHeld (programmer : Programmer) (held : Held) (old new : FilesState) : Type 0 where
   pub stay : AllStay old new
   pub image : MakesDurable programmer.image (was held.image_there held.content.bytes.items) new
   pub status : MakesDurable programmer.status (was held.status_there held.content.status) new
 
--- Holds if `held` has bytes FFh for a missing image, and zeros for a missing status file.
 pub record FillsMissing (programmer : Programmer) (held : Held) : Type 0 where
   pub image : held.image_there ≡ false
       → held.content.bytes.items ≡ replicate (emulated_part programmer.chip).size 255

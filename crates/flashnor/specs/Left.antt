@@ -31,7 +31,6 @@ pub record IsOpenedFrom (image status : Found) (setup : Config) (chip : Chip) : 
   pub kept : chip.kept ≡ kept_in (unwrap_or status (0 ∷ 0 ∷ []))
   pub idle : chip.busy ≡ 0
 
--- Holds if a host crash can leave nothing under the name `file` except the encoding of this journal.
 abbrev pub LeavesOneJournal : (file : Text) → Journal → FilesState → Type 0
 LeavesOneJournal file journal files = (left : Found) → files.may_leave file left → left ≡ Some (text journal)
 
@@ -59,7 +58,6 @@ pub record IsRestorableFrom {programmer : Programmer} {old : FilesState} (file :
   pub left : LeavesOneJournal file journal files
   pub back : LeavesOnly first (CanRestore journal first.bus.chip) files
 
--- Holds if `name` is apart from the names of the programmer's image, status file and trace.
 pub record IsNoFileOf (nature : Nature) (programmer : Programmer) (name : Text) : Type 0 where
   pub image : IsNot nature programmer.image name
   pub status : IsNot nature programmer.status name

@@ -27,7 +27,6 @@ ReportsEmulatedSize programmer named (answer.Size size) =
     HasName named programmer.chip × (size ≡ (emulated_part programmer.chip).size)
 ReportsEmulatedSize programmer named _ = ⊥
 
--- Holds after an identification of the emulated chip that sent no modifying command.
 pub record IdentifiesEmulated (reports : Answer → Type 0) (programmer : Programmer) (named : Option ChipName)
     (old new : BusState) (outcome : Result Answer Refusal) : Type 0 where
   pub only_reads : OnlyReads most_probe old new

@@ -36,7 +36,6 @@ pub record FilesHaveOneRole (nature : Nature) (job : ChipJob) : Type 0 where
   pub layout_journal : AreTwo nature (named_by job.task).layout (named_by job.task).journal
   pub wanted_journal : AreTwo nature (named_by job.task).wanted (named_by job.task).journal
 
--- Holds if the trace's name is apart from each other name of a session.
 pub record HasOwnTrace (nature : Nature) (job : ChipJob) : Type 0 where
   pub image : AreTwo nature job.programmer.image job.programmer.trace
   pub status : AreTwo nature job.programmer.status job.programmer.trace
@@ -85,7 +84,6 @@ abbrev pub IsTwice : Nature → ChipJob → Fault → Type 0
 IsTwice nature job fault = (earlier later : Role) × (must_differ job earlier later ≡ true)
     × IsShared nature (file_with_role job earlier) (file_with_role job later) fault
 
--- Holds if a file of the job has this name, and the program may print to it.
 abbrev pub IsPrintedName : Nature → ChipJob → Text → Type 0
 IsPrintedName nature job name = (role : Role) × IsSomeAnd (file_with_role job role) (λ of.
     (name ≡ of.now) × (nature.fails (Printed of.now) ≡ true))
@@ -104,7 +102,6 @@ IsWithoutStream nature job fault = (changes_files job ≡ true) × IsUnseenStrea
 abbrev pub IsUnseen : Nature → ChipJob → Fault → Type 0
 IsUnseen nature job fault = (role : Role) × IsUnseenFile nature (file_with_role job role) fault
 
--- Holds for each fault of comparing a job's files with one another and with the standard streams.
 abbrev pub FailsFileRoles : Nature → ChipJob → Fault → Type 0
 FailsFileRoles nature job fault = IsTwice nature job fault
     ⊎ (IsStream nature job fault ⊎ (IsUnseen nature job fault ⊎ IsWithoutStream nature job fault))

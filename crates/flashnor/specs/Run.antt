@@ -76,7 +76,8 @@ pub record DoesRead (view after : View) (named : Option ChipName) (file : Text) 
   pub included : AreRangesOf view None regions ranges
   pub read : HasReadOut named file ranges old new after outcome
 
--- Holds for the result of comparing the chip with the image. One byte more is read than the largest chip has.
+-- Holds for the result of comparing the chip with the image. At most one byte more than the largest chip has is read
+-- from the image's file.
 pub record DoesVerify (view : View) (named : Option ChipName) (file : Text) (regions : Option Regions)
     (old new : BusState) (outcome : Result Answer Refusal) : Type 0 where
   pub ranges : Option (List Span)
@@ -85,7 +86,8 @@ pub record DoesVerify (view : View) (named : Option ChipName) (file : Text) (reg
   pub read : IsRead view file 16777217 image
   pub verified : HasVerified named ranges image old new outcome
 
--- Holds for the result of a restore from the valid journal in the file. One byte more is read than the longest one has.
+-- Holds for the result of a restore from the valid journal in the file. At most one byte more than the longest journal
+-- has is read from the file.
 pub record DoesRestore (view : View) (named : Option ChipName) (file : Text) (old new : BusState)
     (outcome : Result Answer Refusal) : Type 0 where
   pub journal : Journal
@@ -93,7 +95,6 @@ pub record DoesRestore (view : View) (named : Option ChipName) (file : Text) (ol
   pub read : IsRead view file 16793662 (text journal)
   pub restored : HasRestoredEmulated journal named old new outcome
 
--- Holds for the result of a task's call to the engine, on a bus to the emulated chip.
 abbrev pub DoesJob : View → FilesState → Programmer → Option ChipName → Task → (old new : BusState)
     → Result Answer Refusal → Type 0
 DoesJob view after programmer named task.Probe old new outcome =
@@ -125,7 +126,6 @@ pub record IsViewBut (trace : Option (Bor Text)) (old amid : View) : Type 0 wher
   pub stays : (name : Name) → IsNot old.nature trace name → IsKnownFile name old
       → (amid.out name ≡ old.out name) × (amid.seen name ≡ old.seen name)
 
--- Holds if the call had this outcome, with the sources that are read after the trace was created (`amid`).
 abbrev pub DoesTraced : (files after : FilesState) → ChipJob → (old new : BusState) → Result Answer Refusal → Type 0
 DoesTraced files after job old new outcome = (amid : View) × IsViewBut job.programmer.trace files.view amid
     × DoesJob amid after job.programmer job.named job.task old new outcome
@@ -167,7 +167,6 @@ FailsToKeep view (uses.Rehearse stops) fault = ⊥
 abbrev pub FailsToRestore : View → Text → Fault → Type 0
 FailsToRestore view name fault = IsSharingFault view name 16793662 fault ⊎ IsInvalid view name fault
 
--- Holds for the faults of a task that occur before its call to the engine.
 abbrev pub FailsTask : View → Task → Fault → Type 0
 FailsTask view (task.Read file regions) fault =
     FailsToInclude view None regions fault ⊎ IsMaking view file.now fault
@@ -188,7 +187,6 @@ FailsTraced view on_chip fault = IsSomeAnd on_chip.programmer.trace (λ name. Is
     ⊎ (FailsFileRoles view.nature on_chip fault
     ⊎ ((amid : View) × IsViewBut on_chip.programmer.trace view amid × FailsTask amid on_chip.task fault))
 
--- Holds for the faults of a job that occur before its call to the engine.
 abbrev pub FailsJob : View → ChipJob → Fault → Type 0
 FailsJob view on_chip fault = FailsFileRoles view.nature on_chip fault
     ⊎ (FailsToStart (writes_back on_chip.task) view on_chip.programmer fault
@@ -228,7 +226,6 @@ pub record HoldsTarget (programmer : Programmer) (named : Option ChipName) (chan
   pub image : List ℕ
   pub buffer : IsAskedOf old.view change.wanted (emulated_part programmer.chip).size image
   pub target : ReportsChange (request_for change named ranges) image first.bus last found
-  -- the files hold the target chip and the journal
   pub held : AreWrittenBack programmer last.chip None None new
   pub restorable : IsRestorableFrom file first new
   pub durable : IsDurable file (Some (text restorable.journal)) new
@@ -271,7 +268,6 @@ HoldsResult job unwritten (Err fault) old new = ⊤
 
 -- ---- how jobs and runs end
 
--- Holds if a job ends with the result of its call to the engine, or with a fault before the call.
 abbrev pub EndsChipJob : (files after : FilesState) → ChipJob → Unwritten → Result Answer Fault → Type 0
 EndsChipJob files after on_chip unwritten (Ok found) = IsCalled files after on_chip unwritten (Ok found)
 EndsChipJob files after on_chip unwritten (Err (end.Refused refusal)) =

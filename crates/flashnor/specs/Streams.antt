@@ -16,7 +16,6 @@ IsReportedTo nature fault to.Errors = ⊤
 IsReportedTo nature (end.File file.Taken of cause) where_to = nature.fails (Printed of.now) ≡ true
 IsReportedTo nature fault where_to = ⊥
 
--- Holds if `text` was appended to the selected stream.
 abbrev pub AppendsTo : Reports → (out out' err err' : Option (List ℕ)) → List ℕ → Type 0
 AppendsTo to.Errors out out' err err' text = Appends err err' text
 AppendsTo to.Output out out' err err' text = Appends out out' text

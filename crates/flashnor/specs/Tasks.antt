@@ -12,7 +12,6 @@ abbrev pub keeps_journal : JournalUse → Bool
 keeps_journal (uses.Journal file) = true
 keeps_journal (uses.Rehearse stops) = false
 
--- True if the chip is written back to its files after the call.
 abbrev pub writes_back : Task → Bool
 writes_back (task.Change change) = keeps_journal change.journal_use
 writes_back (task.Restore journal) = true

@@ -32,7 +32,6 @@ NameOne None None = ⊤
 NameOne (Some one) (Some other) = other.now ≡ one.now
 NameOne _ _ = ⊥
 
--- Holds if the two programmers have the same chip, unique ID, image and status file.
 pub record HaveOneChip (one other : Programmer) : Type 0 where
   pub chip : other.chip ≡ one.chip
   pub unique : other.unique ≡ one.unique

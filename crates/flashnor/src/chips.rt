@@ -13,7 +13,6 @@ use nor_console::{Cause, Fault, FileFault, erased, reading, unread_by};
 use nor_files::Store;
 use std::alloc::{AllocError, Global};
 
-/// The initial contents of a chip: all its bytes and its two status bytes.
 #[derive(Drop)]
 pub struct Content {
     pub bytes: Vec<u8>,
@@ -114,7 +113,6 @@ pub fn start(programmer: &Programmer<'_>, content: Content) -> SimBus
     bus
 }
 
-// Returns a bus that carries out no transaction yet, and that keeps the chip's power at a stop.
 fn hold(programmer: &Programmer<'_>, content: Content) -> SimBus
     requires { vec_len content.bytes ≡ (emulated_part programmer.now.chip).size }
     ensures held { HoldsFiles programmer.now content (⟦<SimBus as Bus>⟧.state result) }

@@ -63,7 +63,6 @@ fn read_all<'a, R: Store>(rt: &mut R, job: &ChipJob<'a>) -> Result<(), Fault<'a>
     Ok(())
 }
 
-/// Creates or opens the trace's file, if a trace is requested, and returns a buffered writer to the file.
 pub fn create_trace<'a, R: Store>(
     rt: &mut R,
     trace: Option<&'a str>,

@@ -23,7 +23,6 @@ use nor_files::{LockFault, Store};
 use std::io;
 use std::io::ErrorKind;
 
-/// The initial contents of the chip, and whether its image and its status file existed.
 #[derive(Drop)]
 pub struct Held {
     pub content: Content,
@@ -73,8 +72,7 @@ pub fn hold_content<'a, R: Store>(
     })
 }
 
-// Locks, reads and syncs a file of the chip, which must have `len` bytes. Returns `None` if no file is named, or if the
-// named file is missing. Syncs the directory of a named file even if the file is missing.
+// Syncs the directory of a named file even if the file is missing.
 fn hold_whole<'a, R: Store>(
     rt: &mut R,
     name: Option<&'a str>,
@@ -104,8 +102,7 @@ fn hold_whole<'a, R: Store>(
     }
 }
 
-// Reads a file of the chip that was found to exist, and syncs it. The file must have `len` bytes. Syncs its directory
-// too, since a run that created the file may have been killed before it synced the directory.
+// Syncs the directory too, since a run that created the file may have been killed before it synced the directory.
 fn read_held<'a, R: Store>(rt: &mut R, name: &'a str, len: u32) -> Result<Vec<u8>, Fault<'a>>
     ensures nature { (R.state rt.new).view.nature ≡ (R.state rt.old).view.nature }
     ensures len { IfOk result (λ bytes. vec_len bytes ≡ len) }
@@ -129,8 +126,7 @@ fn read_held<'a, R: Store>(rt: &mut R, name: &'a str, len: u32) -> Result<Vec<u8
     }
 }
 
-// Returns file fault 2: the file or its directory can't be synced. A sync of a locked file returns `NotFound` if its
-// name no longer refers to it.
+// A sync of a locked file returns `NotFound` if its name no longer refers to it.
 fn unsynced<'a>(error: &io::Error, name: &'a str) -> Fault<'a>
     ensures { IsUnmadeFault name.now result }
 {
@@ -164,11 +160,13 @@ pub fn lost_journal<'a, R: Store>(rt: &R, task: &Task<'a>) -> Option<&'a str>
     }
 }
 
-/// Writes the chip's bytes and status bytes to the files that are named. `image_there` and `status_there` say which of
-/// the files existed: such a file is overwritten in place, and a missing file is created. Writes the status file even
-/// if the image could not be written. Then looks at both files once more, because another program may have changed the
-/// image while the status file was written and synced. Returns the name of the image and the name of the status file,
-/// each only if that file could not be written, or if a later run won't find what was written (`Store::still_has`).
+/// Writes the chip's bytes and status bytes to the files that are named. A file that existed (`image_there`,
+/// `status_there`) is overwritten in place, and a missing file is created. The status file is written even if the image
+/// could not be written.
+///
+/// Then looks at both files once more, because another program may have changed the image while the status file was
+/// written and synced. Returns the name of the image and the name of the status file, each only if that file could not
+/// be written, or if a later run won't find what was written (`Store::still_has`).
 pub fn write_back<'a, R: Store>(
     rt: &mut R,
     programmer: &Programmer<'a>,
@@ -200,8 +198,6 @@ pub fn write_back<'a, R: Store>(
     (image, status)
 }
 
-// Looks once more at the file of this name, if one is given and it was written. `failed` is the name if it could not be
-// written. Returns the name if the file could not be written, or if a later run won't find what was written.
 fn last_look<'a, R: Store>(
     rt: &R,
     name: Option<&'a str>,
@@ -218,8 +214,6 @@ fn last_look<'a, R: Store>(
     }
 }
 
-// Writes `bytes` to the file of this name, if one is given. A file that existed (`there`) is overwritten in place, and
-// a missing file is created. Returns the name if the write fails.
 fn write_if_named<'a, R: Store>(
     rt: &mut R,
     name: Option<&'a str>,
@@ -248,7 +242,6 @@ fn write_if_named<'a, R: Store>(
     }
 }
 
-// Overwrites a file in place, truncates it to the length of `bytes`, and syncs it.
 fn write_over<R: Store>(rt: &mut R, name: &str, bytes: &[u8]) -> io::Result<()>
     ensures nature { (R.state rt.new).view.nature ≡ (R.state rt.old).view.nature }
     ensures others { is_lawful (R.state rt.old).view ≡ true → OthersStay name.now (R.state rt.old) (R.state rt.new) }

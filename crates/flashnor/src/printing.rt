@@ -13,14 +13,12 @@ use nor_console::{
 };
 use std::io::Write;
 
-/// The writer for standard error, and the wording in which a run prints its faults.
 #[derive(Drop)]
 pub struct ErrorStream<E> {
     pub writer: E,
     pub wording: Wording,
 }
 
-/// How a run ended, and what it could print.
 #[derive(Clone, Copy)]
 pub struct Ending {
     /// The exit status: 0 if the answer or the help was printed and every file was written, otherwise 1.

@@ -61,7 +61,6 @@ pub fn look_at_sources<'a, R: Store>(rt: &R, job: &ChipJob<'a>) -> Result<(), Fa
     look_ahead(rt, file_with_role(job, Role::Wanted))
 }
 
-/// Returns the name of the file that a job has in this role, or `None` if it names none.
 pub fn file_with_role<'a>(job: &ChipJob<'a>, role: Role) -> Option<&'a str>
     ensures { result ≡ file_with_role job.now role }
 {

@@ -32,7 +32,7 @@ use std::io::Write;
 use std::rt::Files;
 
 /// Performs the job given by the arguments (the first is the program's name), or prints the help. Returns the exit
-/// status: 0, or 1 after a fault or if not all results could be printed.
+/// status: 0, or 1 after a fault, or if the result could not be printed or a file could not be written.
 ///
 /// Results are printed to `output`, and faults to `errors`. If standard error prints to a file of the job, the fault
 /// that reports this is printed to `output`, unless standard output prints to such a file, too. If `given` is an error
@@ -127,7 +127,6 @@ pub fn run_over<R: Store, O: Write, E: Write>(
     print_end(output, errors, answer, unwritten, to, detail)
 }
 
-// The result of a run's work, the names of the files that were not written or were lost, and what an error compared.
 #[derive(Drop)]
 struct Work<'a> {
     answer: Result<Answer, Fault<'a>>,

@@ -9,7 +9,6 @@ use nor_args::ChipJob;
 use nor_console::{Cause, Fault, Role, found_streams, is_printed, taken_by};
 use nor_files::{Store, Stream};
 
-/// Where the message of a fault is printed.
 #[derive(Clone, Copy)]
 pub enum Reports {
     /// To standard error.

@@ -24,7 +24,6 @@ abbrev pub form_of_shown : Regions → (file : Option (Bor Text)) → Option Lay
 form_of_shown regions None = Some regions.form
 form_of_shown regions (Some file) = None
 
--- the form of the layout of these regions, if the layout is on the chip
 abbrev pub form_on_chip : Option Regions → Option LayoutForm
 form_on_chip None = None
 form_on_chip (Some regions) = form_of_shown regions regions.layout
@@ -64,8 +63,8 @@ pub record HasNoLayout (named : Option ChipName) (layout : LayoutForm) (old new 
 abbrev pub FailsToReadShown : Option ChipName → LayoutForm → (old new : BusState) → Fault → Type 0
 FailsToReadShown named layout old new fault = FailsToFind named old new fault ⊎ HasNoLayout named layout old new fault
 
--- Holds if `bytes` were read for a layout of this form over a bus of their own, from `start` to `last`. This bus
--- expects no image, so it reads all data twice, and no modifying command was sent over it.
+-- Holds if `bytes` were read for a layout of this form over a bus of its own, from `start` to `last`. This bus expects
+-- no image, so it reads all data twice, and no modifying command was sent over it.
 pub record IsReadFirst (state : Connected → BusState) (device : Text) (named : Option ChipName) (layout : LayoutForm)
     (bytes : List ℕ) : Type 0 where
   pub start : Connected

@@ -68,7 +68,7 @@ abbrev pub HasPrintedAnswer : Operation → Result Answer JobFault → (out out'
 HasPrintedAnswer operation (Ok found) out out' = Prints (AreJobLines operation found) out out'
 HasPrintedAnswer operation (Err fault) out out' = ⊥
 
--- Holds if this was sent after a job: nothing after an answer, and no modifying command after a fault.
+-- Holds if nothing was sent after an answer, and no modifying command after a fault.
 abbrev pub LooksAfter : Result Answer JobFault → (ended new : BusState) → Type 0
 LooksAfter (Ok found) ended new = new ≡ ended
 LooksAfter (Err fault) ended new = KeepsSent ended new
@@ -104,7 +104,7 @@ abbrev pub AsksForHelp : Trouble → Type 0
 AsksForHelp (trouble.Fault fault) = IsAnswered (Err fault) ⊎ AsksForVersion fault
 AsksForHelp _ = ⊥
 
--- Holds if a trouble that is a request for the help or the version comes from arguments that ask for it.
+-- Holds if a run that ends with the help or the version has arguments that ask for it.
 abbrev pub IsHelpAskedBy : List Text → Trouble → Type 0
 IsHelpAskedBy words ended = AsksForHelp ended → ArgumentsAskForHelp words
 
@@ -140,8 +140,8 @@ pub record HasChecked (before after : View) (words : List Text) : Type 0 where
   pub asked : IsHardwareJob program words (hardware.CheckJournal file image)
   pub described : HasDescribed before file.now after image
 
--- Holds if a run may end with exit status 0: for help, version or list, for a sound journal, or for a job that ended
--- with status 0 on the bus `used`.
+-- Holds if a run may end with exit status 0: for help, version or list, for a sealed and undamaged journal, or for a
+-- job that ended with status 0 on the bus `used`.
 abbrev pub HasSucceeded : (state : Connected → BusState) → (files after : FilesState) → List Text
     → (used : Option Connected) → (out out' : Option (List ℕ)) → Type 0
 HasSucceeded state files after words used out out' = (ArgumentsAskForHelp words

@@ -10,7 +10,6 @@ use Rattle.flashnor_serprog.specs.declared.setting.Setting.{Setting}
 use Rattle.flashnor_serprog.specs.declared.setting.WrongSetting.{WrongSetting}
 use Rattle.flashnor_serprog.specs.declared.setting.WrongSetting.TheVariants.{Network, BaudRate, Flawed, NoDevice, NoPrefix}
 
--- the number of a chip select, from 0 to 255
 abbrev pub chip_select_of : Text → Option ℕ
 chip_select_of text = option_and_then
     (λ number. if nat_le number 255 then Some number else None) (decimal_number text)
@@ -42,7 +41,6 @@ first_wrong settings = find (is_wrong settings) settings
 abbrev pub names_network : Text → Bool
 names_network = has_key (codes "ip")
 
--- Holds if `text` is `device`, a colon, and the decimal number `rate`.
 pub record HasRate (text device rate : Text) : Type 0 where
   pub parts : text ≡ device ++ 58 ∷ rate
   pub number : reads decimal_number rate ≡ true
@@ -77,8 +75,8 @@ IsWrongBy setting (Flawed given flaw) = (names_network setting ≡ false) × (gi
     × (flaw ≡ flaw_by (has_serprog_key setting) (is_serprog_setting setting))
 IsWrongBy setting _ = ⊥
 
--- Holds if this is the reason why the value of `-p` describes no programmer. A device with a baud rate is one only if
--- no setting is wrong.
+-- Holds if this is the reason why the value of `-p` describes no programmer. A baud rate is the reason only if no
+-- setting is wrong.
 abbrev pub IsWrongSetting : Text → WrongSetting → Type 0
 IsWrongSetting text NoPrefix = names_serprog text ≡ false
 IsWrongSetting text Network = (setting : Text) × HasFirstWrong text setting × IsWrongBy setting Network

@@ -4,7 +4,6 @@ use Rattle.board_files.specs.declared.early_ends.EarlyEnd.TheVariants as early
 use Rattle.flashnor_serprog.specs.declared.trouble.Trouble.{Trouble}
 use Rattle.flashnor_serprog.specs.declared.trouble.Trouble.TheVariants as trouble
 
--- a fault that `flashnor` reports too stays such a fault
 abbrev pub of_early : EarlyEnd → Trouble
 of_early (early.Fault fault) = trouble.Fault fault
 of_early ended = trouble.Early ended

@@ -29,8 +29,9 @@ const DESCRIPTOR: Span = Span {
 
 const READING: &str = "Reading the layout from the chip.";
 
-/// If the layout of the task is on the chip, reads it over a connection that ends here: for a flash descriptor the
-/// first 4 KiB (FFh elsewhere), for an FMAP the whole chip. Otherwise returns `None`, and uses no programmer.
+/// If the layout of the task is on the chip, reads it over a connection that is closed afterwards: for a flash
+/// descriptor the first 4 KiB (FFh elsewhere), for an FMAP the whole chip. Otherwise returns `None`, and uses no
+/// programmer.
 ///
 /// No modifying command is sent, and all data is read twice. Returns the faults of `connect_by`. A fault of the chip or
 /// of the bus, or of a port that seems to change bytes, is printed with its cause (`Trouble::Printed`).
@@ -51,7 +52,7 @@ pub fn read_shown<'a, 'b, E: Write>(
     }
 }
 
-/// Returns the form of the task's layout if it is on the chip, or `None`.
+/// Returns the form of the task's layout, or `None` if the layout isn't on the chip.
 pub fn form_on_chip(task: &Task<'_>) -> Option<LayoutForm>
     ensures { result ≡ form_on_chip (regions_of task.now) }
 {

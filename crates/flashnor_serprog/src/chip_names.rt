@@ -3,7 +3,7 @@
 use nor_probe::{ChipName, part_for};
 use std::fmt;
 
-/// The name in the row for this ID, or `SFDP` without a row, and then the ID.
+/// The chip's name in the table of chips, or `SFDP` if the table has no row for this ID, and then the ID.
 #[derive(Clone, Copy, Drop)]
 pub struct ChipText(pub [u8; 3]);
 

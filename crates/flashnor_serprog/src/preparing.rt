@@ -30,7 +30,6 @@ use std::io::Write;
 /// The files of an operation, which were read, and its programmer, which was identified.
 #[derive(Drop)]
 pub struct Prepared<'a, 'b> {
-    /// The regions with a file of their own.
     pub regions: Vec<RegionFile<'a>>,
     /// The included region that has the greatest address.
     pub farthest: Option<Farthest<'a>>,
@@ -42,7 +41,7 @@ pub struct Prepared<'a, 'b> {
 /// (`plain_names`). The steps:
 ///
 /// 1. Check that no file has two roles, that the file of a backup is new, and that the log may be overwritten.
-/// 2. If the layout is on the chip, check the image and the journal's name, and then read the layout (`read_shown`).
+/// 2. If the layout is on the chip, check the image or the journal, and then read the layout (`read_shown`).
 /// 3. Find the included addresses, check the files of regions, and read and check the image or the journal.
 /// 4. Start the log, print what `--replaced-chip` does, and identify the programmer for the job.
 #[tactic(auto, using(crate::proofs::LogMade::log_steps))]
@@ -106,8 +105,8 @@ fn checks_for(operation: &Operation<'_>) -> Checks {
 // Returns the rules of the bus for this operation. `bytes` has the journal of a restore.
 //
 // A change and a backup, which make a journal, need a chip that erases sectors of 4 KiB everywhere, because a restore
-// erases such sectors. They save QE as 0 if it is bit 6 of status 1, and a unique ID that is none as zeros. A restore
-// follows its journal: older versions of this program saved QE, and a missing unique ID as it was read.
+// erases such sectors. They save QE as 0 if QE is bit 6 of status 1, and a missing unique ID as zeros. A restore
+// follows its journal, because older versions of this program saved both as they were read.
 fn rules_for(operation: &Operation<'_>, bytes: &[u8]) -> Rules {
     let reading = Rules::reading();
     let checks = checks_for(operation);
@@ -132,8 +131,8 @@ fn rules_for(operation: &Operation<'_>, bytes: &[u8]) -> Rules {
     }
 }
 
-// Returns the ID of the chip from which a journal was made, if its session read a status 2 other than 00h. Then 35h was
-// sent to this chip before. A session of a chip that isn't known to have 35h stores 00h.
+// Returns the ID of the journal's chip if the journal has a status 2 other than 00h. Then the chip is known to have the
+// opcode 35h: for any other chip, a session saves 00h.
 fn id_before(journal: &Journal<'_>) -> Option<[u8; 3]> {
     if journal.status()[1] != 0 {
         Some(journal.id())
@@ -142,7 +141,7 @@ fn id_before(journal: &Journal<'_>) -> Option<[u8; 3]> {
     }
 }
 
-// Returns each byte of the unique ID of a chip that has none, as a journal with this unique ID shows it.
+// Returns each byte of a missing unique ID: FFh if this journal has only such bytes, and otherwise 0.
 fn missing_in(unique: Option<[u8; 8]>) -> u8 {
     let Some(bytes) = unique else {
         return 0;
@@ -153,7 +152,7 @@ fn missing_in(unique: Option<[u8; 8]>) -> u8 {
 // Bit 6 of status 1, which is QE on some chips.
 const BIT6: u8 = 0x40;
 
-// The log of the session that a restore undoes may be needed.
+// A restore keeps the log of the session that it undoes, which may be needed.
 fn keeps_log(operation: &Operation<'_>) -> bool {
     matches!(operation.task, Task::Restore { .. })
 }

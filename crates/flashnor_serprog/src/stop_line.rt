@@ -12,7 +12,7 @@ use std::fmt;
 /// The line that follows the line of error 12.
 #[derive(Drop)]
 pub struct StopLine<'a> {
-    /// The two unique IDs, if the chip was another one before the first modifying command.
+    /// The two unique IDs, if another chip replied before the first modifying command.
     pub other: Option<OtherChip>,
     /// The reason why a transaction failed, if one did.
     pub failure: Option<&'a Failure<PortFault>>,

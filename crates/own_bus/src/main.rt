@@ -69,7 +69,6 @@ fn open<P: Port + Drop>(
     Ok(Paced::new(bus, rt))
 }
 
-// Runs the example without hardware.
 fn play(rt: &HostRuntime) -> Result<(), Fault> {
     let mut bus = open(rt, PlayedPort::new(erased_chip(rt.alloc())?))?;
     let found = probe(&mut bus, None)?;

@@ -122,7 +122,6 @@ impl Port for PlayedPort {
     }
 }
 
-/// The error of a transaction on wires that were cut.
 #[derive(Clone, Copy, Debug, PartialEq, Eq)]
 pub struct Cut;
 
@@ -142,7 +141,6 @@ pub struct PlayedWires {
 }
 
 impl PlayedWires {
-    /// Returns wires to this chip that are cut after `left` transactions.
     pub fn new(chip: SimBus, left: u64) -> PlayedWires {
         PlayedWires {
             chip,

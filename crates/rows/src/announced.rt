@@ -21,7 +21,6 @@ const ROWS: [(Row, (u32, u32), (u32, u32), u64); 8] = [
     (Row::AGuardedByteIsProgrammed, (1, 0), (1, 1), 5),
 ];
 
-// What a session with a given allowance left, and its announcement.
 #[derive(Drop)]
 struct Announced {
     bus: SimBus,

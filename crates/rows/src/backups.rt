@@ -19,7 +19,6 @@ const LENGTH: u64 = 23;
 
 const SECTORS: u32 = 16;
 
-// Saves the chip, and asserts that only reads are counted and each sector is saved.
 fn saved(rt: &impl Abort, alloc: Global, bus: &mut SimBus) -> MemVault {
     bus.allow(AMPLE);
     let mut vault = MemVault::new(alloc);
@@ -32,7 +31,7 @@ fn saved(rt: &impl Abort, alloc: Global, bus: &mut SimBus) -> MemVault {
     vault
 }
 
-// As commands that a chip receives with wrong addresses would do.
+// Erases a sector and programs a byte, as commands that reach the chip with a wrong address would.
 fn disturb(rt: &impl Abort, bus: &mut SimBus) {
     let sector = Erase {
         unit: EraseBlock::Sector,

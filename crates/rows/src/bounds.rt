@@ -37,7 +37,6 @@ impl Reading {
         }
     }
 
-    // The tests accept success and failure.
     fn ends(self, bus: &mut SpoiltBus<SimBus>, out: &mut MemVault, image: &[u8]) -> bool
         requires { (⟦<MemVault as Vault>⟧.state out.old).sealed ≡ false }
     {
@@ -49,7 +48,6 @@ impl Reading {
         }
     }
 
-    // Asserts that the chip is as before, with a clear write enable latch. Returns the number of transactions.
     fn sent(self, rt: &impl Abort, alloc: Global, row: Row, spoil: Spoil) -> u64 {
         let mut bus = spoilt(row.bus(rt, alloc, Start::IDLE), spoil);
         let mut out = MemVault::new(alloc);
@@ -64,7 +62,6 @@ impl Reading {
     }
 }
 
-// Asserts that each call sends from one transaction to its bound. Returns the number of calls.
 fn read_each(rt: &impl Abort, alloc: Global, row: Row, spoil: Spoil) -> u64 {
     let mut runs: u64 = 0;
     for reading in READINGS {
@@ -88,7 +85,6 @@ fn readings_on_faulty_buses(rt: HostRuntime) {
     assert_that!(&rt; runs == 23 * 4 * 4);
 }
 
-// `Lied::session` asserts the bound. Returns the number of runs.
 fn session_each(rt: &impl Abort, alloc: Global, row: Row, n: u8) -> u64 {
     let mut runs: u64 = 0;
     for spoil in lies(n) {

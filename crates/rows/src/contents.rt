@@ -26,7 +26,6 @@ impl Bytes {
     }
 }
 
-/// The contents of an erased chip.
 pub const ERASED: Bytes = Bytes {
     from: 0,
     count: 0,

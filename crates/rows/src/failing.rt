@@ -13,7 +13,8 @@ pub enum Fault {
     Stop,
     /// The bus inverts each bit of the reply.
     Spoil,
-    /// From this poll on, all polls among 65,536 transactions show BUSY, so the engine's wait that it begins times out.
+    /// From this poll on, the bus shows BUSY in all polls among 65,536 transactions, so the wait that begins with this
+    /// poll times out.
     Busy,
 }
 
@@ -27,8 +28,8 @@ pub struct OnceBus {
     allowed: u64,
     /// The number of requested transactions, including those that failed.
     pub asked: u64,
-    /// The first four bytes that transaction `after` sent, or its first byte and zeros if it sent fewer. Zeros before
-    /// it.
+    /// The first four bytes that transaction `after` sent, or its first byte and zeros if it sent fewer. All are zeros
+    /// before that transaction.
     pub met: [u8; 4],
     history: History,
 }

@@ -113,7 +113,6 @@ impl VaultFile for OnceFile {
     }
 }
 
-// Runs a row's session with its vault in a file. Asserts that the chip is unchanged after an error.
 fn keep(
     rt: &impl Abort,
     alloc: Global,
@@ -131,14 +130,12 @@ fn keep(
     (refusal, vault.into_inner())
 }
 
-// Asserts error 11 of a session whose write or sync fails.
 fn fail(rt: &impl Abort, alloc: Global, row: Row, most: usize, failure: Failure) -> OnceFile {
     let (refusal, file) = keep(rt, alloc, row, most, Some(failure));
     assert_that!(rt; refusal == Some(Refusal::Vault));
     file
 }
 
-// Write `n`, from 0, returns an error or accepts no bytes. Asserts that it is the last call on the file.
 fn fail_write(rt: &impl Abort, alloc: Global, row: Row, right: &OnceFile, n: usize) {
     for failure in [Failure::Write(n), Failure::Nothing(n)] {
         let file = fail(rt, alloc, row, right.most, failure);
@@ -146,8 +143,6 @@ fn fail_write(rt: &impl Abort, alloc: Global, row: Row, right: &OnceFile, n: usi
     }
 }
 
-// Asserts the number of writes and the length of the journal, and lets each write and then the sync fail. Asserts that
-// the failed sync follows all writes and isn't repeated.
 fn fail_at_each(rt: &impl Abort, alloc: Global, row: Row, most: usize, counted: (usize, usize)) {
     let (writes, length) = counted;
     let (refusal, right) = keep(rt, alloc, row, most, None);
@@ -178,7 +173,6 @@ fn a_file_that_fails_once_ends_the_session(rt: HostRuntime) {
     }
 }
 
-// The second write of two bytes fails. Asserts that the error counts the accepted bytes, and that no call follows.
 fn put_half(rt: &impl Abort, alloc: Global, failure: Failure) {
     let mut vault = FileVault::new(OnceFile::new(alloc, 2, Some(failure)));
     let told = vault.put(b"piece");
@@ -187,7 +181,6 @@ fn put_half(rt: &impl Abort, alloc: Global, failure: Failure) {
     assert_that!(rt; file.has(&[0, 2], Syncs::NONE, b"pi"));
 }
 
-// The sync fails. Asserts that the seal fails with 0 bytes kept, and that no call follows.
 fn put_all(rt: &impl Abort, alloc: Global) {
     let mut vault = FileVault::new(OnceFile::new(alloc, 5, Some(Failure::Sync)));
     let told = [vault.put(b"piece"), vault.seal()];

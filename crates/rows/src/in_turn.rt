@@ -9,7 +9,6 @@ use nor_session::{Refusal, session};
 use std::alloc::Global;
 use std::process::Abort;
 
-// Runs the second session, which writes the image of `row`. Returns what it left, and whether it ended.
 fn write_again(rt: &impl Abort, alloc: Global, bus: SimBus, row: Row, allowed: u64) -> (Cut, bool) {
     let mut bus = bus;
     bus.allow(allowed);
@@ -21,8 +20,6 @@ fn write_again(rt: &impl Abort, alloc: Global, bus: SimBus, row: Row, allowed: u
     (Cut { bus, vault }, refusal.is_none())
 }
 
-// Restores from the second journal, if it is sealed, and then from the first. If the restore with the allowance
-// `allowed` is stopped, another one follows.
 fn undo_both(rt: &impl Abort, second: Cut, first: MemVault, allowed: u64) -> SimBus {
     let mut second = second;
     if second.vault.is_sealed() && second.restore(rt, allowed).is_none() {
@@ -40,8 +37,6 @@ fn undo_both(rt: &impl Abort, second: Cut, first: MemVault, allowed: u64) -> Sim
     first.bus
 }
 
-// Runs the second session with the allowances 0, 1, .. until it ends, after `n` transactions of the first, and then
-// asserts that the restores leave the chip as before both. Returns its length.
 fn stop_second(rt: &impl Abort, alloc: Global, runs: &Runs, other: Row, n: u64) -> u64 {
     for m in 0..AMPLE {
         let Cut { bus, vault } = runs.cut(rt, n);

@@ -9,7 +9,6 @@ const LONGEST: usize = 4096;
 
 const PAGE: usize = 256;
 
-// True if no comparison finds a difference between a slice and itself.
 fn is_same_to_itself(length: usize) -> bool {
     let bytes = [0xA5u8; LONGEST];
     match bytes.get(..length) {

@@ -14,7 +14,6 @@ const TIMEOUT: Refusal = Refusal::Timeout { address: 0 };
 
 const MISMATCH: Refusal = Refusal::Mismatch { address: 0 };
 
-// Asserts the error and the number of transactions in `told`, and that a restore undoes the session if it was sealed.
 fn assert_lied(rt: &impl Abort, alloc: Global, row: Row, lied: Lied, told: (Refusal, u64)) {
     let (refusal, sent) = told;
     assert_that!(rt; lied.refusal == Some(refusal) && lied.sent == sent);
@@ -126,7 +125,6 @@ fn a_lie_before_the_seal_leaves_a_journal(rt: HostRuntime) {
     }
 }
 
-// True for success, and for an error that fits: a mismatch after a dropped transaction, or a timeout with BUSY.
 fn is_fitting(spoil: Spoil, refusal: Option<Refusal>) -> bool {
     match refusal {
         None => true,
@@ -136,8 +134,6 @@ fn is_fitting(spoil: Spoil, refusal: Option<Refusal>) -> bool {
     }
 }
 
-// Drops each transaction after the seal in turn, or shows BUSY from it on, and asserts that a restore undoes the
-// session. Returns the number of runs.
 fn lie_past_the_seal(rt: &impl Abort, alloc: Global, row: Row) -> u64 {
     let mut runs: u64 = 0;
     for n in row.sealed_at(Start::IDLE)..row.ends_at(Start::IDLE) {
@@ -170,8 +166,6 @@ fn any_lie_past_the_seal_is_undone(rt: HostRuntime) {
     }
 }
 
-// Drops each transaction of a restore in turn, or shows BUSY from it on, and asserts that another restore undoes the
-// session.
 fn lie_to_restores(rt: &impl Abort, alloc: Global, row: Row, stop: u64, length: u64) {
     let runs = Runs::new(rt, alloc, row, Start::IDLE);
     let sent = runs.cut(rt, stop).restore(rt, length);

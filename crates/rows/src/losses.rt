@@ -6,7 +6,6 @@ use std::alloc::Global;
 use std::io;
 use std::process::Abort;
 
-// Saves the bytes of the file `image` in a new journal. If it is sealed, overwrites `image` in place, and syncs it.
 fn change<S: Store>(files: &mut S) -> io::Result<()> {
     let mut journal = files.vault_in_new("journal")?;
     let _ = journal.put(b"abcd");

@@ -5,7 +5,6 @@ use nor_maps::{MapFault, read_descriptor, read_fmap};
 
 const LEN: usize = 4096;
 
-// The address of the first byte of a piece of an image, and its bytes.
 type Piece = (usize, &'static [u8]);
 
 // The pieces of an image, the size of the chip, and the expected regions (name, start and end of each) or fault.

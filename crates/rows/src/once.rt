@@ -31,7 +31,6 @@ enum Command {
 }
 
 impl Command {
-    // True if the function returned the stop, and left its buffer as it was.
     fn is_stopped(self, bus: &mut OnceBus) -> bool {
         match self {
             Command::Poll => poll(bus) == Err(Stopped),
@@ -58,8 +57,6 @@ impl Command {
         }
     }
 
-    // Stops the function at each of its `length` transactions in turn, and at last not at all. Asserts that it returns
-    // the stop and sends nothing after it.
     fn stop_at_each(self, rt: &impl Abort, alloc: Global, delays: Delays, length: u64) {
         for n in 0..=length {
             let bus = erased(rt, alloc, Config::tiny64(), [0x00, 0x00], delays);
@@ -125,7 +122,6 @@ const ON_W25Q64FV: [(Call, u64); 6] = [
     (Call::Restore, 5 + 2 + 4 * 5 + 2),
 ];
 
-// Asserts the number of transactions of each call, and that a stop at any of them ends the call.
 fn stop_each_call(rt: &impl Abort, alloc: Global, job: Job, lengths: [(Call, u64); 6]) {
     let stage = Stage::new(rt, alloc, job, Delays { now: 1, each: 1 });
     for (call, length) in lengths {
@@ -199,7 +195,6 @@ fn restore_after(sent: u64) -> Option<u64> {
     }
 }
 
-// The result of a rehearsal, and the number of all requested transactions.
 type Rehearsed = (Result<Rehearsal, Refusal>, u64);
 
 // The expected result on a bus that stops once, after `after` transactions: `Stopped` if no stop was given for this

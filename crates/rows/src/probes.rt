@@ -104,7 +104,6 @@ const NONE: Answer = Err(ProbeFault::NoChip);
 
 const UNKNOWN: Answer = Err(ProbeFault::UnknownChip(SfdpFault::Signature));
 
-// Probes the chip. Returns the result, and whether the transactions are exactly those of the trace `sent`.
 fn probed(
     rt: &impl Abort,
     alloc: Global,

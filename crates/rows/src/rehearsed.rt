@@ -11,7 +11,6 @@ use nor_session::{Refusal, Rehearsal, rehearse};
 use std::alloc::Global;
 use std::process::Abort;
 
-// Asserts that the chip is as before. Returns the result, and whether the vault is sealed.
 fn rehearsed(
     rt: &impl Abort,
     alloc: Global,

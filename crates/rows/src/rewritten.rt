@@ -75,8 +75,6 @@ fn undone(rt: &impl Abort, cut: &mut Cut, by_rewrite: bool) {
     assert_that!(rt; answer.is_ok());
 }
 
-// If the rewrite was stopped, rewrites or restores the chip. Asserts that the chip is then as before the session, and
-// that the rewrite was stopped if and only if the allowance is below its length.
 fn stop_a_rewrite(rt: &impl Abort, runs: &Runs, each: &Rewritten, allowed: u64, by_rewrite: bool) {
     let mut cut = runs.cut(rt, each.row.ends_at(Start::IDLE));
     let answer = run_rewrite(rt, &mut cut, allowed);

@@ -52,7 +52,6 @@ impl Cut {
     }
 }
 
-// Asserts that no error except a stop occurred.
 fn ended(rt: &impl Abort, answer: Result<Report, Refusal>) -> Option<u64> {
     match answer {
         Ok(report) => Some(report.transactions),

@@ -18,7 +18,6 @@ struct Reading {
     succeeds: bool,
 }
 
-// A successful read of the five sectors from address 0 on.
 const fn five_sectors(differing: &'static [usize], lines: &'static [u8]) -> Reading {
     Reading {
         out: [0x03, 0x00, 0x00, 0x00],
@@ -48,7 +47,6 @@ fn chip(rt: &impl Abort, alloc: Global) -> SimBus {
     chip
 }
 
-// Returns whether the transaction succeeded, and whether two reads differed.
 fn transact(
     inside: SpoiltBus<SimBus>,
     lines: &mut Vec<u8>,

@@ -17,7 +17,6 @@ fn a_programmer_is_identified(rt: HostRuntime) {
     assert_that!(&rt; programmer.frequency() == Some(12_000_000));
 }
 
-// Returns the text of the error, or `identified`.
 fn refusal(rt: &impl Abort, alloc: Global, model: Model) -> String {
     let mut link = Link::new(model);
     let text = match Programmer::identify(&mut link, Some(1_000_000)) {

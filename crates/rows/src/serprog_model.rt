@@ -11,8 +11,8 @@ use std::alloc::Global;
 use std::process::Abort;
 use std::{fmt, mem};
 
-// For the bytes of an incomplete frame, and for replies that weren't received yet: the read of a sector after stale
-// bytes.
+// The greatest numbers of bytes of an incomplete frame, and of replies that weren't received yet: the read of a sector
+// after stale bytes.
 const MOST_BEGUN: usize = 300;
 
 const MOST_PENDING: usize = 5000;

@@ -156,7 +156,6 @@ fn a_program_stops_between_its_parts(rt: HostRuntime) {
     assert_that!(&rt; are_erased(bytes.get(0x113C..)));
 }
 
-// Returns the limit for parts of a program, or the text of the error.
 fn limit_or_fault(rt: &impl Abort, alloc: Global, model: Model) -> String {
     let mut link = Link::new(model);
     let text = match AnyProgrammer::identify(&mut link, None) {

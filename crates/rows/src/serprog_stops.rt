@@ -81,7 +81,6 @@ fn assert_same(rt: &impl Abort, chip: &SimBus, other: &SimBus, calls: u64) {
     assert_held(rt, same, calls);
 }
 
-// Asserts error 12 (stopped), and that chip and vault are as after the corresponding stop of the simulated bus.
 fn stop_session(
     rt: &impl Abort,
     alloc: Global,
@@ -101,7 +100,6 @@ fn stop_session(
     left
 }
 
-// Like `stop_session`, for a restore. `left` and `same` are two copies of what the session left.
 fn stop_restore(
     rt: &impl Abort,
     alloc: Global,
@@ -170,7 +168,6 @@ fn each_call_of_the_port_fails_in_a_restore(rt: HostRuntime) {
     }
 }
 
-// If exactly the calls of the session's transactions succeed, the session ends.
 #[test]
 fn a_session_ends_with_its_last_call(rt: HostRuntime) {
     let alloc = rt.alloc();

@@ -86,7 +86,6 @@ fn assert_broken(
     assert_held(rt, holds, nth);
 }
 
-// Asserts that the vault keeps a prefix of each refused piece, and that the error has the length of this prefix.
 fn refuse_each(rt: &impl Abort, alloc: Global, right: &[u8], kept: usize) {
     for (nth, before, piece) in CALLS {
         let put = piece.min(kept);
@@ -197,7 +196,6 @@ const FILES: [(usize, u32, bool, Result<(), VaultFault>, usize); 9] = [
     (usize::MAX, 4, false, Err(VaultFault { kept: 0 }), 4161),
 ];
 
-// Returns the result of `save`, the file's length, whether it has the whole journal, and whether `set_len` was called.
 fn saved(chip: &Journal<'_>, file: SmallFile) -> (Result<(), VaultFault>, usize, bool, bool) {
     let mut vault = FileVault::new(file);
     let told = save(&mut vault, chip);
@@ -250,7 +248,6 @@ impl VaultFile for KnownFile {
     }
 }
 
-// Asserts that both vaults accept a piece of this length, and that the file is synced after all bytes.
 fn assert_taken(rt: &impl Abort, alloc: Global, length: usize) {
     let piece = vec![in alloc; 0x5A; length].expect(rt, "memory");
     let mut memory = MemVault::new(alloc);

@@ -8,9 +8,9 @@ use nor_session::{Refusal, restore};
 use std::alloc::Global;
 use std::process::Abort;
 
-/// Returns a bound on the transactions of a session on `sectors` sectors, or of a restore of so many saved sectors:
-/// 65,542 to identify the chip, three reads of each sector, and for each an erase and sixteen programs, and two status
-/// writes. Each operation is a write enable, the command and at most 65,536 polls.
+/// Returns a bound on the transactions of a session on `sectors` sectors, or of a restore of this number of saved
+/// sectors: 65,542 to identify the chip, three reads of each sector, and for each an erase and sixteen programs, and
+/// two status writes. Each operation is a write enable, the command and at most 65,536 polls.
 pub fn most(sectors: u32) -> u64 {
     let sectors = u64::from(sectors);
     65_542 + 3 * sectors + 65_538 * (17 * sectors + 2)
@@ -27,7 +27,6 @@ pub fn lies(n: u8) -> [Spoil; 4] {
     ]
 }
 
-/// Returns a faulty bus over `bus`, without a limit of transactions.
 pub fn spoilt(mut bus: SimBus, spoil: Spoil) -> SpoiltBus<SimBus> {
     bus.allow(u64::MAX);
     SpoiltBus::new(bus, spoil)

@@ -148,7 +148,6 @@ impl Stage {
         stage
     }
 
-    // Asserts that a session without a fault leaves the image on the chip. Returns its journal.
     fn kept(&self, rt: &impl Abort) -> Vec<u8> {
         let mut bus = self.bus(rt, Call::Session, Fault::Stop, None);
         let mut vault = MemVault::new(self.alloc);

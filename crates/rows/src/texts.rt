@@ -9,7 +9,6 @@ use std::process::Abort;
 
 const LONG: usize = 1_000_000;
 
-// A million bytes `byte` between `before` and `after`.
 fn long(rt: &impl Abort, alloc: Global, before: &[u8], byte: u8, after: &[u8]) -> Vec<u8> {
     let run = [byte; 1000];
     let mut text = before.to_vec(alloc).expect(rt, "memory");

@@ -31,7 +31,6 @@ fn few_starts() -> [Start; 3] {
     [Start::IDLE, Start::losing(0x5A), Start::losing(0xFF)]
 }
 
-// The stops at which the chip kept its power, and those at which it lost it.
 #[derive(Clone, Copy, PartialEq, Eq)]
 struct Stops {
     kept: u64,
@@ -60,8 +59,6 @@ impl Stops {
     }
 }
 
-// Stops the session from `first` transactions on, for each start and each number of sent bytes, and restores after each
-// stop that follows the seal.
 fn stop_sessions(
     rt: &impl Abort,
     alloc: Global,
@@ -79,7 +76,6 @@ fn stop_sessions(
     stops
 }
 
-// Stops the session after its seal, and then each restore at each of its transactions. Returns the stopped restores.
 fn stop_restores(rt: &impl Abort, torn: &Runs, row: Row, start: Start) -> Stops {
     let mut stops = Stops::NONE;
     for n in row.sealed_at(start)..row.ends_at(start) {
@@ -88,7 +84,6 @@ fn stop_restores(rt: &impl Abort, torn: &Runs, row: Row, start: Start) -> Stops 
     stops
 }
 
-// `stop_restores` for each start and number of sent bytes, which is the same for session and restore.
 fn stop_all(rt: &impl Abort, alloc: Global, row: Row, counts: &[u32]) -> Stops {
     let mut stops = Stops::NONE;
     for start in starts() {

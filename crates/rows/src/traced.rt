@@ -66,7 +66,6 @@ const FORMS: [Form; 3] = [
     },
 ];
 
-// Returns whether the line is reported as lost by a log that accepts `good` writes before it refuses one.
 fn loses(
     rt: &impl Abort,
     alloc: Global,
@@ -86,7 +85,6 @@ fn loses(
     bus.lost()
 }
 
-// Returns whether the line is reported as lost, and whether the log contains exactly this line.
 fn sent(rt: &impl Abort, alloc: Global, form: Form, good: u8) -> (bool, bool) {
     let mut lines = Vec::new(alloc);
     let mut reply = vec![in alloc; 0xAA; form.reply.len()].expect(rt, "memory");

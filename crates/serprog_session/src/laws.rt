@@ -6,7 +6,7 @@ ghost use Rattle.nor_journal.specs.Text.{Content, IsContent, text};
 ghost use Rattle.serprog_session.specs.Headline.{CanRestoreChip, CanRestoreChipFrom};
 
 /// If the bytes of a vault can restore the original chip `first` from `chip`, the journal that is read from these bytes
-/// can do so, too. Therefore the promise of `session_over` is the premise of `restore_over`.
+/// can restore it, too. Therefore the promise of `session_over` is the premise of `restore_over`.
 pub fn read_restores_chip()
     ensures { (bytes : List ℕ) (first chip : Chip) (journal : Content)
         → CanRestoreChipFrom bytes first chip → IsContent journal → bytes ≡ text journal

@@ -11,7 +11,6 @@ use nor_session::{Request, What};
 use std::alloc::Global;
 use std::fmt::Write;
 
-/// A test case: a chip, a request, and the image of the request.
 #[derive(Drop)]
 pub struct Case {
     pub chip: Chip,
@@ -35,12 +34,10 @@ impl Case {
         })
     }
 
-    /// Returns whether the request includes the address.
     pub fn includes(&self, address: u32) -> bool {
         self.reaches(address, address)
     }
 
-    /// Returns whether the request includes at least one address of the sector.
     pub fn includes_in(&self, sector: u32) -> bool {
         let first = sector.saturating_mul(SECTOR_LEN);
         self.reaches(first, first.saturating_add(4095))

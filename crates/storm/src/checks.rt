@@ -14,24 +14,20 @@ use nor_probe::Found;
 use nor_session::{Refusal, Report, Request, session};
 use std::alloc::Global;
 
-/// The result of a session, with the bus and the vault after it.
 #[derive(Drop)]
 pub struct Ran {
     pub answer: Result<Report, Refusal>,
     pub bus: SimBus,
     pub vault: MemVault,
-    /// The trace, with one line for each transaction.
     pub sent: Vec<u8>,
 }
 
 impl Ran {
-    /// Returns the lines of the trace.
     pub fn lines(&self) -> Result<&str, Fault> {
         traces::text(self.sent.as_slice())
     }
 }
 
-/// Runs the session of a case on a bus with the given stop, and returns its result.
 pub fn run(alloc: Global, case: &Case, stop: Stop) -> Result<Ran, Fault> {
     let mut image = case.image.to_vec(alloc)?;
     let bus = case.chip.bus(alloc, stop)?;
@@ -54,7 +50,6 @@ fn run_on(alloc: Global, bus: SimBus, image: &mut [u8], request: &Request) -> Re
     if lost { Err(Fault::Memory) } else { Ok(ran) }
 }
 
-/// Returns whether the chip on the bus has the bytes and non-volatile status bits of `chip`.
 pub fn is_same(bus: &SimBus, chip: &Chip) -> bool {
     bus.bytes() == chip.bytes.as_slice() && guards::kept(bus.status()) == guards::kept(chip.status)
 }
@@ -102,7 +97,6 @@ pub fn check_ended(case: &Case, wanted: &Wanted, lines: &str, ran: &Ran) -> Resu
     traces::check_lines(sent, lines, "a session")
 }
 
-/// Checks that the report describes this chip, and counts the touched sectors, erases and programs of `work`.
 pub fn check_report(chip: &Chip, work: Work, report: &Report) -> Result<(), Fault> {
     check_found(chip, &report.found)?;
     let touched = u64::from(report.touched) == work.touched;
@@ -129,7 +123,6 @@ pub fn check_found(chip: &Chip, found: &Found) -> Result<(), Fault> {
     ])
 }
 
-/// Checks that the chip on the bus is idle, with the target's bytes and non-volatile status bits.
 pub fn check_wanted(wanted: &Wanted, bus: &SimBus) -> Result<(), Fault> {
     let bytes = bus.bytes() == wanted.bytes.as_slice();
     let kept = guards::kept(bus.status()) == guards::kept(wanted.status);

@@ -10,7 +10,6 @@ use nor_chip::{Config, Delays, Meter, SECTOR_LEN, SimBus};
 use nor_probe::{Part, part_of};
 use std::alloc::Global;
 
-/// A chip: its configuration and its present state.
 #[derive(Drop)]
 pub struct Chip {
     pub config: Config,
@@ -21,7 +20,6 @@ pub struct Chip {
 }
 
 impl Chip {
-    /// Returns a bus to a copy of this chip, which stops as `stop` says.
     pub fn bus(&self, alloc: Global, stop: Stop) -> Result<SimBus, Fault> {
         let bytes = self.bytes.to_vec(alloc)?;
         let mut bus = SimBus::new(self.config, bytes, self.status, self.delays)?;
@@ -31,12 +29,10 @@ impl Chip {
         Ok(bus)
     }
 
-    /// Returns the number of sectors of 4,096 bytes.
     pub fn sectors(&self) -> u32 {
         self.config.size / SECTOR_LEN
     }
 
-    /// Returns a copy of the chip in its own memory.
     pub fn copy(&self, alloc: Global) -> Result<Chip, Fault> {
         Ok(Chip {
             config: self.config,
@@ -46,7 +42,6 @@ impl Chip {
         })
     }
 
-    /// Returns whether the chip isn't busy.
     pub fn is_idle(&self) -> bool {
         self.delays.now == 0
     }
@@ -89,13 +84,11 @@ fn id_for(dice: &mut Dice) -> [u8; 3] {
     }
 }
 
-/// Draws a row of the table of chips. Returns `None` if the table has no rows.
 pub fn row(dice: &mut Dice) -> Option<Part> {
     let (first, others) = nor_probe::chips().split_first()?;
     Some(dice.pick(*first, others))
 }
 
-/// Returns the configuration of the emulated chip with this ID, or `None` without a row.
 pub fn listed(id: [u8; 3]) -> Option<Config> {
     let part = part_of(id)?;
     Some(Config::emulated(part.id, part.size, part.kinds, part.scheme))

@@ -41,7 +41,6 @@ pub fn sector(dice: &mut Dice, sectors: u32) -> u32 {
     }
 }
 
-/// Returns the bytes of this sector, or no bytes if there is no such sector.
 pub fn sector_at(bytes: &[u8], number: u32) -> &[u8] {
     let start = number.saturating_mul(SECTOR_LEN) as usize;
     bytes
@@ -126,7 +125,6 @@ fn change(dice: &mut Dice, sector: &mut [u8], style: Style) {
     }
 }
 
-// Bits change only from 1 to 0 with `Falls`, only from 0 to 1 with `Rises`, and in any way with other styles.
 fn change_some(dice: &mut Dice, sector: &mut [u8], places: u32, style: Style) {
     for _ in 0..places {
         let at = dice.below(SECTOR_LEN) as usize;

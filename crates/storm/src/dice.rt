@@ -3,7 +3,6 @@
 use rand_core::Rng;
 use rand_pcg::Pcg32;
 
-/// A source of random numbers.
 #[derive(Drop)]
 pub struct Dice {
     words: Pcg32,
@@ -21,7 +20,6 @@ impl Dice {
         }
     }
 
-    /// Draws a number below `n`, or 0 if `n` is 0.
     pub fn below(&mut self, n: u32) -> u32 {
         below(&mut self.words, n)
     }
@@ -37,23 +35,19 @@ impl Dice {
         }
     }
 
-    /// Draws a number from 0 to `most`.
     pub fn up_to(&mut self, most: u64) -> u64 {
         let n = most.saturating_add(1);
         self.words.next_u64().checked_rem(n).unwrap_or(0)
     }
 
-    /// Returns true with probability `times`/`of`.
     pub fn hits(&mut self, times: u32, of: u32) -> bool {
         self.below(of) < times
     }
 
-    /// Draws a byte.
     pub fn byte(&mut self) -> u8 {
         self.words.next_u32().to_be_bytes()[0]
     }
 
-    /// Sets each byte to a random value.
     pub fn fill(&mut self, bytes: &mut [u8]) {
         self.words.fill_bytes(bytes);
     }

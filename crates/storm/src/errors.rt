@@ -29,7 +29,6 @@ impl<T: Drop> From<AllocFailed<T>> for CallError {
     }
 }
 
-/// Returns the given error as a failure, or success if there is none.
 pub fn refuse(refusal: Option<Refusal>) -> Result<(), CallError> {
     match refusal {
         Some(refusal) => Err(CallError::Refused(refusal)),

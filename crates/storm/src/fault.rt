@@ -9,9 +9,7 @@ use std::io;
 /// The fault that ended a run: before its first case, at a case, or when a result was printed.
 #[derive(Debug, Drop)]
 pub enum Fault {
-    /// The command line can't be read, or a line can't be printed.
     System(io::Error),
-    /// Out of memory.
     Memory,
     /// The case can't be drawn or set up.
     Case,
@@ -24,7 +22,6 @@ pub enum Fault {
     Untold(&'static str),
 }
 
-/// Returns `Differs` with the text `what` if `agrees` is false.
 pub fn agree(agrees: bool, what: &'static str) -> Result<(), Fault> {
     if agrees {
         Ok(())

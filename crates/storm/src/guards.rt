@@ -13,7 +13,6 @@ pub fn fixed(status: Status) -> Status {
     [status[0] & 0b1000_0000, status[1] & 0b0011_1111]
 }
 
-/// Returns whether the status is locked: SRP0 or SRP1 is set.
 pub fn is_locked(status: Status) -> bool {
     status[0] & 0b1000_0000 != 0 || status[1] & 0b0000_0001 != 0
 }
@@ -28,7 +27,6 @@ pub fn code_of(status: Status) -> u8 {
     }
 }
 
-/// Returns the non-volatile bits of `status`, with the protection bits of `code`.
 pub fn with_code(status: Status, code: u8) -> Status {
     let [fixed1, fixed2] = fixed(status);
     let high = if code / 32 % 2 == 0 { 0 } else { 0b0100_0000 };
@@ -40,7 +38,6 @@ pub fn is_undefined(code: u8) -> bool {
     code / 16 % 2 == 1 && code % 8 == 6
 }
 
-// Returns the length of the range that these bits select. The bits must be defined.
 fn part_len(code: u8, size: u32) -> u32 {
     let by_sectors = code / 16 % 2 == 1;
     match (by_sectors, code % 8) {
@@ -76,13 +73,11 @@ pub fn guarded_places(code: u8, size: u32) -> (u32, u32) {
     }
 }
 
-/// Returns whether `code` protects this address on a chip of this size with block protection.
 pub fn guards(code: u8, size: u32, address: u32) -> bool {
     let (start, len) = guarded_places(code, size);
     start <= address && address < start.saturating_add(len)
 }
 
-/// Returns whether `code` protects an address of the sector on a chip of this size with block protection.
 pub fn guards_some(code: u8, size: u32, sector: u32) -> bool {
     let start = sector.saturating_mul(4096);
     for address in start..start.saturating_add(4096) {

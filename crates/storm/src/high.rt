@@ -20,7 +20,6 @@ pub struct HighBus<B> {
 }
 
 impl<B: Bus> HighBus<B> {
-    /// Returns a bus over `bus` with the fault `high`.
     pub fn new(bus: B, high: Option<High>) -> HighBus<B> {
         HighBus {
             bus,

@@ -15,7 +15,6 @@ use nor_journal::{Journal, MemVault};
 use nor_session::Refusal;
 use std::alloc::Global;
 
-/// An accepted session, with the lines of all its transactions.
 #[derive(Clone, Copy)]
 pub struct Accepted<'a> {
     pub case: &'a Case,
@@ -27,9 +26,7 @@ pub struct Accepted<'a> {
 #[derive(Drop)]
 pub struct Left {
     pub bus: SimBus,
-    /// The trace of the call.
     pub sent: Vec<u8>,
-    /// True if the call succeeded.
     pub ended: bool,
     // The chip as the reference implementation expects it.
     model: Model,

@@ -6,7 +6,6 @@ use crate::verdicts;
 use crate::wanted::Work;
 use nor_session::{Refusal, What};
 
-/// Returns the sum of a few small numbers.
 fn sum(numbers: &[u64]) -> u64 {
     let mut sum = 0_u64;
     for number in numbers {
@@ -29,7 +28,6 @@ pub fn identity(chip: &Chip) -> u64 {
     sum(&[probe(chip), 1, 1])
 }
 
-/// Returns the number of sectors that hold an included address.
 pub fn included_sectors(case: &Case) -> u64 {
     let mut sectors = 0_u64;
     for sector in 0..case.chip.sectors() {
@@ -38,7 +36,6 @@ pub fn included_sectors(case: &Case) -> u64 {
     sectors
 }
 
-/// Returns the number of transactions that a session sends before it seals its vault.
 pub fn saving(case: &Case) -> u64 {
     let scanned = match case.request.what {
         What::WpRange { .. } => 0,
@@ -66,13 +63,12 @@ pub fn changes(chip: &Chip, work: Work) -> u64 {
     sum(&[read, operations.saturating_mul(each)])
 }
 
-/// Returns the number of transactions of a session that succeeds.
 pub fn session(case: &Case, work: Work) -> u64 {
     let checked = if case.request.verify { work.touched } else { 0 };
     sum(&[saving(case), changes(&case.chip, work), checked])
 }
 
-/// Returns the number of transactions of a restore that succeeds, from `saved` sectors. A restore always verifies.
+/// A restore always verifies.
 pub fn restore(chip: &Chip, saved: u64, work: Work) -> u64 {
     sum(&[identity(chip), saved, changes(chip, work), work.touched])
 }

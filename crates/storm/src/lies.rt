@@ -22,7 +22,6 @@ struct Ran {
     sent: Vec<u8>,
 }
 
-// The result of the reference implementation, and its trace.
 #[derive(Drop)]
 struct Told {
     answer: Result<(), CallError>,
@@ -229,8 +228,8 @@ enum Lie {
 
 type Faulty = HighBus<SpoiltBus<SimBus>>;
 
-// Draws a fault. `Low`, which clears a bit, is replaced unless `count` is a multiple of 4: the bit is then set in the
-// replies to one opcode, in half of the cases 35h (status 2).
+// Draws a fault. Unless `count` is a multiple of 4, a `Low`, which clears a bit in each reply, is replaced by a fault
+// that sets this bit in the replies to one opcode, half of the time 35h (status 2).
 fn lie_for(dice: &mut Dice, count: u64) -> Lie {
     let opcodes = [0x35, 0x05, 0x35, 0x9F, 0x35, 0x03, 0x35, 0x4B];
     let high = usize::try_from(count / 4 % 8)

@@ -13,7 +13,7 @@ use std::fmt::Write;
 pub struct Lines {
     text: String,
     lost: bool,
-    // The chip's non-volatile status bits after these transactions.
+    // The chip's non-volatile status bits after the transactions in `text`.
     status: Status,
     pace: Pace,
 }
@@ -29,7 +29,6 @@ impl Lines {
         }
     }
 
-    /// Returns this list, or `Memory` if memory ran out for a line.
     pub fn whole(self) -> Result<Lines, Fault> {
         if self.lost {
             Err(Fault::Memory)
@@ -38,7 +37,6 @@ impl Lines {
         }
     }
 
-    /// Returns the lines as text.
     pub fn text(&self) -> &str {
         self.text.as_str()
     }
@@ -54,7 +52,6 @@ impl Lines {
         }
     }
 
-    /// Appends a read of the ID (9Fh).
     pub fn read_id(&mut self, id: [u8; 3]) {
         self.put("9f > ");
         self.put_bytes(&id);
@@ -66,7 +63,6 @@ impl Lines {
         self.lost |= writeln!(self.text, "5a{address:06x}00 > {count} bytes").is_err();
     }
 
-    /// Appends a read of status 2 (35h).
     pub fn read_status2(&mut self) {
         self.put("35 > ");
         self.put_bytes(&[self.status[1]]);
@@ -78,13 +74,11 @@ impl Lines {
         self.put("4b00000000 > 8 bytes\n");
     }
 
-    /// Appends a read of a sector (03h).
     pub fn read_sector(&mut self, number: u32) {
         self.put_address(0x03, number.saturating_mul(SECTOR_LEN));
         self.put(" > 4096 bytes\n");
     }
 
-    /// Appends an erase of the block at `address` with `opcode`.
     pub fn erase(&mut self, opcode: u8, address: u32) {
         self.enable();
         self.put_address(opcode, address);
@@ -92,14 +86,12 @@ impl Lines {
         self.finish(opcode);
     }
 
-    /// Appends an operation that erases the whole chip (C7h).
     pub fn erase_chip(&mut self) {
         self.enable();
         self.put("c7\n");
         self.finish(0xC7);
     }
 
-    /// Appends a program of `bytes` from `address` on (02h).
     pub fn program(&mut self, address: u32, bytes: &[u8]) {
         self.enable();
         self.put_address(0x02, address);
@@ -108,7 +100,6 @@ impl Lines {
         self.finish(0x02);
     }
 
-    /// Appends a write of both status bytes (01h).
     pub fn write_status(&mut self, status: Status) {
         self.enable();
         self.put("01");
@@ -144,7 +135,6 @@ impl Lines {
     }
 }
 
-/// Returns the first `count` lines, or all of them if there are fewer.
 pub fn first(lines: &str, count: u64) -> &str {
     let count = usize::try_from(count).unwrap_or(usize::MAX);
     let mut end = 0_usize;

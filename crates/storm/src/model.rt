@@ -21,7 +21,6 @@ pub struct Stop {
 }
 
 impl Stop {
-    /// A stop that never occurs.
     pub const NEVER: Stop = Stop {
         after: u64::MAX,
         cut: None,
@@ -64,7 +63,8 @@ impl Model {
         })
     }
 
-    /// Carries out the transactions of a call up to the stop, and then the stop. `whole` has its lines without a stop.
+    /// Carries out the transactions of a call up to the stop, and then the stop. `whole` has the call's lines without a
+    /// stop.
     pub fn call(&mut self, whole: &str, stop: Stop) {
         let first = lines::first(whole, stop.after);
         for line in first.lines() {
@@ -137,7 +137,6 @@ impl Model {
         self.chip.status[0] = guards::kept(self.chip.status)[0] | pace.bits();
     }
 
-    // Returns whether the chip is idle with a set write enable latch, and none of the addresses is protected.
     fn takes(&self, start: u32, len: u32) -> bool {
         let Chip { config, status, .. } = &self.chip;
         let (first, count) = guards::guarded_places(guards::code_of(*status), config.size);
@@ -223,7 +222,6 @@ impl Model {
         self.set_pace(pace.without_power());
     }
 
-    // Interrupts the operation. A status write leaves the old bits if `fill` is even, and the new bits if it is odd.
     fn cut_off(&mut self, fill: u8) {
         match self.work {
             Work::Bytes(start, len) => self.fill(start, len, fill),

@@ -3,7 +3,6 @@
 use crate::chips::Chip;
 use crate::lines::byte_at;
 
-/// How long a chip stays busy, and whether its write enable latch is set.
 #[derive(Clone, Copy)]
 pub struct Pace {
     /// The number of polls that will still show BUSY.
@@ -13,7 +12,6 @@ pub struct Pace {
 }
 
 impl Pace {
-    /// Returns the pace of a chip in its present state.
     pub fn of(chip: &Chip) -> Pace {
         Pace {
             busy: chip.delays.now,
@@ -22,7 +20,6 @@ impl Pace {
         }
     }
 
-    /// Returns BUSY and the write enable latch as bits of status 1.
     pub fn bits(self) -> u8 {
         u8::from(self.busy > 0) | u8::from(self.latch) << 1
     }
@@ -55,7 +52,6 @@ impl Pace {
         }
     }
 
-    /// Returns the pace after all polls that show BUSY.
     pub fn waited(self) -> Pace {
         let mut pace = self;
         for _ in 0..self.busy {
@@ -64,7 +60,6 @@ impl Pace {
         pace
     }
 
-    /// Returns the pace after the chip carried out the transactions of a trace.
     pub fn after_lines(self, lines: &str) -> Pace {
         let mut pace = self;
         for line in lines.lines() {
@@ -73,7 +68,6 @@ impl Pace {
         pace
     }
 
-    /// Returns the pace after a power failure: idle, with a clear write enable latch.
     pub fn without_power(self) -> Pace {
         Pace {
             busy: 0,

@@ -126,7 +126,6 @@ fn wrong_density(dice: &mut Dice) -> [u8; 4] {
     dice.pick(0_u32, &wrong).to_le_bytes()
 }
 
-/// Overwrites bytes from the position `at` on with those of `piece`.
 pub fn put(shown: &mut Shown, at: usize, piece: &[u8]) {
     for (place, byte) in shown.iter_mut().skip(at).zip(piece) {
         *place = *byte;
@@ -186,7 +185,6 @@ fn read_table(table: &[u8; 36]) -> Result<Told, SfdpFault> {
     })
 }
 
-// Returns `None` for a size that no chip may have.
 fn size_of(density: u32) -> Option<u32> {
     let bits = if density < 0x8000_0000 {
         Some(u64::from(density) + 1)

@@ -14,7 +14,6 @@ use nor_read::{Protection, read_out, verify, wp_status};
 use nor_session::{Refusal, Report};
 use std::alloc::Global;
 
-/// The calls that only read: `probe`, `wp_status`, `read_out` and `verify`.
 #[derive(Clone, Copy)]
 pub enum Reading {
     Probe,
@@ -23,7 +22,6 @@ pub enum Reading {
     Comparison,
 }
 
-/// The result of a reading call that succeeded.
 #[derive(Drop)]
 pub enum Told {
     Found,
@@ -54,7 +52,6 @@ pub fn check(alloc: Global, dice: &mut Dice, case: &Case) -> Result<(), Fault> {
 }
 
 impl Reading {
-    /// Returns the error that the call must return, if any.
     pub fn refusal(self, case: &Case) -> Option<Refusal> {
         let early = self.early_refusal(case);
         match self {
@@ -68,7 +65,6 @@ impl Reading {
         }
     }
 
-    /// Returns the error that the call must return after the probe, if any.
     pub fn early_refusal(self, case: &Case) -> Option<Refusal> {
         let found = verdicts::of_probe(&case.chip.config, case.request.named);
         match self {
@@ -110,8 +106,6 @@ impl Reading {
         lies::check_reading(alloc, dice, case, self, enough)
     }
 
-    // Checks the call with a stop after `allowed` transactions. It must return `Stopped` after these lines of `whole`,
-    // or its result if it sends no more. The chip must be as before.
     fn check_under(
         self,
         alloc: Global,
@@ -139,7 +133,6 @@ impl Reading {
         if lost { Err(Fault::Memory) } else { Ok(ran) }
     }
 
-    /// Makes the call on `bus`, with the name, the included ranges and the image of the case.
     pub fn call<B: Bus>(self, alloc: Global, case: &Case, bus: &mut B) -> Result<Told, Refusal> {
         let named = case.request.named;
         let included = case.request.included.as_ref();
@@ -260,7 +253,6 @@ fn check_protection(case: &Case, told: Protection) -> Result<(), Fault> {
     ])
 }
 
-// Checks that the report counts no changes, the transactions of the probe, and one for each included sector.
 fn check_report(case: &Case, report: &Report) -> Result<(), Fault> {
     checks::check_found(&case.chip, &report.found)?;
     let idle = report.touched == 0 && report.erases == 0 && report.programs == 0;
@@ -278,8 +270,8 @@ struct Copied {
     sent: Vec<u8>,
 }
 
-// Checks a readout whose vault refuses a call. It must return the error that it returns anyway or, without one, error
-// 19 with the number of bytes in the vault, including those of the refused piece.
+// Checks a readout whose vault refuses a call. If the readout has an error anyway, it must return that error, otherwise
+// error 19 with the number of bytes in the vault, including those of the refused piece.
 fn check_refused_copy(alloc: Global, dice: &mut Dice, case: &Case) -> Result<(), Fault> {
     let nth = u64::from(dice.below(case.chip.sectors() / 16)).saturating_add(1);
     let kept = dice.pick(0, &[1, 4095, 65_535]);
@@ -292,7 +284,6 @@ fn check_refused_copy(alloc: Global, dice: &mut Dice, case: &Case) -> Result<(),
     }
 }
 
-// Reads out into a vault that refuses its call `nth`, from 1, and keeps the first `kept` bytes of its piece.
 fn copy_out(alloc: Global, case: &Case, bus: SimBus, (nth, kept): (u64, usize)) -> Copied {
     let mut sent = Vec::new(alloc);
     let mut bus = TraceBus::new(bus, &mut sent);

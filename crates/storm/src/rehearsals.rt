@@ -115,7 +115,6 @@ fn check_ran(alloc: Global, accepted: Accepted<'_>, plan: Plan, ran: &Ran) -> Re
     check_restores(alloc, accepted, plan, rehearsal.restores, &ran.sent)
 }
 
-// Checks that the number of restores and the trace are those of the calls one by one.
 fn check_restores(
     alloc: Global,
     accepted: Accepted<'_>,
@@ -129,7 +128,6 @@ fn check_restores(
     traces::check_trace(sent, traces::text(lines.as_slice())?, "a rehearsal")
 }
 
-// Returns the number of restores, and appends the traces of all calls to `sent`.
 fn run_each(
     alloc: Global,
     accepted: Accepted<'_>,

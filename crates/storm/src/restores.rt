@@ -15,16 +15,13 @@ use nor_journal::Journal;
 use nor_session::{Refusal, Report, restore};
 use std::alloc::Global;
 
-/// The result of a restore.
 #[derive(Drop)]
 pub struct Restored {
     pub answer: Result<Report, Refusal>,
     pub bus: SimBus,
-    /// The trace, with one line for each transaction.
     pub sent: Vec<u8>,
 }
 
-/// Runs a restore on a bus that stops after the allowed number of transactions.
 pub fn run(
     alloc: Global,
     bus: SimBus,
@@ -55,8 +52,8 @@ struct Whole<'a> {
     refusal: Option<Refusal>,
 }
 
-/// Checks restores of a random chip: without a stop, with a stop, and on a faulty bus. Returns the error of a refused
-/// one.
+/// Checks restores of a random chip: without a stop, with a stop, and on a faulty bus. Returns the error of a restore
+/// that is refused.
 pub fn check(
     alloc: Global,
     dice: &mut Dice,
@@ -95,7 +92,6 @@ fn lines_of(alloc: Global, whole: Whole<'_>) -> Result<Lines, Fault> {
     }
 }
 
-// Checks a restore without a stop, with one, and on a faulty bus. Without a stop or fault it must send `lines`.
 fn check_lines(alloc: Global, dice: &mut Dice, whole: Whole<'_>, lines: &str) -> Result<(), Fault> {
     check_unstopped(alloc, whole, lines)?;
     check_stopped(alloc, dice, whole, lines)?;

@@ -15,14 +15,12 @@ use crate::{
 use nor_session::Refusal;
 use std::alloc::Global;
 
-/// The number of the case that ended a run, and its fault.
 #[derive(Drop)]
 pub struct FailedCase {
     pub case: u64,
     pub fault: Fault,
 }
 
-/// Runs the job's cases for this seed up to the first failure, and returns the counts and this failure.
 pub fn run(alloc: Global, job: Job, seed: u64) -> (Tally, Option<FailedCase>) {
     let mut tally = Tally::NONE;
     for case in job.first..job.first.saturating_add(job.count) {

@@ -202,7 +202,6 @@ fn next_stop(dice: &mut Dice, accepted: Accepted<'_>, first: Stop) -> Stop {
     }
 }
 
-// Restores with a stop. A restore that fails must leave a chip that `check_within` accepts.
 fn give_some(
     alloc: Global,
     accepted: Accepted<'_>,

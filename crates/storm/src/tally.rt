@@ -9,7 +9,6 @@ pub fn least(cases: u64) -> u64 {
     if cases < 500 { 0 } else { 5 }
 }
 
-/// The numbers of cases of each kind, and of stops inside a transaction.
 #[derive(Clone, Copy)]
 pub struct Tally {
     /// The number of accepted sessions, each of which was also stopped and, if sealed, restored.
@@ -26,7 +25,6 @@ pub struct Tally {
     pub read: u64,
     /// The number of sessions that were also run on a faulty bus.
     pub lied: u64,
-    /// The numbers of stops inside a transaction.
     pub cuts: Cuts,
 }
 
@@ -34,16 +32,13 @@ pub struct Tally {
 /// of the transaction was sent, which may be 0 or all.
 #[derive(Clone, Copy)]
 pub struct Cuts {
-    /// The number of these stops in sessions.
     pub sessions: u64,
-    /// The number of these stops in restores.
     pub restores: u64,
     /// The number of these stops, in sessions and restores, at which the chip lost its power.
     pub losses: u64,
 }
 
 impl Cuts {
-    /// The counts before the first stop: all are 0.
     pub const NONE: Cuts = Cuts {
         sessions: 0,
         restores: 0,
@@ -60,8 +55,6 @@ impl Cuts {
         }
     }
 
-    /// Adds the stop of a restore: to `restores` if it was inside a transaction, and to `losses` if the chip lost its
-    /// power. A restore that `ended` before adds nothing.
     pub fn with_restore(self, stop: Stop, ended: bool) -> Cuts {
         let more = u64::from(!ended && stop.cut.is_some());
         Cuts {
@@ -84,7 +77,6 @@ impl Cuts {
 }
 
 impl Tally {
-    /// The counts before the first case: all are 0.
     pub const NONE: Tally = Tally {
         accepted: 0,
         refused: [0; 21],
@@ -112,7 +104,6 @@ impl Tally {
             })
     }
 
-    /// Counts a session that was accepted, or refused with this error.
     pub fn count_session(&mut self, refusal: Option<Refusal>) {
         match refusal {
             None => self.accepted = self.accepted.wrapping_add(1),
@@ -120,7 +111,6 @@ impl Tally {
         }
     }
 
-    /// Counts a restore of a random chip (`restores.rt`) that was accepted, or refused with this error.
     pub fn count_restore(&mut self, refusal: Option<Refusal>) {
         match refusal {
             None => self.restored = self.restored.wrapping_add(1),
@@ -132,12 +122,10 @@ impl Tally {
         self.rehearsed = self.rehearsed.wrapping_add(1);
     }
 
-    /// Counts a case whose chip was read.
     pub fn count_reading(&mut self) {
         self.read = self.read.wrapping_add(1);
     }
 
-    /// Adds counts of stops inside a transaction.
     pub fn count_cuts(&mut self, cuts: Cuts) {
         self.cuts = Cuts {
             sessions: self.cuts.sessions.wrapping_add(cuts.sessions),
@@ -146,7 +134,6 @@ impl Tally {
         };
     }
 
-    /// Counts a session on a faulty bus.
     pub fn count_lie(&mut self) {
         self.lied = self.lied.wrapping_add(1);
     }

@@ -19,10 +19,8 @@ use nor_probe::ChipName;
 use nor_session::{Refusal, Request, What};
 use std::alloc::Global;
 
-/// A faulty bus to a simulated chip, with a trace of its transactions.
 pub type Liar<'a> = TraceBus<HighBus<SpoiltBus<SimBus>>, &'a mut Vec<u8>>;
 
-/// The number of polls after which a wait returns `Timeout`.
 const MOST_POLLS: u32 = 65_536;
 
 /// The bytes that a session must have written to its vault, without the end mark and the digest, and whether the vault
@@ -42,7 +40,6 @@ pub struct Caller<'a> {
 }
 
 impl<'a> Caller<'a> {
-    /// Returns a caller that has written nothing to a vault.
     pub fn new(alloc: Global, bus: Liar<'a>) -> Caller<'a> {
         let put = Put {
             begun: Vec::new(alloc),
@@ -100,7 +97,6 @@ impl Caller<'_> {
         refuse(reading.refusal(told))
     }
 
-    /// Runs a restore in the reference implementation, from a journal with the contents `saved`.
     pub fn restore(&mut self, saved: Saved<'_>) -> Result<(), CallError> {
         let (config, status1) = self.find(None)?;
         refuse(verdicts::of_journal(&config, saved))?;
@@ -222,7 +218,6 @@ impl Caller<'_> {
         self.send(&[0x03, high, middle, low], sector)
     }
 
-    // Makes the changes, in the order of `transactions.rt`.
     fn change(&mut self, chip: &mut Chip, wanted: &Wanted) -> Result<(), CallError> {
         self.prepare(chip, wanted)?;
         for number in 0..chip.sectors() {
@@ -309,7 +304,6 @@ fn difference(start: u32, shown: &[u8], wanted: &[u8]) -> Option<Refusal> {
     None
 }
 
-// Returns a chip whose bytes are all FFh.
 fn unread(alloc: Global, config: Config, status: Status) -> Result<Chip, Fault> {
     Ok(Chip {
         config,
@@ -338,7 +332,6 @@ fn asked_of(alloc: Global, case: &Case, chip: Chip) -> Result<Case, Fault> {
     })
 }
 
-// Returns the bytes that the transaction of this line sends. The line must have no reply.
 fn bytes_of(alloc: Global, line: &str) -> Result<Vec<u8>, Fault> {
     let mut bytes = Vec::new(alloc);
     for pair in line.as_bytes().chunks(2) {
@@ -350,7 +343,6 @@ fn bytes_of(alloc: Global, line: &str) -> Result<Vec<u8>, Fault> {
     Ok(bytes)
 }
 
-// Returns the address of a command, or 0 if the command has none.
 fn address_of(command: &[u8]) -> u32 {
     match command {
         [0x02 | 0x20 | 0x52 | 0xD8, high, middle, low, ..] => {

@@ -25,12 +25,10 @@ pub fn check_lines(sent: &str, wanted: &str, call: &'static str) -> Result<(), F
     }
 }
 
-/// Checks a trace of bytes, as `check_lines` does.
 pub fn check_trace(sent: &[u8], wanted: &str, call: &'static str) -> Result<(), Fault> {
     check_lines(text(sent)?, wanted, call)
 }
 
-/// Returns a trace as text, or a fault if it isn't UTF-8.
 pub fn text(sent: &[u8]) -> Result<&str, Fault> {
     match str::from_utf8(sent) {
         Ok(lines) => Ok(lines),
@@ -38,7 +36,6 @@ pub fn text(sent: &[u8]) -> Result<&str, Fault> {
     }
 }
 
-/// Checks that a refused session sent the expected number of transactions, and no modifying command.
 pub fn check_refused(case: &Case, refusal: Refusal, sent: &str) -> Result<(), Fault> {
     let count = u64::try_from(sent.lines().count());
     let counted = count == Ok(lengths::refused(case, refusal));

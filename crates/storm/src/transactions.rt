@@ -24,7 +24,6 @@ use nor_chip::SECTOR_LEN;
 use nor_session::{Refusal, What};
 use std::alloc::Global;
 
-/// Returns the lines of a session that succeeds.
 pub fn session(alloc: Global, case: &Case, wanted: &Wanted) -> Result<Lines, Fault> {
     let mut lines = Lines::new(alloc, &case.chip);
     save(&mut lines, case, case.chip.sectors());
@@ -57,7 +56,6 @@ pub fn refused_session(alloc: Global, case: &Case, refusal: Refusal) -> Result<L
     lines.whole()
 }
 
-/// Returns the lines of a restore that succeeds, from a journal that saved the touched sectors of `saved`.
 pub fn restore(
     alloc: Global,
     chip: &Chip,
@@ -167,7 +165,6 @@ fn change(lines: &mut Lines, chip: &Chip, wanted: &Wanted) {
     protect(lines, chip, wanted);
 }
 
-/// Appends steps 4 and 5.
 pub fn prepare(lines: &mut Lines, chip: &Chip, wanted: &Wanted) {
     // The write leaves the other non-volatile status bits as they are.
     if wanted.first_guarded(chip).is_some() {
@@ -232,7 +229,6 @@ pub fn program_sector(lines: &mut Lines, chip: &Chip, wanted: &Wanted, number: u
     }
 }
 
-// Appends a program from the first byte that must be programmed to the last one, if any.
 fn program_page(lines: &mut Lines, start: u32, (old, new): (&[u8], &[u8]), is_erased: bool) {
     if let Some((first, last)) = span(old, new, is_erased) {
         let bytes = new.get(first..last.saturating_add(1)).unwrap_or(&[]);

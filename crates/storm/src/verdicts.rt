@@ -8,7 +8,6 @@ use nor_chip::{Config, SECTOR_LEN};
 use nor_probe::{ChipName, part_of};
 use nor_session::{Refusal, What};
 
-/// Returns whether the table of chips contains the ID.
 pub fn is_in_table(config: &Config) -> bool {
     name_of(config) != ChipName::Sfdp
 }
@@ -39,7 +38,6 @@ pub fn of_probe(config: &Config, named: Option<ChipName>) -> Option<Refusal> {
     }
 }
 
-/// Returns an error if the image isn't as long as the chip.
 pub fn of_image(case: &Case) -> Option<Refusal> {
     let chip = case.chip.config.size;
     let image = case.image.len();
@@ -50,7 +48,6 @@ pub fn of_image(case: &Case) -> Option<Refusal> {
     }
 }
 
-/// Returns an error if an included address isn't on the chip.
 pub fn of_places(case: &Case) -> Option<Refusal> {
     match case.last_included() {
         Some(last) if last >= case.chip.config.size => Some(Refusal::RegionOutside),
@@ -58,7 +55,6 @@ pub fn of_places(case: &Case) -> Option<Refusal> {
     }
 }
 
-/// Returns the first of errors 1 to 8 that a session must return, if any.
 pub fn of_opening(case: &Case) -> Option<Refusal> {
     let config = &case.chip.config;
     let protection = of_protection(config.scheme, guards::code_of(case.chip.status));
@@ -117,7 +113,6 @@ pub fn of_restore(chip: &Chip, saved: Saved<'_>, wanted: &Wanted) -> Option<Refu
         .or(of_lock(chip, saved, wanted))
 }
 
-/// Returns an error if the journal is for a chip with another ID or size.
 pub fn of_journal(config: &Config, saved: Saved<'_>) -> Option<Refusal> {
     let old = &saved.chip.config;
     if config.id == old.id && config.size == old.size {
@@ -145,7 +140,6 @@ pub fn of_unit(chip: &Chip, saved: Saved<'_>) -> Option<Refusal> {
     }
 }
 
-/// Returns an error if a restore has to write the status registers, and they are locked.
 pub fn of_lock(chip: &Chip, saved: Saved<'_>, wanted: &Wanted) -> Option<Refusal> {
     let other_code = guards::code_of(chip.status) != guards::code_of(saved.chip.status);
     let writes_status = other_code || wanted.first_guarded(chip).is_some();

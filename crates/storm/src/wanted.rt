@@ -9,14 +9,12 @@ use nor_layout::Span;
 use nor_session::What;
 use std::alloc::Global;
 
-/// How a sector changes.
 #[derive(Clone, Copy)]
 pub struct Sector {
     /// True if some byte must change.
     pub touched: bool,
     /// True if some bit must rise from 0 to 1.
     pub raised: bool,
-    /// The number of pages to program.
     pub pages: u32,
 }
 
@@ -28,7 +26,6 @@ pub struct Wanted {
     pub sectors: Vec<Sector>,
 }
 
-/// The amount of work that turns a chip into its target.
 #[derive(Clone, Copy)]
 pub struct Work {
     pub touched: u64,
@@ -39,7 +36,6 @@ pub struct Work {
 }
 
 impl Wanted {
-    /// Returns the target of a case's request.
     pub fn of_case(alloc: Global, case: &Case) -> Result<Wanted, Fault> {
         let mut bytes = case.chip.bytes.to_vec(alloc)?;
         if is_of_bytes(case.request.what) {
@@ -48,7 +44,6 @@ impl Wanted {
         Self::new(alloc, &case.chip, bytes, wanted_status(case))
     }
 
-    /// Returns the target with these bytes and non-volatile status bits for a chip.
     pub fn new(
         alloc: Global,
         chip: &Chip,
@@ -63,7 +58,6 @@ impl Wanted {
         })
     }
 
-    /// Returns the number of the first touched sector that has a protected address on this chip, if there is one.
     pub fn first_guarded(&self, chip: &Chip) -> Option<u32> {
         if !chip.config.scheme {
             return None;
@@ -74,23 +68,20 @@ impl Wanted {
         })
     }
 
-    /// Returns whether the sector is touched.
     pub fn touches(&self, number: u32) -> bool {
         touches(self.sectors.as_slice(), number)
     }
 
-    /// Returns the number of sectors.
     pub fn count(&self) -> u32 {
         u32::try_from(self.sectors.len()).unwrap_or(u32::MAX)
     }
 
-    /// Returns whether each of the `count` sectors from `first` on is raised, as sectors past the end are.
+    /// Returns whether each of the `count` sectors from `first` on is raised. Sectors past the end count as raised.
     pub fn raises_all(&self, first: u32, count: u32) -> bool {
         let from = self.sectors.get(first as usize..).unwrap_or(&[]);
         are_raised(from.get(..count as usize).unwrap_or(from))
     }
 
-    /// Returns the work that turns `chip` into the target.
     pub fn work(&self, chip: &Chip) -> Work {
         let sectors = self.sectors.as_slice();
         Work {
@@ -234,7 +225,6 @@ fn are_raised(sectors: &[Sector]) -> bool {
     sectors.iter().all(|sector| sector.raised)
 }
 
-/// Returns whether the sector with this number is touched.
 pub fn touches(sectors: &[Sector], number: u32) -> bool {
     match sectors.get(number as usize) {
         Some(sector) => sector.touched,

@@ -1,13 +1,11 @@
 //! The arguments of the command line.
 
-/// The cases to run.
 #[derive(Clone, Copy)]
 pub struct Job {
     /// The first and the last seed.
     pub seeds: (u64, u64),
     /// The number of the first case of each seed.
     pub first: u64,
-    /// The number of cases of each seed.
     pub count: u64,
 }
 

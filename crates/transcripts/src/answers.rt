@@ -17,7 +17,6 @@ pub struct Left {
     pub sent: u64,
 }
 
-/// The data that the checks of a case compare with the expected values.
 #[derive(Drop)]
 pub struct Answers<'a> {
     config: Config,

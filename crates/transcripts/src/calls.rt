@@ -42,7 +42,6 @@ fn wait_at(bus: &mut Way<'_>, came: &mut String, address: u32) -> Result<(), Fau
     }
 }
 
-// Programs bytes within one page.
 fn program(
     alloc: Global,
     bus: &mut Way<'_>,

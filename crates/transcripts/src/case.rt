@@ -32,7 +32,7 @@ impl<'a> Case<'a> {
     }
 
     /// Plays the case on a chip of its own, and returns the first failure. After the fault `Differs`, `came` has the
-    /// actual value. A case without an action or a check fails.
+    /// actual value. A case that has neither an action nor a check fails.
     pub fn play(self, alloc: Global, came: &mut String) -> Result<(), LineFault> {
         let setup = match self.setup() {
             Ok(setup) => setup,
@@ -117,7 +117,6 @@ fn step_of(line: &str) -> (Word, &str) {
     (Word::of(word), rest)
 }
 
-/// Returns whether each line of the text is blank, or begins with `#` after any white space.
 pub fn is_blank(text: &str) -> bool {
     for line in text.split('\n') {
         if !matches!(step_of(line).0, Word::Nothing) {

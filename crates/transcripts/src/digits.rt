@@ -26,7 +26,6 @@ pub fn byte_of(digits: &str) -> Result<u8, Fault> {
     u8::from_str_radix(digits, 16).map_err(Fault::from)
 }
 
-/// Parses status 1 and status 2, in this order, from four hexadecimal digits.
 pub fn status_of(digits: &str) -> Result<[u8; 2], Fault> {
     <[u8; 2] as FromHex>::from_hex(digits).map_err(Fault::from)
 }
@@ -41,7 +40,6 @@ pub fn addresses_of(places: &str) -> Result<(u32, u32), Fault> {
     Ok((address_of(start)?, address_of(end)?))
 }
 
-/// Parses two numbers in hexadecimal digits, with a space between them.
 pub fn pair_of(words: &str) -> Result<(u32, u32), Fault> {
     let (first, second) = words.split_once(' ').ok_or(Fault::Unread)?;
     Ok((address_of(first)?, address_of(second)?))

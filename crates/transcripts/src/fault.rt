@@ -5,7 +5,6 @@ use nor_chip::{Stopped, WrongLength};
 use std::alloc::{AllocError, AllocFailed};
 use std::num::ParseIntError;
 
-/// The reason why a case failed.
 #[derive(Clone, Copy)]
 pub enum Fault {
     /// The line can't be parsed, a value in it isn't allowed, or the case has no steps.
@@ -15,7 +14,6 @@ pub enum Fault {
     Stopped,
     /// The bus carried out a transaction that it must stop.
     Replied,
-    /// A line of the trace is lost.
     Lost,
     Memory,
 }

@@ -29,7 +29,6 @@ struct Start {
 }
 
 impl Setup {
-    /// Parses the chip's name and the settings that follow it.
     pub fn read(words: &str) -> Result<Setup, Fault> {
         let (name, settings) = words.split_once(' ').unwrap_or((words, ""));
         let config = config_of(name).ok_or(Fault::Unread)?;

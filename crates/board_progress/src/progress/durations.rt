@@ -27,7 +27,8 @@ impl<B> Shown<'_, B> {
             .print_time(&Took(Minutes(micros_between(self.changed, now))));
     }
 
-    // No line is printed twice for one number.
+    // After the first transaction of a step and each `stride` further ones, the line with this count was printed
+    // already.
     fn show_last(&self, step: Step, count: u64) {
         if count > 0 && count % step.stride() != 1 {
             self.show_step(step, count);

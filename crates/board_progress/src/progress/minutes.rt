@@ -6,7 +6,6 @@ use crate::gauge::micros_between;
 use crate::terminal::Look;
 use std::fmt;
 
-// In microseconds.
 const MINUTE: u64 = 60_000_000;
 
 impl<B> Shown<'_, B> {
