@@ -41,7 +41,6 @@ CHANGES = ("-w", "new", "--journal", "j"), ("-E", "--journal", "j")
 BACKUP = ("--backup", "j")
 READINGS = (), ("--flash-size",), ("-r", "out")
 NO_SECTORS = Refused(("Error 2: unknown chip, SFDP fault 8.",), (*CHANGES, BACKUP))
-PROTECTED = Refused(("Chip fault 1: status 1 of this chip is ",), CHANGES)
 
 
 def unknown(fault, *hints):
@@ -61,11 +60,6 @@ REFUSED = {
 LOCKED, OWN_LOCKS = ("SST26VF064B",), 0x04
 # The chips whose SFDP says that bit 6 of status 1 is QE, which is no protection bit and isn't restored.
 QUAD = "MX25L12873G", "IS25LP064", "IS25LP128"
-# Chips with another status 1 than from the factory: QE in bit 6, BP0, and all that protects.
-STATUS = {
-    "MX25L12835F": (0x40, PROTECTED), "MX25L6436F": (0x04, PROTECTED), "IS25LP064": (0x40, None),
-    "IS25LP128": (0x44, PROTECTED), "GD25Q128E": (0x1C, PROTECTED), "N25Q064A": (0x40, PROTECTED),
-}
 
 
 def images(it):
@@ -340,22 +334,12 @@ def ends_continuous_reads(start, it):
         check("FFh was sent", LEAVING[0] in sent_to(play), lines == 2)
 
 
-def has_status(start, it):
-    """written with other bits of status 1 set if these don't protect, and otherwise refused"""
-    status, refused = STATUS[it.name]
-    play = Play(start, it, status)
-    if refused:
-        is_refused(play, refused)
-    else:
-        is_written(play)
-
-
-def case_of(played, it):
+def case_of(played, it, name=None):
     """Returns the case of a chip, which has a name of its own."""
     def case(start):
         played(start, it)
-    case.__name__ = f"{played.__name__}_{it.name.lower().replace('-', '_')}"
-    case.__doc__ = f"{it.maker} {it.name} is {played.__doc__}."
+    case.__name__ = f"{name or played.__name__}_{it.name.lower().replace('-', '_')}"
+    case.__doc__ = f"{it.maker} {it.name} is {getattr(played, 'func', played).__doc__}."
     return case
 
 
@@ -373,7 +357,6 @@ def cases():
             yield case_of(leaves_qpi, it)
     yield case_of(ends_continuous_reads, ALL["W25Q64FV"])
     yield from (case_of(protects, ALL[name]) for name in ROWS)
-    yield from (case_of(has_status, ALL[name]) for name in STATUS)
 
 
 CASES = list(cases())

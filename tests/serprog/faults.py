@@ -164,7 +164,7 @@ def needs_its_step(start):
 def needs_right_replies(start):
     """A reply that is neither ACK nor NAK is programmer fault 5, and NAK to a command of the map is fault 11."""
     advice = f"Disconnect the programmer from power, connect it again, and set up the port: {STTY}"
-    for opcode in 0x01, 0x02, 0x12, 0x15:
+    for opcode in 0x01, 0x02, 0x08, 0x12, 0x15:
         refuse(start(replies={opcode: b"!"}), "the programmer answered 21h, which is neither ACK nor NAK. " + advice,
                number=5)
         refuse(start(replies={opcode: b"\x15"}), f"the programmer refused command {opcode:02X}h. {FIRMWARE}", number=11)
@@ -215,9 +215,11 @@ def needs_spi(start):
 
 
 def needs_wide_limits(start):
-    """Limits that are too small for one byte of a page are programmer fault 9."""
+    """Limits that are too small for one byte of a page, or for a unique ID, are programmer fault 9."""
     for traits, text in (
         ({"longest_write": 4}, "the programmer sends at most 4 bytes in a transaction, too few for a page program"),
+        *(({"longest_read": most}, f"the programmer reads at most {most} bytes in a transaction, and a unique ID has 8")
+          for most in range(1, 8)),
         ({"lacks": (0x08,), "buffer": 11},
          "the serial buffer of the programmer has 11 bytes, too few for a page program"),
     ):

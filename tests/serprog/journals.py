@@ -11,7 +11,7 @@ UNIQUE = bytes.fromhex("d16288504b2f1a07")
 RESTORE = "To restore: flashnor-serprog -p serprog:dev=PATH --restore j"
 NEVER = reference.UNSEALED[2]
 CHANGED = "Bytes of it have changed since it was sealed. Look for another copy."
-OTHER = "Is this the right file? If it is, look for another copy."
+NONE = ["error: the file is no journal, or is damaged", "Is this the right file? If it is, look for another copy."]
 
 
 def describe(bench, *words):
@@ -87,10 +87,16 @@ def explains_invalid_journals(start):
             (whole + b"\0", ["error: the journal is damaged", CHANGED], 6),
             (whole[:40] + b"\1" + whole[41:], ["error: the journal is damaged", CHANGED], 7),
             (whole[:21] + b"\1" + whole[22:], ["error: the journal is damaged", CHANGED], 3),
-            (b"NORUNDO3" + whole[8:], ["error: the file is no journal, or is damaged", OTHER], 2)):
+            (b"NORUNDO3" + whole[8:], NONE, 2)):
         bench.write("j", content)
         bench.compare(describe(bench, "j"), [], [why[0], f"Error 15: journal fault {fault}.", why[1]])
         bench.check_file("j", content)
+    # A file that is shorter than a journal and doesn't begin as one says nothing about a session.
+    for content, why in (b"NORUNDO", [cut, NEVER]), (b"hello", NONE), (b"norundo", NONE), (b"\0" * 7, NONE):
+        bench.write("j", content)
+        bench.compare(describe(bench, "j"), [], [why[0], "Error 15: journal fault 1.", why[1]])
+        bench.expect("--restore", "j", err=[why[0], "Error 15: journal fault 1.", why[1]])
+        bench.check_nothing_sent()
     bench.compare(describe(bench, "none"), [], reference.file_fault(1, "none", "missing"))
     bench.check_absent("none")
 

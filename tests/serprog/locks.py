@@ -166,11 +166,9 @@ def says_which_lock_differs(start):
             (b"\0\0", b"\x84\0", "00 00. Status of the chip: 84 00 BP0 SRP0.", reference.CLEAR_SRP0),
             (b"\0\0", b"\0\x01", "00 00. Status of the chip: 00 01 SRP1.", reference.CLEAR_SRP1),
             (b"\0\x01", b"\0\0", "00 01 SRP1. Status of the chip: 00 00.", reference.WRITE_IMAGE),
-            (b"\0\0", b"\0\x02", "00 00. Status of the chip: 00 02 QE.", reference.WRITE_IMAGE),
-            (b"\x18\0", b"\x2c\x0c", "18 00 BP1 BP2. Status of the chip: 2c 0c BP0 BP1 TB reserved LB1.",
-             reference.WRITE_IMAGE),
+            (b"\0\x08", b"\0\0", "00 08 LB1. Status of the chip: 00 00.", reference.WRITE_IMAGE),
             (b"\0\0", b"\x80\x01", "00 00. Status of the chip: 80 01 SRP0 SRP1.", reference.WRITE_IMAGE),
-            (b"\0\0", b"\x80\x02", "00 00. Status of the chip: 80 02 SRP0 QE.", reference.WRITE_IMAGE)):
+            (b"\0\0", b"\x80\x02", "00 00. Status of the chip: 80 02 SRP0 QE.", reference.CLEAR_SRP0)):
         bench = bench_with(start, found, data=data)
         bench.write("j", reference.journal(PART, data, [0], saved))
         bench.expect("--restore", "j", "-N", err=[

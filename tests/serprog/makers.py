@@ -25,7 +25,7 @@ def table(size, requirements):
     found = bytearray(sfdp(size).ljust(16 + 64, b"\0"))
     found[16 + 58] = 0b101 << 4
     if requirements is not None:
-        found[4], found[11] = 6, 16
+        found[4], found[11], found[16 + 40] = 6, 16, 8 << 4
         found[16 + 58] = requirements << 4 | 0x0F
     return bytes(found)
 

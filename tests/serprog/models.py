@@ -14,9 +14,12 @@ SAMPLES = {"write": 3, "program": 2, "erase": 5}
 
 
 def by_parts(registers, size):
-    """Returns the protected range by SEC, TB and BP2 to BP0 of status 1, and CMP of status 2 (Winbond and others)."""
+    """Returns the protected range by SEC, TB and BP2 to BP0 of status 1, and CMP of status 2 (Winbond and others).
+
+    The smallest range without SEC is a 64th of the chip, but at least 64 KiB (W25Q16JV: a 32nd).
+    """
     sec, tb, bp = registers[0] >> 6 & 1, registers[0] >> 5 & 1, registers[0] >> 2 & 7
-    length = [0, 1, 2, 4, 8, 8, 8, 0][bp] * 4096 if sec else size * [0, 1, 2, 4, 8, 16, 32, 64][bp] // 64
+    length = [0, 1, 2, 4, 8, 8, 8, 0][bp] * 4096 if sec else min(size, max(size // 64, 65536) * (1 << bp >> 1))
     if bp == 7 or (bp == 6 and sec):
         return (0, 0) if registers[1] & 0x40 and bp == 7 else (0, size)
     at_start = (0, length) if tb else (size - length, size)

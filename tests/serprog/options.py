@@ -109,14 +109,15 @@ def names_the_chip(start):
             bench.expect("-c", name, err=[reference.OTHER_NAME[0], f"-c names {other}. {there}"])
         for name in "w25q", "W25Q64DV", "W25Q64BVX", "25Q64BV", "W25Q64BV/W25Q64CV", "W25Q32JV-.M", "W25Q16JV":
             bench.expect("--chip", name, err=[
-                reference.OTHER_NAME[0], f"This program knows no chip with the name of -c. {there}"])
+                reference.OTHER_NAME[0],
+                f"This program knows no chip with the name of -c; -L lists the names. {there}"])
     bench = start()
     for name in "SFDP", "sfdp", "Sfdp":
         bench.expect("-c", name, out=[reference.found("TINY64")])
     bench.expect("-c", "W25Q64FV", err=reference.OTHER_NAME)
     bench.expect("-c", "other", err=[
-        reference.OTHER_NAME[0], "This program knows no chip with the name of -c. The connected chip has the ID fe1010, "
-        "and only its SFDP is known: its name for -c is SFDP."])
+        reference.OTHER_NAME[0], "This program knows no chip with the name of -c; -L lists the names. The connected "
+        "chip has the ID fe1010, and only its SFDP is known: its name for -c is SFDP."])
     bench.check_frames(reference.probe("TINY64"))
 
 
@@ -499,7 +500,7 @@ def shows_long_progress(start):
 def shows_what_a_power_loss_means(start):
     """A line before SEALED says what a loss of power means for SRP1, and for QE if the status is written."""
     srp1 = "Keep its power on: a loss of power clears SRP1, and a restore then ends with error 17."
-    quad = "Keep its power on: a status write that is cut off may clear QE, and a restore then ends with error 17."
+    quad = "Keep its power on: a status write that is cut off may clear QE, and a restore doesn't set it again."
     old, new = images("shows_what_a_power_loss_means")
     large = b"\xff" * (1 << 23)
     words = "-E", "--journal", "j", "-l", "layout", "-i", "first"

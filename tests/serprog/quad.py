@@ -1,7 +1,8 @@
-"""Cases of chips found by SFDP: QE in bit 6 of status 1, no erase of 4 KiB everywhere, and no unique ID.
+"""Cases of chips found by SFDP: QE in bit 6 of status 1, no erase of 4 KiB everywhere, small pages, and no unique ID.
 
 QE is in bit 6 of status 1 if the quad enable requirements (JESD216B, double word 15, bits 22 to 20) are 010b. A chip
-erases 4 KiB everywhere only if bits 1 and 0 of double word 1 are 01b (JESD216). A chip that ignores 4Bh leaves the line
+erases 4 KiB everywhere only if bits 1 and 0 of double word 1 are 01b (JESD216). Bits 7 to 4 of double word 11 are the
+binary logarithm of the size of a page (JESD216A). A chip that ignores 4Bh leaves the line
 floating, so its unique ID is read as FFh or 00h in all bytes.
 """
 import reference
@@ -16,6 +17,9 @@ FULL, NONE = b"\xff" * 8, bytes(8)
 UNEVEN = ["Error 2: unknown chip, SFDP fault 8.",
           "Its ID is fe1010. Its SFDP doesn't say that it erases sectors of 4 KiB everywhere, so a restore could fail: "
           "change this chip with another tool."]
+# The lines of a chip whose pages have fewer than 256 bytes.
+SMALL = [UNEVEN[0], "Its ID is fe1010. Its SFDP says that its pages have fewer than 256 bytes, so a restore could fail"
+         ": change this chip with another tool."]
 MAYBE_QUAD = "Chip fault 1: status 1 of this chip is 40h. Its bit 6 may protect sectors, as on Winbond's chips."
 WRITES = (b"\x01", b"\x02", b"\x06", b"\x20", b"\x52", b"\xd8", b"\xc7")
 
@@ -83,6 +87,52 @@ def needs_even_sectors(start):
         bench.check_chip(old)
 
 
+def with_pages(bench, exponent, words=16):
+    """Gives the chip an SFDP table of this many double words, whose word 11 says that a page has 2^`exponent` bytes."""
+    changed = bytearray(table(bench.chip.size, 0b000))
+    changed[11], changed[16 + 40] = words, exponent << 4 | 2
+    bench.chip.table = bytes(changed)
+
+
+def needs_whole_pages(start):
+    """A chip with pages below 256 bytes is read and compared. It gets no journal and no modifying command."""
+    for exponent, words in *((it, 16) for it in range(8)), (7, 11):
+        bench, old, _ = connect(start, 0b000)
+        with_pages(bench, exponent, words)
+        for job in (("-w", "new", "--journal", "j"), ("-E", "--journal", "j"), ("--backup", "j")):
+            bench.expect(*job, err=SMALL)
+            bench.check_absent("j")
+            check(f"modifying commands in {job}", modifies(bench), False)
+        bench.expect("-r", "out", out=[reference.found("TINY64"), "Read 65536 bytes."])
+        bench.check_file("out", old)
+        check("the comparison", bench.run("-v", "out").status, 0)
+        bench.check_chip(old)
+
+
+def takes_whole_pages(start):
+    """A chip with longer pages, or whose table lacks double word 11, is written and restored."""
+    for exponent, words in (8, 16), (9, 16), (15, 16), (8, 11), (7, 10), (0, 9):
+        bench, old, new = connect(start, 0b000)
+        with_pages(bench, exponent, words)
+        got = bench.run("-w", "new", "--journal", "j")
+        check(f"exit status with 2^{exponent} and {words} double words, {got.err}", got.status, 0)
+        bench.check_chip(new)
+        bench.check_file("j", reference.journal("TINY64", old, FEW))
+        check("the restore", bench.run("--restore", "j").status, 0)
+        bench.check_chip(old)
+
+
+def restores_a_chip_with_small_pages(start):
+    """A restore follows its journal, which an older version may have made."""
+    old, new = chip_images(FEW)
+    bench, _, _ = connect(start, 0b000)
+    with_pages(bench, 7)
+    bench.chip.data[:] = new
+    bench.write("j", reference.journal("TINY64", old, FEW))
+    check("exit status", bench.run("--restore", "j").status, 0)
+    bench.check_chip(old)
+
+
 def takes_no_floating_id(start):
     """A unique ID of FFh or 00h in all bytes is none: the journal has zeros, and restores with either level."""
     old, new = chip_images(FEW)
@@ -109,5 +159,5 @@ def restores_a_floating_id(start):
     check("the part", PARTS["TINY64"].has_row, False)
 
 
-CASES = [keeps_quad, restores_saved_quad, refuses_other_bits, needs_even_sectors, takes_no_floating_id,
-         restores_a_floating_id]
+CASES = [keeps_quad, restores_saved_quad, refuses_other_bits, needs_even_sectors, needs_whole_pages, takes_whole_pages,
+         restores_a_chip_with_small_pages, takes_no_floating_id, restores_a_floating_id]

@@ -72,6 +72,8 @@ SET_SRP0, CLEAR_SRP0 = (f" {do} SRP0 (--wp-{option}), and restore again."
 CLEAR_SRP1 = " A power cycle clears SRP1: disconnect the chip from power, and restore again."
 WRITE_IMAGE = (" If the journal is this board's, write an image from before the session instead (-w, with a new journal): "
                "-w doesn't compare these bits, and leaves them as they are. See RECOVERY.")
+# The bits of status 2 that a restore keeps as the board set them.
+BOARD_BITS = {0x02: "QE", 0x04: "bit 2 of status 2", 0x08: "LB1", 0x10: "LB2", 0x20: "LB3"}
 NOT_OFFERED = ["Error 8: range not offered.", "--wp-list lists the ranges that this chip can protect."]
 # The line after error 9, and the end of that after error 10, by whether SRP0 and SRP1 are set.
 LOCKED = {
@@ -126,6 +128,20 @@ BITS = (((0x80, "SRP0"), (0x40, "SEC"), (0x20, "TB"), (0x10, "BP2"), (0x08, "BP1
          (0x01, "SRP1")))
 
 
+# The end of chip fault 4 after a restore.
+REST_DIFFERS = "from what was read before this restore. The journal doesn't save this sector, which a disturbed " \
+    "address on the wire has probably erased or programmed. Restore this sector from a backup. Repeating this " \
+    "restore won't report it again, because the next run compares with what the sector holds now."
+
+
+def kept_bits(saved, found):
+    """Returns the line of a restore that keeps bits of status 2. `saved` is the journal's status 2, `found` the chip's."""
+    bits = "".join(f" {name} ({'set' if found & bit else 'clear'})" for bit, name in BOARD_BITS.items()
+                   if (saved ^ found) & bit)
+    quad = " A board that reads with four lines needs QE: set it with another tool." * (saved & 2 > found & 2)
+    return f"Not restored: the chip keeps these status bits, which differ from the journal:{bits}.{quad}"
+
+
 def not_stored_status(sent, found):
     """Returns the beginning of chip fault 3: the status bytes `sent` were written, and `found` read back."""
     names = [name for bits, one, other in zip(BITS, sent, found) for bit, name in bits if (one ^ other) & bit]
@@ -155,7 +171,8 @@ DIFFERENCE = {
     "-w": (", and compare the chip with the image (-v). If -v finds another address or none, the journal may be misread, "
            "too: first save the chip (--backup left.journal).", ""),
     "-E": (". The journal may be misread, too: first save the chip (--backup left.journal).", ""),
-    "--restore": (".", " If error 14 occurs again, disconnect all power from the chip, and restore with --quick."),
+    "--restore": (".", " If error 14 occurs again, disconnect all power from the chip, and restore with --quick, then from "
+                  "a backup without --quick: its erases may be others."),
 }
 
 

@@ -54,9 +54,9 @@ def compares_the_rest_of_a_restore(start):
         bench.server.traits.wrong_address = (first, last, 14)
         got = bench.run("--restore", "j", *words)
         changed = bytes(bench.chip.data)
-        begins("the restore", got, ["Chip fault 4: the chip differs at "
-               f"0x{first_difference(new, changed):06x} from what was read before this restore."])
-        check("lines", len(got.err), 1)
+        line = f"Chip fault 4: the chip differs at 0x{first_difference(new, changed):06x} {reference.REST_DIFFERS}"
+        begins("the restore", got, [line])
+        check("the lines", got.err, [line])
         if not words:
             bench.check_chip(bytes(wrong))
         bench.server.traits.wrong_address = ()

@@ -4,10 +4,10 @@
 The programmer is server.py, and its chip is a model from the datasheets (chip.py). The cases are in options.py,
 journals.py, locks.py, maps.py, chip_maps.py, regions.py, terminal.py, logs.py, backups.py, refusals.py, faults.py,
 wire.py, contact.py, contacts.py, rest.py, sectors.py, narrow.py, extract.py, ports.py, units.py, printed.py, typed.py,
-makers.py and quad.py; manual.py and rescue.py play the manual page. all_makers.py plays the chips that chips/
-describes, with the model of models.py, which model_rules.py tests. bits.py tries each single wrong bit of each reply,
-and misses each single frame. losses.py kills the program, and loses replies, at each transaction of a session and of
-its restores; busy.py does so while the chip is busy.
+makers.py, quad.py and board_bits.py; manual.py and rescue.py play the manual page. all_makers.py plays the chips that
+chips/ describes, and status_bits.py their bits of status 1, with the model of models.py, which model_rules.py tests.
+bits.py tries each single wrong bit of each reply, and misses each single frame. losses.py kills the program, and loses
+replies, at each transaction of a session and of its restores; busy.py does so while the chip is busy.
 What the program must send and print is computed by reference.py, without the program.
 
 A case that failed is printed, with what was wanted and what was got. The last line is `N passed, M failed`, and the
@@ -25,6 +25,7 @@ from pathlib import Path
 import all_makers
 import backups
 import bits
+import board_bits
 import busy
 import chip_maps
 import contact
@@ -49,6 +50,7 @@ import regions
 import rescue
 import rest
 import sectors
+import status_bits
 import terminal
 import typed
 import units
@@ -57,8 +59,8 @@ from bench import Bench, Differs
 
 MODULES = (
     options, journals, maps, chip_maps, regions, terminal, backups, refusals, faults, wire, contact, contacts, rest,
-    sectors, narrow, busy, ports, manual, rescue, logs, locks, units, extract, printed, typed, makers, quad, all_makers,
-    model_rules,
+    sectors, narrow, busy, board_bits, ports, manual, rescue, logs, locks, units, extract, printed, typed, makers, quad,
+    all_makers, status_bits, model_rules,
 )
 CASES = {case.__name__: case for module in MODULES for case in module.CASES}
 

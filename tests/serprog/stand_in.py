@@ -84,11 +84,11 @@ def status_text(status):
 
 
 def lock_advice(saved, found):
-    """Returns what to do if outside the protection bits only SRP0 differs, or only SRP1, which a power cycle clears.
+    """Returns what to do if only SRP0 differs, or only SRP1, which a power cycle clears. A restore keeps other bits.
 
     In all other cases an image can be written.
     """
-    differs = [(one ^ other) & bits for one, other, bits in zip(saved, found, (SRP0, 0x3F))]
+    differs = [(one ^ other) & bit for one, other, bit in zip(saved, found, (SRP0, SRP1))]
     if differs == [SRP0, 0]:
         return reference.SET_SRP0 if saved[0] & SRP0 else reference.CLEAR_SRP0
     is_srp1 = differs == [0, SRP1] and found[1] & SRP1 and not found[0] & SRP0
@@ -302,7 +302,7 @@ class Job:
         differ = [int.from_bytes(out[1:], "big") + next(at for at in range(SECTOR) if was[at] != now[at])
                   for (out, _), was, now in zip(rest, before, after) if was != now]
         if differ:
-            raise Fault(f"Chip fault 4: the chip differs at 0x{min(differ):06x} from what was read before this restore.")
+            raise Fault(f"Chip fault 4: the chip differs at 0x{min(differ):06x} {reference.REST_DIFFERS}")
 
     def check_kind(self, whole):
         if whole[8:11] != PARTS[self.part].id:
@@ -310,7 +310,8 @@ class Job:
             raise Fault("Error 16: another chip than the journal's.",
                         f"The journal is of {saved} with {size} bytes. The chip is {chip_text(PARTS[self.part].id)}.")
 
-    def restore_saved(self, whole):
+    def restore_saved(self, whole, fitted=None):
+        wanted = fitted or whole[19:21]
         self.link.count = 0
         line = self.found()
         self.check_kind(whole)
@@ -321,7 +322,10 @@ class Job:
                         f"Unique ID in the journal: {saved}. Unique ID of the chip: {self.unique.hex()}. "
                         + reference.OTHER_UNIT)
         fixed = PROTECTION if PARTS[self.part].has_row else 0
-        if any((one ^ other) & ~bits for one, other, bits in zip(whole[19:21], status, fixed.to_bytes(2, "big"))):
+        if any((one ^ other) & ~bits for one, other, bits in zip(wanted, status, fixed.to_bytes(2, "big"))):
+            fitted = self.fit(whole[19:21]) if fixed and not fitted else None
+            if fitted:
+                return self.restore_saved(whole, fitted)
             saved, found = status_text(whole[19:21]), status_text(status)
             raise Fault("Error 17: status differs from the journal's.",
                         f"Status in the journal: {saved}. Status of the chip: {found}."
@@ -332,8 +336,18 @@ class Job:
             number = int.from_bytes(records[at : at + 4], "little")
             saved.append(number)
             target[number * SECTOR : (number + 1) * SECTOR] = records[at + 4 : at + 4 + SECTOR]
-        self.rewrite(bytes(target), saved, status, whole[19:21])
+        self.rewrite(bytes(target), saved, status, wanted)
         return line, self.done(saved)
+
+    def fit(self, saved):
+        """Returns the status that is restored if the board changed other bits, or nothing if it can't have done so."""
+        found = self.read_status()
+        if (saved[0] ^ found[0]) & SRP0 or (saved[1] ^ found[1]) & SRP1:
+            return None
+        if saved[1] & ~found[1] & 0x38 and MISTAKE != "believes that LB1 was cleared":
+            return None
+        print(reference.kept_bits(saved[1], found[1]), file=sys.stderr)
+        return bytes([saved[0], saved[1] & ~0x3E | found[1] & 0x3E])
 
     def rewrite(self, target, saved, status, wanted):
         """Erases and programs sectors, sets the protection bits, and compares the sectors."""

@@ -42,8 +42,8 @@ class Stopped(Exception):
 DIFFER = "two reads of the same bytes differ"
 LOST = "the chip's ID changed from"
 OTHER = "the chip is another one than before"
-KEEPS = " With another tool, set these bits as they were, because this program never changes them, and a restore would " \
-    "end with error 17 (see Chip fault 3 in the manual page):"
+KEEPS = " With another tool, set these bits as they were, because this program never changes them, not even in a " \
+    "restore (see Chip fault 3 in the manual page):"
 
 
 def usage(number, *lines):
@@ -300,6 +300,9 @@ class Link:
         if sends < 5 and MISTAKE != "takes small limits":
             raise Fault(f"Programmer fault 9: the programmer sends at most {sends} bytes in a transaction, too few "
                         "for a page program" + FIRMWARE.format(self.path))
+        if reads < 8:
+            raise Fault(f"Programmer fault 9: the programmer reads at most {reads} bytes in a transaction, and a unique "
+                        "ID has 8" + FIRMWARE.format(self.path))
         if MISTAKE != "reads past the limit":
             self.longest = min(reads, BLOCK) // SECTOR * SECTOR
         size = limit(0x04, 2)

@@ -15,8 +15,8 @@ from wire import STOPPED, UNLOCK
 FIRST, OTHER = bytes.fromhex("d1d2d3d4d5d6d7d8"), bytes.fromhex("0123456789abcdef")
 EXCHANGED = f"Cause: the chip is another one than before: its unique ID was {FIRST.hex()}, and is {OTHER.hex()} now. " \
     "Connect the right chip."
-KEPT = "With another tool, set these bits as they were, because this program never changes them, and a restore would " \
-    "end with error 17 (see Chip fault 3 in the manual page): QE."
+KEPT = "With another tool, set these bits as they were, because this program never changes them, not even in a restore " \
+    "(see Chip fault 3 in the manual page): QE."
 
 
 def exchange(bench, words, journal, left):
@@ -83,7 +83,7 @@ def prints_both_sizes(start):
 
 
 def advises_on_kept_bits(start):
-    """If a status write clears QE, the line of chip fault 3 says that QE must be set before a restore."""
+    """If a status write clears QE, the line of chip fault 3 and the restore say that QE must be set."""
     old, new = large_images()
     bench = start("W25Q64FV", data=old, status=b"\x04\x02")
     bench.remembers = False
@@ -100,9 +100,12 @@ def advises_on_kept_bits(start):
     bench.expect(*UNLOCK, err=[
         STOPPED, f"{reference.not_stored_status(bytes([0, 2]), bytes(2))} {KEPT} {RESTORE} Until then it may be unprotected."])
     bench.chip.write_status = write
-    check("the restore", bench.run("--restore", "j", "-N").err[:1], ["Error 17: status differs from the journal's."])
+    got = bench.run("--restore", "j", "-N")
+    check("the restore", [got.status, got.err], [0, [reference.kept_bits(2, 0)]])
+    bench.check_chip(old, b"\x04\0")
     bench.chip.status[1] |= 0x02
-    check("the restore with QE", bench.run("--restore", "j", "-N").status, 0)
+    got = bench.run("--restore", "j", "-N")
+    check("the restore with QE", [got.status, got.err], [0, []])
     bench.check_chip(old, b"\x04\x02")
 
 

@@ -1,5 +1,5 @@
 """What the opcodes of most SPI NOR chips do."""
-M8, M16, M32 = 1 << 23, 1 << 24, 1 << 25
+M2, M8, M16, M32 = 1 << 21, 1 << 23, 1 << 24, 1 << 25
 # Reads and the write enable latch, which all chips here have in common, and the page program.
 BASE = {0x03: ("data",), 0x0B: ("data", 5), 0x05: ("status", 0), 0x06: ("latch", True), 0x04: ("latch", False),
         0x9F: ("id",), 0x02: ("program",)}

@@ -1,5 +1,5 @@
 """Winbond W25Q. Registers: SRP0 SEC TB BP2 BP1 BP0 WEL BUSY; SUS CMP LB3 LB2 LB1 - QE SRP1; status 3 with WPS (JV)."""
-from chips.common import ERASES, BASE, M8, M16, M32, RESET, SFDP, STATUS_2, STATUS_3, UNIQUE, WRITE_2, WRITE_2_CLEARS, \
+from chips.common import ERASES, BASE, M2, M8, M16, M32, RESET, SFDP, STATUS_2, STATUS_3, UNIQUE, WRITE_2, WRITE_2_CLEARS, \
     sleeps
 from models import Description, with_own_locks
 from sfdp import BY_38, BY_FF, BY_RESET, K4, K32, K64, QE_KEPT, Modes, basic, build
@@ -27,6 +27,9 @@ def later(size, **modes):
 
 CHIPS = (
     one("W25Q64FV", "ef4017", M8, FV, build(0, basic(M8, TYPES, Modes(True), at=0x80))),
+    # It has no row: its smallest protected range is a 32nd of the chip, and that of the rows a 64th.
+    one("W25Q16JV", "ef4015", M2, {**JV, **sleeps(0x14)}, later(M2), registers=(0, 0x02, 0x60),
+        protected=with_own_locks),
     one("W25Q64JV", "ef4017", M8, {**JV, **sleeps(0x16)}, later(M8), registers=(0, 0x02, 0x60),
         protected=with_own_locks),
     one("W25Q128JV", "ef4018", M16, {**JV, **sleeps(0x17)}, later(M16), registers=(0, 0x02, 0x60),

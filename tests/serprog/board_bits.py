@@ -1,0 +1,153 @@
+"""Cases of restores on a chip whose board changed QE, the reserved bit or LB1 to LB3 after the journal was made.
+
+The restore writes the sectors and the protection bits back, keeps these bits, and names them.
+"""
+import hashlib
+
+import reference
+from bench import check
+from faults import DIFFER
+from locks import READ
+from wire import check_unchanged
+
+# A chip with known block protection.
+PART, LARGE = "W25Q32FV", 1 << 22
+SECTOR = 4096
+UNIQUE = bytes.fromhex("d1d2d3d4d5d6d7d8")
+# The status of the journal, that of the chip before the restore, and that after it.
+CHANGED = ((b"\0\0", b"\0\x02", b"\0\x02"), (b"\0\x02", b"\0\0", b"\0\0"), (b"\0\0", b"\0\x04", b"\0\x04"),
+           (b"\0\x08", b"\0\x3a", b"\0\x3a"), (b"\x18\x40", b"\0\x02", b"\x18\x42"), (b"\0\0", b"\x2c\x48", b"\0\x08"),
+           (b"\x80\x02", b"\x80\0", b"\x80\0"), (b"\0\x03", b"\0\x01", b"\0\x01"))
+SAVED = [0, 5]
+
+
+def images():
+    """Returns what the journal saved, and what the chip holds before the restore."""
+    old = bytes(range(256)) * 16 + b"\xff" * (LARGE - SECTOR)
+    return old, b"\xff" * LARGE
+
+
+def bench_with(start, saved, found, unique=UNIQUE):
+    old, now = images()
+    bench = start(PART, data=now, status=found, unique=UNIQUE)
+    bench.remembers = False
+    bench.write("j", reference.journal(PART, old, SAVED, saved, unique))
+    return bench, old, now
+
+
+def of_format_1(journal):
+    """Returns the journal in format 1, which has no unique ID."""
+    found = b"NORUNDO1" + journal[8:11] + journal[19:-32]
+    return found + hashlib.sha256(found).digest()
+
+
+def restores_a_changed_board(start):
+    """The bytes and the protection bits come back, the bits of the board stay, and a line names those that differ."""
+    for saved, found, after in CHANGED:
+        for words in ("-N",), ("-N", "--quick"):
+            bench, old, now = bench_with(start, saved, found)
+            got = bench.run("--restore", "j", *words, "-o", "log")
+            line = reference.kept_bits(saved[1], found[1])
+            check(f"{saved.hex()} {found.hex()} {words}", [got.status, got.err], [0, [line]])
+            bench.check_chip(old, after)
+            check("the log", bench.path("log").read_text().splitlines().count(line), 1)
+
+
+def compares_the_rest_of_a_changed_board(start):
+    """Without -N, the other sectors are read once before the restore, and compared after it."""
+    bench, old, now = bench_with(start, b"\0\0", b"\0\x02")
+    got = bench.run("--restore", "j")
+    check("the restore", [got.status, got.err], [0, [reference.kept_bits(0, 2)]])
+    bench.check_chip(old, b"\0\x02")
+    first, rest = reference.identify(PART), reference.read_rest(PART, SAVED)
+    bench.check_frames(reference.probe(PART) + rest + first + READ + first + reference.rewriting(old, SAVED) + rest)
+
+
+def sends_a_second_identification(start):
+    """After the check, the status is read, the chip is identified again, and the restore runs as always."""
+    bench, old, now = bench_with(start, b"\0\0", b"\0\x02")
+    check("exit status", bench.run("--restore", "j", "-N").status, 0)
+    first = reference.identify(PART)
+    bench.check_frames(first + READ + first + reference.rewriting(old, SAVED))
+
+
+def refuses_other_bits(start):
+    """SRP0, SRP1, or a bit of LB1 to LB3 that the chip lacks: error 17, and nothing is modified.
+
+    So is a journal without a unique ID, since it may be another board's, except for a chip that was replaced.
+    """
+    for saved, found, advice in (
+            (b"\0\0", b"\x80\x02", reference.CLEAR_SRP0), (b"\x80\0", b"\0\x02", reference.SET_SRP0),
+            (b"\0\0", b"\0\x03", reference.CLEAR_SRP1), (b"\0\x01", b"\0\x02", reference.WRITE_IMAGE),
+            (b"\0\x08", b"\0\x02", reference.WRITE_IMAGE), (b"\0\x38", b"\0\x28", reference.WRITE_IMAGE)):
+        bench, old, now = bench_with(start, saved, found)
+        got = bench.run("--restore", "j", "-N")
+        check("the error", [got.status, got.err[0]], [1, "Error 17: status differs from the journal's."])
+        check("the advice", got.err[1][-len(advice) :], advice)
+        check("lines", len(got.err), 2)
+        check_unchanged(bench, now, found)
+    bench, old, now = bench_with(start, b"\0\0", b"\0\x02")
+    bench.write("j", of_format_1(bench.path("j").read_bytes()))
+    got = bench.run("--restore", "j", "-N")
+    check("format 1", [got.status, got.err[0]], [1, "Error 17: status differs from the journal's."])
+    check_unchanged(bench, now, b"\0\x02")
+
+
+def refuses_another_board(start):
+    """A chip with another unique ID is refused with error 20, whatever its status bits are."""
+    bench, old, now = bench_with(start, b"\0\0", b"\0\x02", unique=bytes(8))
+    got = bench.run("--restore", "j", "-N")
+    check("the error", [got.status, got.err[0]], [1, "Error 20: another unit than the journal's."])
+    check_unchanged(bench, now, b"\0\x02")
+
+
+def believes_no_wrong_status(start):
+    """If two reads of the status differ, the run ends with error 12, and nothing is modified."""
+    for first in range(2, 7):
+        bench, old, now = bench_with(start, b"\0\0", b"\0\x02")
+        carry, reads = bench.chip.transfer, []
+
+        def misread(out, length):
+            reply = carry(out, length)
+            if out[0] != 0x35:
+                return reply
+            reads.append(reply)
+            return bytes(it ^ 0x04 for it in reply) if len(reads) == first else reply
+
+        bench.chip.transfer = misread
+        got = bench.run("--restore", "j", "-N")
+        bench.chip.transfer = carry
+        check("reads of status 2", len(reads) >= first, True)
+        check("the error", [got.status, got.err[-2:-1]], [1, ["Error 12: stopped."]])
+        check("the cause", got.err[-1].startswith(DIFFER), True)
+        check_unchanged(bench, now, b"\0\x02")
+
+
+def restores_a_replaced_changed_chip(start):
+    """A backup goes to another chip, which keeps its own QE and its own lock bits."""
+    old, now = images()
+    bench = start(PART, data=now, status=b"\0\x08", unique=bytes(8))
+    bench.remembers = False
+    bench.write("j", reference.journal(PART, old, range(LARGE // SECTOR), b"\x04\x02", UNIQUE))
+    got = bench.run("--restore", "j", "--quick", "-N", "--replaced-chip")
+    check("the restore", [got.status, got.err[1:]], [0, [reference.kept_bits(2, 8)]])
+    bench.check_chip(old, b"\x04\x08")
+
+
+def restores_after_interruptions(start):
+    """A restore that was killed at any of its transactions can be repeated."""
+    bench, old, now = bench_with(start, b"\x04\0", b"\0\x02")
+    check("the restore", bench.run("--restore", "j", "-N").status, 0)
+    count = len(bench.server.log)
+    for at in range(1, count + 1, 5):
+        bench, old, now = bench_with(start, b"\x04\0", b"\0\x02")
+        bench.run("--restore", "j", "-N", events={at: "unplug"})
+        bench.plug()
+        got = bench.run("--restore", "j", "-N")
+        check(f"the restore after {at}", got.status, 0)
+        bench.check_chip(old, b"\x04\x02")
+
+
+CASES = [restores_a_changed_board, compares_the_rest_of_a_changed_board, sends_a_second_identification,
+         refuses_other_bits, refuses_another_board, believes_no_wrong_status, restores_a_replaced_changed_chip,
+         restores_after_interruptions]
