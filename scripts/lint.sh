@@ -2,10 +2,11 @@
 # scripts/lint.sh: checks each script and C file with its linter.
 #
 # Shell scripts are checked by shellcheck, C by the compiler with its warnings, Python by Python and by pyflakes, and the
-# manual pages by mandoc if it is installed. Each file outside crates/ must be executable if and only if its first line
-# names an interpreter, and the completion must not use what bash 3.2 lacks. For another linter that isn't installed a
-# line `skipped: ..` is printed. The last line is `N passed, M failed`, where each file counts once for each check, and
-# the exit status is 1 if a check failed. Without git, which lists the files, nothing is checked.
+# manual pages by mandoc, and by man for their width, if these are installed. Each file outside crates/ must be
+# executable if and only if its first line names an interpreter, and the completion must not use what bash 3.2 lacks.
+# For another linter that isn't installed a line `skipped: ..` is printed. The last line is `N passed, M failed`, where
+# each file counts once for each check, and the exit status is 1 if a check failed. Without git, which lists the files,
+# nothing is checked.
 set -uo pipefail
 
 cd "$(dirname "$0")/.." || exit
@@ -69,6 +70,12 @@ for name in sys.argv[1:]: ast.parse(open(name, encoding="utf-8").read(), name)' 
 # changes of case, `|&`, `&>>`, `;&` and `;;&`.
 is_old_bash() { ! grep -nE '\[-[0-9]+\]|(declare|local|typeset) -[a-z]*[An]|mapfile|readarray|\$\{[a-z_]+[,^]|\|&|&>>|;;?&' "$1"; }
 
+# Succeeds if each line of the manual page fits a terminal of 80 columns.
+is_narrow() {
+    local text
+    text=$(MANWIDTH=80 LC_ALL=C.UTF-8 man -l "$1" | col -bx) && ! LC_ALL=C.UTF-8 grep -nE '^.{81}' <<< "$text"
+}
+
 is_c() { cc -std=c11 -Wall -Wextra -Werror -fsyntax-only "$1"; }
 
 each runnable "${#files[@]}" "${files[@]}" is_runnable
@@ -85,7 +92,10 @@ else
     echo "skipped: the C files' look by a compiler, since there is none (cc)"
 fi
 if command -v mandoc > /dev/null; then
-    each mandoc "${#manuals[@]}" "${manuals[@]}" mandoc -T lint -W warning
+    each mandoc "${#manuals[@]}" "${manuals[@]}" mandoc -T lint
+fi
+if command -v man > /dev/null && command -v col > /dev/null; then
+    each 'width of' "${#manuals[@]}" "${manuals[@]}" is_narrow
 fi
 if command -v pyflakes3 > /dev/null; then
     together pyflakes "${#python[@]}" "${python[@]}" pyflakes3

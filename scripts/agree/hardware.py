@@ -128,6 +128,7 @@ def take_lines(page):
     known = {blank(text) for name, text in derived if name not in IMPOSSIBLE and text != "{0}"}
     reasons = re.findall(r'ProgrammerFault::(?!Handshake)\w+(?:\([\w:]+\))? => (?:\{\s*)?"(.*?)"', trouble)
     known |= {f"_ {text}" for text in reasons} | set(re.findall(r'write_str\("(the programmer is silent)"\)', trouble))
+    known |= {blank(text) for text in re.findall(r'"(the programmer .*?)\. \{advice\}"', trouble)}
     shown = {blank(re.sub(r"\bXX(?=h\b)|text of the system", "{}", text)).removesuffix(".")
              for cell in rows(page, "Programmer faults").values() for text in cell.split("\v")}
     same("texts of programmer faults", sources=known, manual=shown)
