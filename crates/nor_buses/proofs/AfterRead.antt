@@ -1,4 +1,5 @@
--- A transaction that follows reads, which leave the chip as it was, counts as if it came first.
+-- If reads left the chip as it was and the next transaction stopped, the stop has the effect that it would have had
+-- before these reads.
 use Rattle.std.proofs.Common.{◌≡◌, ◌∙◌, ◌||◌, ℕ, Bool, List, length, take, subst, ap}
 use Rattle.nor_model.specs.Chip.{Chip}
 use Rattle.nor_model.specs.Step.{Step, done_of, wears}

@@ -1,4 +1,5 @@
--- A bus that may send several transactions of the bus inside for one of its own meets the contract of a bus.
+-- Lemmas: a bus that may carry out one transaction with several transactions of the bus inside meets the contract of a
+-- bus (`Transfers`).
 use Rattle.std.proofs.Common.{◌≡◌, ◌≤◌, ◌&&◌, ◌||◌, ◌⊎◌, ℕ, Bool, true, false, List, length, ◌∙◌, arith, inl, inr, refl, sym, ap, subst}
 use Rattle.std.specs.Prelude.{◌+◌, ◌-◌, nat_le, Result, OnOk, OnErr}
 use Rattle.std.proofs.Math.Nat.{min-le_left, min-le_right}
@@ -53,8 +54,8 @@ module _ {out : List ℕ} {a b : BusState} {h h' : List Exchange} where
     worn = made.worn;
   }
 
-  -- If the bus inside carried out transactions that together make one step of the chip, or stopped as one transaction
-  -- may stop, the bus around it meets the contract.
+  -- If the bus inside, whenever it must take a transaction, makes one step of the chip, or stops as one transaction may
+  -- stop, then the bus around it meets the contract of a bus.
   pub transfers_around : {before answer : List ℕ} (outcome : Result Unit Stopped) → SameNature a b
       → (IsHonestFor out (length before) a → OnErr outcome (AtStop out a b))
       → (IsHonestFor out (length before) a → OnOk outcome (MakesStep out answer a b))
@@ -96,7 +97,7 @@ module _ {out : List ℕ} {a b : BusState} {h h' : List Exchange} where
     worn = made.worn;
   }
 
-  -- The same for a bus whose record is its own (`beside`).
+  -- States what `transfers_around` states, for a bus whose record follows from its own history (`beside`).
   pub transfers_beside : {before answer : List ℕ} (outcome : Result Unit Stopped) → SameNature a b
       → (IsHonestFor out (length before) a → OnErr outcome (AtStop out a b))
       → (IsHonestFor out (length before) a → OnOk outcome (MakesStep out answer a b))
@@ -140,8 +141,8 @@ steps_unsteady : {out answer : List ℕ} {old new : BusState} → MakesStep out 
     → MakesStep out answer (unsteady old) (unsteady new)
 steps_unsteady made = record { step = made.step; worn = made.worn }
 
--- If the bus carried out a transaction, and then stopped at one that leaves the chip as it was, it stopped after the
--- last byte of the first one.
+-- If a bus carried out the transaction `out`, and then stopped at another one that left the chip as it was or without
+-- power, this counts as a stop after the last byte of `out` (on a bus that isn't steady).
 pub stops_behind : {out answer : List ℕ} {old mid new : BusState} → Carries out answer old mid → StopsUnread mid new
     → AtStop out (unsteady old) (unsteady new)
 stops_behind {out} {answer} {old} {mid} {new} carries stops = record {
@@ -156,7 +157,7 @@ stops_behind {out} {answer} {old} {mid} {new} carries stops = record {
   unsent = λ steady. absurd (false≢true steady);
 }
 
--- The same as `transfers_beside`, for a bus that isn't steady.
+-- States what `transfers_beside` states, for a bus that isn't steady.
 pub transfers_unsteady : {out before answer : List ℕ} {a b : BusState} {h h' : List Exchange}
     (outcome : Result Unit Stopped) → SameNature a b
     → (IsHonestFor out (length before) a → OnErr outcome (AtStop out (unsteady a) (unsteady b)))
@@ -180,13 +181,13 @@ transfers_unsteady {out} {before} {answer} {a} {b} {h} {h'} outcome nature stops
 
 -- ---- a bus that passes on what a well-behaved bus must take
 
--- A read that isn't split is one that the bus inside takes.
+-- The bus inside takes a read that isn't split.
 longer_taken : (receives longer n : ℕ) (unlimited : Bool) → n ≤ 4096 + reads_longer receives unlimited longer
     → (unlimited ≡ true) ⊎ (n ≤ 4096 + longer)
 longer_taken receives longer n true few = inl refl
 longer_taken receives longer n false few = inr (omega (arith, few, min-le_left longer (receives - 4096)))
 
--- Its length is within the limit.
+-- The length of a read that isn't split is within the limit `receives`.
 longer_within : (receives longer n : ℕ) (unlimited : Bool) → 4096 ≤ receives
     → n ≤ 4096 + reads_longer receives unlimited longer → n ≤ receives
 longer_within receives longer n true most few = omega (arith, most, few)
@@ -205,7 +206,7 @@ module _ (out : List ℕ) (n : ℕ) (wide : Bool) (receives : ℕ) (inside : Bus
     ];
   }
 
-  -- If such a bus is well-behaved for a transaction, the transaction is within the limits of the bus inside.
+  -- If a bus that splits must take a transaction, the transaction is within the limits of the bus inside.
   splits_within : (sends : ℕ) → takes_whole sends receives ≡ wide
       → IsHonestFor out n (splits wide receives inside history) → (length out ≤ sends) × (n ≤ receives)
   splits_within sends is fits =

@@ -54,7 +54,8 @@ block_read w x y z address len n inside same fits = record {
 
 -- ---- the bytes of the chip
 
--- If `reply` has the data of the chip from `at` on, a read of data could return `reply`, and leaves the chip as it was.
+-- If `reply` contains the data of the chip from `at` on (or only FFh if the chip is busy), a read of data may return
+-- `reply` and leave the chip as it was.
 data_does : (idle : Bool) (at : ℕ) (chip : Chip) (reply : List ℕ)
     → ((i : ℕ) → i < length reply
     → slice_index reply i ≡ (if idle then chip.bytes ((at + i) % chip.config.size) else 255))
@@ -92,8 +93,8 @@ data_begins (opcode ∷ x ∷ y ∷ z ∷ []) reads =
     subst P (sym (eqb-true opcode 3 reads)) refl
 data_begins _ reads = absurd (false≢true reads)
 
--- If the bus inside left the chip as it was, and the reply to a read of data has the data of the chip, the chip made one
--- step.
+-- If the bus inside left the chip as it was, and the reply to a read of data contains the data of the chip, then this
+-- counts as one step of the chip.
 pub held_made : (out reply : List ℕ) (old new : BusState) → reads_data out ≡ true → KeepsAll old new
     → HasData new.chip (address_in out) reply → MakesStep out reply old new
 held_made out reply old new reads keeps has = record {
@@ -184,8 +185,8 @@ module _ (out : List ℕ) (a b : BusState) (h h' : List Exchange) (longest longe
     worn = made.worn;
   }
 
--- If the transactions of the bus inside make one step of the chip, or stopped as one transaction may stop, a bus that
--- reads ahead meets the contract.
+-- If, whenever the bus that reads ahead must take a transaction, the bus inside makes one step of the chip, or stops as
+-- one transaction may stop, then the bus that reads ahead meets the contract of a bus.
 pub transfers_ahead : (out before answer : List ℕ) (a b : BusState) (h h' : List Exchange) (longest longest' : ℕ)
     (outcome : Result Unit Stopped) → longest' ≡ longest → SameNature a b
     → (IsHonestFor out (length before) (reads_ahead longest a h) → OnErr outcome (AtStop out a b))

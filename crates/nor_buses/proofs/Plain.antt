@@ -1,4 +1,4 @@
--- A bus that hides QE hides nothing of a chip with a row.
+-- Lemmas: over a well-behaved bus, a `KeptQuad` never hides bit 6 of a chip with an ID of `rows`.
 use Rattle.std.proofs.Common.{◌≡◌, ◌∙◌, ◌⊎◌, ℕ, Bool, true, false, List, [], ◌∷◌, length, refl, sym, ap, subst, inl, inr, arith}
 use Rattle.std.specs.Prelude.{◌%◌, slice_index}
 use Rattle.std.proofs.lemmas.Bool.{false≢true, eqb-true}
@@ -23,7 +23,7 @@ plain_still rows hides has_quad is_judged old new plain nature = record {
       plain.none was (subst (λ (config : Config). keeps_bit6 rows hides config ≡ true) (nature.config was) keeps);
 }
 
--- A bus that looked for the place of QE hides bit 6.
+-- If bit 6 of the chip is never hidden, and not because `hides` is false, the chip has an ID of `rows`.
 listed_by : (rows : List (List ℕ)) (hides : Bool) (config : Config) → (hides ≡ false → true ≡ false)
     → keeps_bit6 rows hides config ≡ true → is_id_listed rows (chip_id config) ≡ true
 listed_by rows true config looked keeps = keeps
@@ -46,7 +46,7 @@ pub bit6_same : {rows rows' : List (List ℕ)} {hides hides' : Bool} {config con
     → hides' ≡ hides → config' ≡ config → keeps_bit6 rows' hides' config' ≡ keeps_bit6 rows hides config
 bit6_same rows hides config = λ i. keeps_bit6 (rows i) (hides i) (config i)
 
--- If the bus doesn't hide bit 6 of the chip, it hides nothing, or the chip has a row.
+-- If bit 6 of the chip is never hidden, `hides` is false or the chip has an ID of `rows`.
 pub plain_listed : (rows : List (List ℕ)) (hides : Bool) (config : Config) → keeps_bit6 rows hides config ≡ true
     → (hides ≡ false) ⊎ (is_id_listed rows (chip_id config) ≡ true)
 plain_listed rows true config keeps = inr keeps
@@ -60,7 +60,7 @@ idle_id (a ∷ b ∷ []) three idle step = absurd (omega (arith, three))
 idle_id (a ∷ b ∷ c ∷ []) three idle step = id_if_idle idle step
 idle_id (a ∷ b ∷ c ∷ d ∷ rest) three idle step = absurd (omega (arith, three))
 
--- An idle chip with a row returns an ID that is in the list.
+-- If an idle chip has an ID of `rows`, the ID that it returns is in the list.
 pub not_missed : (rows : List (List ℕ)) (reply : List ℕ) {old new : Chip} → length reply ≡ 3 → old.busy ≡ 0
     → Step old (0x9F ∷ []) reply new → is_id_listed rows (chip_id old.config) ≡ true
     → is_id_listed rows reply ≡ false → ⊥

@@ -1,4 +1,4 @@
--- Polls of a ready chip, reads of status 2 and reads of the ID leave the chip as it was.
+-- Lemmas: polls of a ready chip, reads of status 2 and reads of the ID leave the chip as it was.
 use Rattle.std.proofs.Common.{◌≡◌, ◌∙◌, ◌⊎◌, ◌<◌, ◌≤◌, ℕ, zero, suc, Bool, true, false, List, [], ◌∷◌, length, take, refl, sym, ap, subst, arith, inl, inr}
 use Rattle.std.specs.Prelude.{◌+◌, ◌*◌, ◌-◌, ◌%◌, ◌==◌, ◌||◌, slice_index, slice_set, if◌then◌else◌}
 use Rattle.std.proofs.Math.Bool.{or-false}
@@ -105,7 +105,7 @@ made_then {out} {answer} {old} {mid} {new} made keeps = record {
   worn = λ s. keeps.worn s ∙ made.worn s;
 }
 
--- Holds if the nature of the bus and the chip are as they were.
+-- Holds if the nature of the bus, the chip and its erased sectors are as they were.
 pub record Quiet (old new : BusState) : Type 0 where
   pub nature : SameNature old new
   pub keeps : KeepsAll old new

@@ -1,4 +1,5 @@
--- A read of data, of an ID or of SFDP leaves the chip as it was. A stop at such a read may also take its power.
+-- Lemmas: a read of data, of an ID or of SFDP leaves the chip as it was. A stop at such a read leaves the chip as it
+-- was or without power.
 use Rattle.std.proofs.Common.{◌≡◌, ◌∙◌, ◌⊎◌, ◌||◌, ℕ, zero, suc, Bool, true, false, List, [], ◌∷◌, length, take, refl, sym, ap, subst, arith, inl}
 use Rattle.std.specs.Prelude.{Result, Ok, Err, OnErr}
 use mathlib.Core.Path.{fun_ext}

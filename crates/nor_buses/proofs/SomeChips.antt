@@ -1,4 +1,5 @@
--- A bus that is well-behaved only for some chips meets the contract of a bus.
+-- Lemmas on buses that are well-behaved only for some chips (`only_if`), and on what a chip returns for a read of its
+-- ID.
 use Rattle.std.proofs.Common.{◌≡◌, ◌&&◌, ◌∙◌, ℕ, Bool, true, false, List, [], ◌∷◌, length, refl, ap, subst, inl, inr, ◌⊎◌, arith}
 use Rattle.std.specs.Prelude.{◌==◌, Result, OnOk, OnErr}
 use Rattle.std.proofs.lemmas.Bool.{and_parts}
@@ -51,8 +52,8 @@ steps_only : {out answer : List ℕ} (fits fits' : Bool) (a b : BusState) → Ma
     → MakesStep out answer (only_if fits a) (only_if fits' b)
 steps_only fits fits' a b made = record { step = made.step; worn = made.worn }
 
--- If the bus inside carried out transactions that together make one step of the chip, or stopped as one transaction
--- may stop, whenever its chip fits, the bus around it meets the contract.
+-- If the bus inside, whenever it must take a transaction and `fits` is true, makes one step of the chip, or stops as
+-- one transaction may stop, then the bus around it meets the contract of a bus.
 pub transfers_only : {out before answer : List ℕ} {a b : BusState} {fits fits' : Bool} {h h' : List Exchange}
     (outcome : Result Unit Stopped) → SameNature a b → (a.honest ≡ true → fits' ≡ fits)
     → (IsHonestFor out (length before) (only_if fits a) → OnErr outcome (AtStop out a b))

@@ -1,5 +1,5 @@
 -- Lemmas on reads and programs in parts: what holds for the transactions so far (`ReadsInParts`, `ProgramsInParts`)
--- also holds after one more part, and leads to the promise of the whole transaction.
+-- also holds after one more part, and implies the promise of the whole transaction.
 use Rattle.std.proofs.Common.{◌≡◌, ◌∙◌, ◌<◌, ◌≤◌, ◌+◌, ◌++◌, ◌⊎◌, ℕ, List, [], ◌∷◌, length, refl, sym, ap, subst, arith, inl, inr, length-take-le, length-drop, append_assoc}
 use Rattle.std.specs.Prelude.{Result, Ok, Err, OnOk, take, drop}
 use Rattle.std.proofs.lemmas.Slice.{take-put_mid}
@@ -71,7 +71,8 @@ read_stopped most from out reply answer result old mid new was within fails (inr
 
 -- ---- programs
 
--- Holds if since `old` only parts of the program with `n` bytes in total were sent, in order and without a gap.
+-- Holds if since `old` only parts of the program were sent, in order and without a gap, with polls and write enables
+-- between them. The parts have `n` data bytes in total.
 pub record ProgramsInParts (most address : ℕ) (bytes : List ℕ) (n : ℕ) (old new : List Exchange) : Type 0 where
   pub later : List Exchange
   pub is : new ≡ later ++ old

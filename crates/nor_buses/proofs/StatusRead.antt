@@ -1,4 +1,5 @@
--- A status register that was read twice in a history stays so when the history grows.
+-- Lemmas on reads of status registers: if a register was read twice in a history (`was_read_twice`), this still holds
+-- for a longer history.
 use Rattle.std.proofs.Common.{◌≡◌, ◌∙◌, ℕ, Bool, true, false, List, [], ◌∷◌, Option, None, Some, refl, ap, sym, arith, eq-eqb}
 use Rattle.std.specs.Prelude.{◌||◌, ◌&&◌, ◌==◌}
 use Rattle.std.specs.Option.{ForSome}

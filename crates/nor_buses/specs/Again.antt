@@ -1,4 +1,4 @@
--- The second reads of those sectors of a reply that differ from an image.
+-- Second reads of the sectors of a reply that differ from an image.
 use Rattle.std.specs.Prelude.{◌≡◌, ◌≢◌, ◌<◌, ◌≤◌, ◌+◌, ◌/◌, ◌%◌, ◌++◌, ◌⊎◌, ◌==◌, ℕ, true, List, [], ◌∷◌, length, slice_index, ⊤, if◌then◌else◌}
 use Rattle.nor_model.specs.Bus.{BusState, Carries, IsHonestFor, SameNature}
 use Rattle.nor_model.specs.Chip.{Chip}
@@ -7,12 +7,13 @@ use Rattle.nor_model.specs.History.{replied, bytes_or_none}
 use Rattle.nor_buses.specs.ReadsAs.{reads_data, address_in, part}
 use Rattle.nor_buses.specs.Parts.{address_bytes}
 
--- Holds if the byte with the index `i` of `answer`, which was read from the address `at` on, is the image's byte.
+-- Holds if the byte with the index `i` of `answer`, which was read from the address `at` on, equals the byte of the
+-- image at the same address.
 pub record IsExpected (image : List ℕ) (at : ℕ) (answer : List ℕ) (i : ℕ) : Type 0 where
   pub within : at + i < length image
   pub same : slice_index answer i ≡ slice_index image (at + i)
 
--- Holds if the sector of the byte with the index `i` of `answer` has a byte that is not expected.
+-- Holds if the sector of the byte with the index `i` of `answer` contains a byte that is not expected (`IsExpected`).
 pub record DiffersInSector (image : List ℕ) (at : ℕ) (answer : List ℕ) (i : ℕ) : Type 0 where
   pub j : ℕ
   pub within : j < length answer
@@ -22,8 +23,8 @@ pub record DiffersInSector (image : List ℕ) (at : ℕ) (answer : List ℕ) (i 
 abbrev pub data_read : (address : ℕ) → List ℕ
 data_read address = 0x03 ∷ address_bytes address
 
--- Holds if the transaction is a second read of `len` bytes of `answer` from the index `from` on, which all lie in
--- sectors that differ from the image, and returned the same bytes.
+-- Holds if the transaction read `len` bytes of `answer`, from the index `from` on, again and returned the same bytes.
+-- All these bytes lie in sectors that differ from the image.
 pub record IsReadAgain (image : List ℕ) (at : ℕ) (answer : List ℕ) (exchange : Exchange) : Type 0 where
   pub from : ℕ
   pub len : ℕ
@@ -36,7 +37,8 @@ AreReadAgain image at answer [] = ⊤
 AreReadAgain image at answer (exchange ∷ earlier) =
     IsReadAgain image at answer exchange × AreReadAgain image at answer earlier
 
--- Holds if the transaction read a part of `answer` with the index `i` again, and returned the same bytes.
+-- Holds if the transaction read a part of `answer` that contains the byte with the index `i` again, and returned the
+-- same bytes.
 pub record ReadsByteAgain (at : ℕ) (answer : List ℕ) (i : ℕ) (exchange : Exchange) : Type 0 where
   pub from : ℕ
   pub len : ℕ
@@ -50,8 +52,8 @@ WasReadAgain at answer i [] = ⊥
 WasReadAgain at answer i (exchange ∷ earlier) =
     ReadsByteAgain at answer i exchange ⊎ WasReadAgain at answer i earlier
 
--- Holds if since `old` the read of data `out` had the reply `answer`, and each of its bytes is expected or was read
--- again. Only sectors that differ from the image were read again.
+-- Holds if since `old` the read of data `out` had the reply `answer`, and then each byte of `answer` that differs from
+-- the image was read again. Only sectors that differ from the image were read again.
 pub record RepeatsDiffering (image out answer : List ℕ) (old new : List Exchange) : Type 0 where
   pub reads : reads_data out ≡ true
   -- the transactions after the first read, the last one first
@@ -77,7 +79,8 @@ pub record CarriesDiffering (image out answer : List ℕ) (old new : BusState) :
 
 -- ---- within the functions of this crate
 
--- Holds if each of the first `n` bytes of `answer` is expected or was read again since `old`.
+-- Holds if since `old` each of the first `n` bytes of `answer` that differs from the image was read again. Only sectors
+-- that differ from the image were read again.
 pub record RepeatsBelow (image : List ℕ) (at : ℕ) (answer : List ℕ) (n : ℕ) (old new : BusState) : Type 0 where
   pub later : List Exchange
   pub is : new.history ≡ later ++ old.history

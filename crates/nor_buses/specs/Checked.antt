@@ -1,4 +1,4 @@
--- A bus that notices a lost chip, reads status registers twice and checks status writes, as contracts see it.
+-- A bus that detects a lost chip, reads status registers twice and checks status writes, as contracts see it.
 use Rattle.std.specs.Prelude.{ℕ, Bool, List, Option}
 use Rattle.nor_model.specs.Bus.{BusState}
 use Rattle.nor_buses.specs.ReadsAs.{beside}
@@ -24,7 +24,7 @@ has_begun checked = checked.known.is_changing
 abbrev pub written_of : {B : Type 0} {over : Ghosts B} → CheckedStatus B over → Option (List ℕ)
 written_of checked = checked.known.written
 
--- True if a status write may change only SRP0, false if it may change only the protection bits.
+-- True if a status write may change only SRP0. False if it may change only the protection bits.
 abbrev pub locks_of : {B : Type 0} {over : Ghosts B} → CheckedStatus B over → Bool
 locks_of checked = checked.known.locks
 
@@ -35,7 +35,8 @@ check_fault_of checked = checked.fault
 abbrev pub history_of : {B : Type 0} {over : Ghosts B} → CheckedStatus B over → List Exchange
 history_of checked = checked.history.exchanges
 
--- The state of the bus: the chip of the bus inside, with the history of this bus, in which a status write that was
--- refused counts as sent. It is not punctual, because it may stop for reasons of its own.
+-- The state of a `CheckedStatus`: the chip of the bus inside, with this bus's own history. A status write that was
+-- refused is in this history, so it counts as sent. The bus is not punctual, because it may stop even if the bus inside
+-- does not.
 abbrev pub checked_state : {B : Type 0} {over : Ghosts B} → CheckedStatus B over → BusState
 checked_state checked = beside (inner_state checked) (history_of checked)

@@ -13,11 +13,10 @@ abbrev pub asks_none : List Exchange → Bool
 asks_none [] = true
 asks_none (last ∷ earlier) = not (begins_with 0x35 last.out) && asks_none earlier
 
--- True if an ID is one of the IDs of a list.
 abbrev pub is_id_listed : (ids : List (List ℕ)) → (id : List ℕ) → Bool
 is_id_listed ids id = list_any (λ one. bytes_eq one id) ids
 
--- True if an ID is given, and it is `id`.
+-- True if `before` is given and equals `id`.
 abbrev pub is_same : (before : Option (List ℕ)) → (id : List ℕ) → Bool
 is_same None id = false
 is_same (Some one) id = bytes_eq one id
@@ -26,7 +25,8 @@ is_same (Some one) id = bytes_eq one id
 abbrev pub is_listed_chip : (ids : List (List ℕ)) → (before : Option (List ℕ)) → Config → Bool
 is_listed_chip ids before config = is_same before (chip_id config) || is_id_listed ids (chip_id config)
 
--- True if a transaction that sent `out` and received `reply` is a read of the ID (9Fh) of a chip that has the command.
+-- True if a transaction that sent `out` and received `reply` is a read of the ID (9Fh, with three reply bytes) that
+-- returned an ID of the list, or the ID `before`.
 abbrev pub shows_known : (ids : List (List ℕ)) → (before : Option (List ℕ)) → (out reply : List ℕ) → Bool
 shows_known ids before out reply =
     begins_with 0x9F out && (length reply == 3 && (is_same before reply || is_id_listed ids reply))
@@ -36,23 +36,26 @@ abbrev pub is_readable : (word : List ℕ) → Bool
 is_readable (a ∷ b ∷ c ∷ d ∷ []) = c / 16 % 8 == 5 || c / 16 % 8 == 6
 is_readable _ = false
 
--- True if a transaction of the history is a read of SFDP (5Ah) whose reply is such a double word.
+-- True if a transaction of the history is a read of SFDP (5Ah) whose reply has these quad enable requirements
+-- (`is_readable`).
 abbrev pub names_status2 : List Exchange → Bool
 names_status2 [] = false
 names_status2 (last ∷ earlier) =
     (begins_with 0x5A last.out && is_readable (bytes_or_none last.reply)) || names_status2 earlier
 
--- True if a transaction that sent `out` and received `reply` is a read of the ID (9Fh alone) that returned another one
--- than FFFFFFh. A busy chip ignores 9Fh, and returns FFFFFFh.
+-- True if a transaction that sent `out` and received `reply` is a read of the ID (9Fh alone, with three reply bytes)
+-- that returned an ID other than FFFFFFh. A busy chip ignores 9Fh, so FFFFFFh is received.
 abbrev pub shows_id : (out reply : List ℕ) → Bool
 shows_id (opcode ∷ []) (a ∷ b ∷ c ∷ []) = opcode == 0x9F && not (a == 255 && (b == 255 && c == 255))
 shows_id _ _ = false
 
--- Holds if the ID that a well-behaved bus returned is that of its chip.
+-- Holds if, on a well-behaved bus, a read of the ID that returned an ID other than FFFFFFh (`shows_id`) returned the ID
+-- of the chip.
 pub record RepliesId (out reply : List ℕ) (inside : BusState) : Type 0 where
   pub id : inside.honest ≡ true → shows_id out reply ≡ true → reply ≡ chip_id inside.chip.config
 
--- Holds if a chip with a known ID is known (`is_known`) once its ID was read over a well-behaved bus.
+-- Holds if `is_known` is true once an ID was read (`has_id`) over a well-behaved bus whose chip has an ID of the list,
+-- or the ID `before`.
 pub record IsKnownOnceRead (ids : List (List ℕ)) (before : Option (List ℕ)) (has_id is_known : Bool) (inside : BusState)
     : Type 0 where
   pub known : has_id ≡ true → inside.honest ≡ true → is_listed_chip ids before inside.chip.config ≡ true

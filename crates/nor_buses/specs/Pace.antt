@@ -2,8 +2,8 @@
 use Rattle.std.specs.Prelude.{◌+◌, ◌-◌, ◌*◌, ◌/◌, ◌^◌, ◌==◌, ◌||◌, nat_lt, ℕ, zero, suc, true, List, [], ◌∷◌, Option, None, Some, min, max, if◌then◌else◌}
 use Rattle.nor_model.specs.PolledReady.{polled_ready_after}
 
--- The number of successive polls that showed BUSY, after one more transaction. A transaction that is no such poll sets
--- it to 0.
+-- The number of successive polls that showed BUSY, after one more transaction; at most 2^64 - 1. Any other transaction
+-- sets it to 0.
 abbrev pub busy_row_after : (out answer : List ℕ) → (before : ℕ) → ℕ
 busy_row_after out answer before = if polled_ready_after out answer true then 0 else min (before + 1) (2 ^ 64 - 1)
 

@@ -40,7 +40,8 @@ can_split_read (opcode ∷ x ∷ y ∷ z ∷ []) = opcode == 0x03
 can_split_read (opcode ∷ x ∷ y ∷ z ∷ dummy ∷ []) = opcode == 0x5A
 can_split_read _ = false
 
--- Holds if since `old` only parts of the read `out` were sent, in order and without a gap.
+-- Holds if since `old` only parts of the read `out` were sent, in order and without a gap. After success, `answer`
+-- consists of the replies to these parts.
 pub record SplitsRead (most : ℕ) (out answer : List ℕ) (result : Result Unit Stopped)
     (old new : List Exchange) : Type 0 where
   pub later : List Exchange
@@ -97,7 +98,8 @@ AreProgramSteps most address bytes (exchange ∷ earlier) =
     (SendsPoll exchange ⊎ (Enables exchange earlier ⊎ ProgramsPart most address bytes exchange earlier))
     × AreProgramSteps most address bytes earlier
 
--- Holds if since `old` only parts of this program were sent, in order, with polls and a write enable between them.
+-- Holds if since `old` only parts of this program were sent, in order and without a gap, with polls and a write enable
+-- between two parts. After success, all bytes of the program were sent.
 pub record SplitsProgram (most address : ℕ) (bytes : List ℕ) (result : Result Unit Stopped)
     (old new : List Exchange) : Type 0 where
   pub later : List Exchange

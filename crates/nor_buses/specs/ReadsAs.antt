@@ -8,7 +8,8 @@ abbrev pub reads_data : (out : List ℕ) → Bool
 reads_data (opcode ∷ x ∷ y ∷ z ∷ []) = opcode == 0x03
 reads_data _ = false
 
--- The address in the bytes `out`: the three bytes after the opcode, high byte first. 0 if `out` has no whole address.
+-- The address in the bytes `out`: the three bytes after the opcode, high byte first. It is 0 if `out` has no whole
+-- address.
 abbrev pub address_in : (out : List ℕ) → ℕ
 address_in (opcode ∷ x ∷ y ∷ z ∷ rest) = 65536 * x + 256 * y + z
 address_in _ = 0
@@ -16,8 +17,8 @@ address_in _ = 0
 abbrev pub part : (bytes : List ℕ) → (at n : ℕ) → List ℕ
 part bytes at n = take n (drop at bytes)
 
--- The state of a bus that may send several transactions of the bus inside for one of its own. It is not punctual,
--- because it may stop at each of them.
+-- The state of a bus that may carry out one transaction with several transactions of the bus inside: the state of the
+-- bus inside with the history of this bus. It is not punctual, because it may stop at each of these transactions.
 abbrev pub around : (inside : BusState) → (history : List Exchange) → BusState
 around inside history = record inside { history = history; punctual = false }
 
@@ -52,7 +53,7 @@ pub record EndsWithRead (start : ℕ) (answer : List ℕ) (history : List Exchan
   pub address : address_in (last_out history) ≡ start
   pub is : history ≡ replied (last_out history) answer ∷ drop 1 history
 
--- Holds if `bytes` are the bytes that the last transaction, a read of data, returned from the address `at` on.
+-- Holds if the last transaction is a read of data, and returned `bytes` for the addresses from `at` on.
 pub record EndsWithData (at : ℕ) (bytes : List ℕ) (history : List Exchange) : Type 0 where
   pub start : ℕ
   pub answer : List ℕ
@@ -60,7 +61,7 @@ pub record EndsWithData (at : ℕ) (bytes : List ℕ) (history : List Exchange) 
   pub begins : start ≤ at
   pub same : bytes ≡ part answer (at - start) (length bytes)
 
--- Holds if the first `len` bytes of `block` are the whole reply to the last transaction, a read of data from `start`
--- on.
+-- Holds if `len` is 0, or the first `len` bytes of `block` are the whole reply to the last transaction, a read of data
+-- from `start` on.
 pub record HoldsReply (block : List ℕ) (start len : ℕ) (history : List Exchange) : Type 0 where
   pub reply : 0 < len → EndsWithRead start (take len block) history

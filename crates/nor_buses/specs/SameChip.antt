@@ -23,7 +23,7 @@ other_of same = same.other
 abbrev pub history_of : {B : Type 0} → SameChip B → List Exchange
 history_of same = same.history.exchanges
 
--- The state of the bus. A modifying command that was refused counts as sent.
+-- The state of a `SameChip`. A modifying command that was refused counts as sent.
 abbrev pub same_chip_state : {B : Type 0} → (inside : B → BusState) → SameChip B → BusState
 same_chip_state inside same = beside (inside (checked_by same)) (history_of same)
 
@@ -38,14 +38,15 @@ reads_unique _ = false
 abbrev pub unique_after : (out reply : List ℕ) → (known : Option (List ℕ)) → Option (List ℕ)
 unique_after out reply known = if reads_unique out && length reply == 8 then Some reply else known
 
--- Holds for what was sent before a modifying command: the unique ID was read again if one is remembered and no
--- modifying command was passed on before; otherwise nothing.
+-- Holds if the unique ID was read again before a modifying command and was the same as `unique`. If none is remembered,
+-- or a modifying command was passed on before (`begun`), nothing was sent.
 pub record IsChecked (begun : Bool) (unique : Option (List ℕ)) (old new : List Exchange) : Type 0 where
   pub later : begun ≡ true → new ≡ old
   pub none : unique ≡ None → new ≡ old
   pub again : (bytes : List ℕ) → begun ≡ false → unique ≡ Some bytes → new ≡ replied unique_read bytes ∷ old
 
--- Holds if the unique ID `other.before` was remembered, and another one was returned when it was read again.
+-- Holds if the unique ID `other.before` was remembered, and a read of the unique ID then returned another one,
+-- `other.found`.
 pub record FindsOther (unique : Option (List ℕ)) (other : OtherChip) (old new : List Exchange) : Type 0 where
   pub before : unique ≡ Some other.before
   pub differs : other.found ≡ other.before → ⊥

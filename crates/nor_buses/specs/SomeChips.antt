@@ -1,10 +1,10 @@
--- A bus that is well-behaved only for some chips.
+-- The state of a bus that is well-behaved only for some chips.
 use Rattle.std.specs.Prelude.{◌&&◌, ◌∷◌, [], ℕ, Bool, List, slice_index_or}
 use Rattle.nor_model.specs.Bus.{BusState}
 use Rattle.nor_model.specs.declared.config.Config.{Config}
 
--- The state of the bus inside, for a bus that is well-behaved only if `fits` is true. That is a fact of the chip's
--- configuration, which never changes.
+-- The state of the bus inside, except that it counts as well-behaved only if `fits` is true. `fits` must depend only on
+-- the chip's configuration and on fixed settings of the bus, so that it never changes.
 abbrev pub only_if : (fits : Bool) → (inside : BusState) → BusState
 only_if fits inside = record inside { honest = inside.honest && fits }
 

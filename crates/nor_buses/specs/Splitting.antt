@@ -25,16 +25,18 @@ history_of splitting = splitting.history.exchanges
 abbrev pub takes_whole : (sends receives : ℕ) → Bool
 takes_whole sends receives = nat_le 260 sends && nat_le 4096 receives
 
--- How many bytes more than 4,096 a read may have that isn't split. `receives` is the greatest number of bytes that a
--- transaction over the bus inside reads. If that bus isn't `unlimited`, it takes reads of up to 4,096 + `longer` bytes.
+-- The number of bytes by which a read may exceed 4,096 bytes so that it isn't split and the bus inside takes it.
+-- `receives` is the greatest number of bytes that a transaction over the bus inside reads. If that bus isn't
+-- `unlimited`, it takes reads of up to 4,096 + `longer` bytes.
 abbrev pub reads_longer : (receives : ℕ) → (unlimited : Bool) → (longer : ℕ) → ℕ
 reads_longer receives unlimited longer = if unlimited then receives - 4096 else min longer (receives - 4096)
 
 -- The state of a bus with this history that splits what the bus inside can't take. The chip is that of the bus inside.
 --
--- The bus is well-behaved if the bus inside is and `wide` is true: then this bus splits no transaction of a length that
--- it must take. If it may split some, a program in parts that stops may leave an idle chip whose write enable latch is
--- set, which no stop of a single transaction does.
+-- The bus is well-behaved if and only if the bus inside is and `wide` (`takes_whole`) is true: then this bus splits no
+-- transaction of a length that it must take. If `wide` is false, a program in parts that stops may leave the page
+-- partly programmed, the chip idle and its write enable latch set. The stop of a single transaction can't leave this
+-- state.
 abbrev pub splits : (wide : Bool) → (receives : ℕ) → (inside : BusState) → (history : List Exchange) → BusState
 splits wide receives inside history = record (beside inside history) {
   honest = inside.honest && wide;

@@ -21,7 +21,7 @@ abbrev pub is_known : Option (List ℕ) → Bool
 is_known None = false
 is_known (Some id) = true
 
--- The history after one more read of the ID, whose reply is the known ID. If no ID is known, the history as it was.
+-- The history after one more read of the ID, whose reply is the known ID. If no ID is known, the history is unchanged.
 abbrev pub confirmed : (known : Option (List ℕ)) → List Exchange → List Exchange
 confirmed None history = history
 confirmed (Some id) history = read_id id ∷ history
@@ -78,13 +78,13 @@ abbrev pub ends_busy : (history : List Exchange) → Bool
 ends_busy [] = false
 ends_busy (last ∷ earlier) = begins_with 0x05 last.out && shows_busy (bytes_or_none last.reply)
 
--- True if the ID was read just after a poll that showed BUSY: a busy chip ignores this read.
+-- True if the last transaction is a read of the ID, just after a poll that showed BUSY. A busy chip ignores this read.
 abbrev pub read_id_while_busy : (history : List Exchange) → Bool
 read_id_while_busy [] = false
 read_id_while_busy (last ∷ earlier) = has_read_id last && ends_busy earlier
 
--- True if the history has four transactions in a row, of which the first and third begin with `opcode` and have replies
--- that begin with `byte`, and the second and fourth are reads of the ID.
+-- True if the history contains four transactions in a row (in order of time) of which the first and third begin with
+-- `opcode` and have replies that begin with `byte`, and the second and fourth are reads of the ID.
 abbrev pub was_read_twice : (opcode byte : ℕ) → List Exchange → Bool
 was_read_twice opcode byte [] = false
 was_read_twice opcode byte (d ∷ []) = false
@@ -112,8 +112,9 @@ abbrev pub ChangesAsAllowed : (locks : Bool) → (one two one_read two_read : �
 ChangesAsAllowed true one two one_read two_read = ChangesOnlySrp0 one two one_read two_read
 ChangesAsAllowed false one two one_read two_read = ChangesOnlyProtection one two one_read two_read
 
--- Holds if `out` is a status write that a `CheckedStatus` may pass on: both status registers were read twice before,
--- and the ID was read after each read.
+-- Holds if a `CheckedStatus` may pass on `out`: it is a status write of two bytes in which BUSY, WEL and SUS are clear,
+-- and it changes only bits that it may change (`ChangesAsAllowed`). Both status registers were read twice before, and
+-- the ID was read after each of these reads.
 pub record IsStatusAllowed (locks : Bool) (out : List ℕ) (history : List Exchange) : Type 0 where
   pub one : ℕ
   pub two : ℕ

@@ -17,8 +17,8 @@ has_differed twice = twice.differed
 abbrev pub expected_of : {B : Type 0} → ReadTwice B → Option (Vec ℕ Global)
 expected_of twice = twice.expected
 
--- Holds if an image is expected, and after the read of data `out` with the reply `answer` each byte that differs from
--- the image was read again.
+-- Holds if an image is expected, and each byte of `answer`, the reply to the read of data `out`, that differs from the
+-- image was read again.
 abbrev pub RepeatsUnexpected : {B : Type 0} → ReadTwice B → (out answer : List ℕ) → (old new : List Exchange) → Type 0
 RepeatsUnexpected twice out answer old new = elim twice.expected [
   | None ↦ ⊥

@@ -17,22 +17,22 @@ use nor_model::{Bus, History, Stopped};
 // this length does not reach past the end of a chip.
 const LONGEST_BLOCK: u32 = 1 << 16;
 
-/// A bus that reads data (03h) ahead, if reads follow each other. It keeps the bytes that it last read over the bus
-/// inside in memory: the *block*. If the block has all bytes of a read, they are returned from memory. Otherwise a new
-/// block is read, from the address of the read on. If this is the address at which the last block ended, the length of
-/// the block doubles, up to 64 KiB; otherwise it is the length of the read.
+/// A bus that reads data (03h) ahead if reads follow each other. It keeps the bytes that it last read over the bus
+/// inside in memory: the *block*. If the block contains all bytes of a read, they are returned from memory. Otherwise a
+/// new block is read, which begins at the address of the read. If this is the address at which the last block ended,
+/// the length of the block doubles, up to the greatest length that the limits below allow; otherwise it is the length
+/// of the read.
 ///
-/// The block is forgotten at each transaction that is passed on unchanged, and if the bus inside stops. It ends at a
-/// multiple of 64 KiB at the latest, and `end_blocks_at` can end it earlier. It is never longer than the bus inside can
-/// read. A transaction is passed on unchanged if it is no read of data, reads more than the longest block, or reaches
-/// past a multiple of 64 KiB.
+/// The block is discarded at each transaction that is passed on unchanged, and if the bus inside stops. A block ends at
+/// the next multiple of 64 KiB at the latest, and `end_blocks_at` can make it end earlier. It is never longer than the
+/// bus inside can read. A transaction is passed on unchanged if it is no read of data, reads more than the longest
+/// block, or reaches past a multiple of 64 KiB.
 ///
-/// If a read of data of at least one byte returns `Ok`, the last transaction over the bus inside is a read of data, and
-/// its reply has the returned bytes at the same addresses.
+/// On any bus, if a read of data of at least one byte returns `Ok`, the last transaction over the bus inside is a read
+/// of data, and its reply contains the returned bytes at the same addresses.
 ///
-/// This bus is never punctual. It is proved to be well-behaved if the bus inside is and takes the blocks: if that bus
-/// is unlimited, or takes reads that are as long as the longest block. While this bus is used, nobody else may modify
-/// the chip.
+/// This bus is never punctual. It is proved to be well-behaved if the bus inside is, and is unlimited or takes reads as
+/// long as the longest block. While this bus is used, nobody else may modify the chip.
 ///
 /// The history lists each transaction over this bus with its reply, even a read whose bytes came from memory. In
 /// contracts, the modifying commands that were sent and the result of the last poll are those of the bus inside.
@@ -78,7 +78,7 @@ impl<B: Bus + Drop> ReadAhead<B> {
         }
     }
 
-    /// Sets the address at which each further block ends at the latest, unless the read itself needs more bytes.
+    /// Sets the address at which each later block ends at the latest, unless the read itself needs more bytes.
     /// `u32::MAX` removes this limit.
     pub fn end_blocks_at(&mut self, address: u32)
         ensures bus { ahead_of self.new ≡ ahead_of self.old }

@@ -1,4 +1,4 @@
-//! A bus that hides bit 6 of status 1 if it is QE (quad enable), which protects nothing.
+//! A bus that hides bit 6 of status 1 if this bit is QE (quad enable). QE protects nothing.
 ghost use Rattle.std.specs.Prelude.{◌≡◌, ◌%◌, ◌∷◌, [], not, true, false, IfOk, OnErr, OnOk, length, slice_index, slice_set};
 ghost use Rattle.std.proofs.lemmas.Bool.{and_parts};
 ghost use Rattle.nor_model.specs.Bus.{IsHonestFor, SameNature, AtStop, Transfers};
@@ -12,39 +12,41 @@ use crate::known_status2::{is_id_listed, word_15_in};
 use nor_model::opcodes::{READ_ID, READ_SFDP, READ_STATUS1, WRITE_STATUS};
 use nor_model::{Bus, History, Stopped};
 
-// The headers of the SFDP: its own, and that of its first table (JESD216, headers).
+// The bytes that read the SFDP header (`HEADER`) and the header of the first parameter table (`FIRST_TABLE`) (JESD216).
 const HEADER: [u8; 5] = [READ_SFDP, 0, 0, 0, 0];
 
 const FIRST_TABLE: [u8; 5] = [READ_SFDP, 0, 0, 8, 0];
 
-/// A bus that returns bit 6 of status 1 as 0 if this bit is QE. On Winbond's chips bit 6 is SEC, which protects. But on
-/// Macronix, ISSI and others it is QE, which lets the chip use four data lines and protects nothing.
+/// A bus that returns bit 6 of status 1 as 0 if this bit is QE. On Winbond's chips bit 6 is SEC, a protection bit. On
+/// chips of Macronix, ISSI and others it is QE, which lets the chip use four data lines and protects nothing.
 ///
 /// The SFDP says where QE is: quad enable requirements of 010b, in bits 22 to 20 of double word 15, mean bit 6 of
-/// status 1 (JESD216B, double word 15). When a poll (05h) first shows an idle chip with bit 6 set, this bus reads the
-/// ID and, unless the ID is one of `rows`, both headers of the SFDP and double word 15. If the SFDP doesn't have this
-/// double word, or its requirements are others, bit 6 is passed on from then on.
+/// status 1 (JESD216B, double word 15). When a poll (05h with one reply byte) first shows an idle chip with bit 6 set,
+/// this bus reads the ID and, unless the ID is one of `rows`, both headers of the SFDP and double word 15. If the ID is
+/// one of `rows`, the SFDP doesn't have this double word, or its requirements are others, then bit 6 is passed on
+/// unchanged from then on.
 ///
-/// A status write to a chip whose QE is hidden stops, and nothing is sent, so QE stays as it is. Each other transaction
-/// is passed on unchanged. The engine sends no status write to a chip without a row.
+/// If QE is hidden, a status write returns `Stopped` and is not sent, so QE stays as it is. Each other transaction is
+/// passed on unchanged. The engine sends no status write to a chip that has no row in the table of known chips.
 ///
-/// This bus is well-behaved if the bus inside is, and if bit 6 of the chip is never hidden, because the chip has an ID
-/// of `rows` or this bus doesn't hide. This bus is never punctual.
+/// This bus is well-behaved if the bus inside is, and if bit 6 of the chip is never hidden: because the chip has an ID
+/// of `rows`, or because `hides` is false. This bus is never punctual.
 ///
 /// The history lists each transaction over this bus with its reply. In contracts, the chip is that of the bus inside.
 /// The modifying commands and the result of the last poll are those of this bus's own history.
 #[derive(Drop)]
 pub struct KeptQuad<B: Bus + Drop> {
     bus: B,
-    // The IDs of the chips that have a row.
+    // The IDs of the chips that have a row in the table of known chips. Their bit 6 is SEC.
     rows: &'static [[u8; 3]],
-    // True if bit 6 is hidden if it is QE.
+    // True if this bus hides bit 6 of a chip on which it is QE. If false, this bus hides nothing.
     hides: bool,
     has_quad: bool,
-    // True if the place of QE was looked up, or doesn't matter.
+    // True if it is decided whether bit 6 is hidden: QE was looked up, or this bus hides nothing.
     is_judged: bool,
     history: History,
-    // Bit 6 of a chip with an ID of `rows` isn't hidden.
+    // If `hides` is false, `is_judged` is true. On a well-behaved bus, bit 6 isn't hidden if `hides` is false or the
+    // chip has an ID of `rows`.
     ghost plain: { IsPlain rows.now hides has_quad is_judged (B.state bus) },
 }
 
@@ -82,7 +84,7 @@ impl<B: Bus + Drop> KeptQuad<B> {
 impl<B: Bus + Drop> KeptQuad<B> {
     ghost use Rattle.nor_buses.specs.KeptQuad.{kept_by, rows_of, hides_of, has_quad, is_judged, history_of, inside_kept};
 
-    // Finds out whether bit 6 of status 1 is QE.
+    // Finds out whether bit 6 of status 1 is QE, and records this.
     #[tactic(auto, using(crate::proofs::Plain::plain_still, crate::proofs::Plain::plain_judged))]
     fn judge(&mut self) -> Result<(), Stopped>
         requires unjudged { is_judged self.old ≡ false }
@@ -107,7 +109,7 @@ impl<B: Bus + Drop> KeptQuad<B> {
         Ok(())
     }
 
-    // Reads the ID and the SFDP. Returns whether they say that bit 6 of status 1 is QE.
+    // Reads the ID and, unless it is one of `rows`, the SFDP. Returns whether they say that bit 6 of status 1 is QE.
     #[tactic(auto, using(crate::proofs::Plain::plain_still))]
     fn is_bit6(&mut self) -> Result<bool, Stopped>
         requires { (B.state (kept_by self.old)).honest ≡ true → (B.state (kept_by self.old)).chip.busy ≡ 0 }
@@ -189,7 +191,8 @@ impl<B: Bus + Drop> KeptQuad<B> {
         Ok(())
     }
 
-    // Clears bit 6 of a status byte if it is QE. If that isn't known yet, finds it out first, if `out` is 05h alone.
+    // Clears bit 6 of the status byte in `reply` if bit 6 is QE. If this isn't decided yet, `out` is 05h alone, and the
+    // byte shows an idle chip with bit 6 set, finds it out first.
     fn hide(&mut self, out: &[u8], reply: &mut [u8]) -> Result<(), Stopped>
         requires len { length reply.old ≡ 1 }
         requires idle { (B.state (kept_by self.old)).honest ≡ true → length out.now ≡ 1

@@ -13,14 +13,15 @@ pub enum CheckFault {
     /// Two reads of one status register (05h or 35h) had different replies. Examples: one poll showed a ready chip and
     /// the next one BUSY, or two reply bytes of one poll differ although both show a ready chip.
     Differs,
-    /// A status write was not sent: status 1 or 2 was not read before, the write doesn't have exactly two data bytes,
-    /// BUSY, WEL or SUS is set in it, or it would change a bit that this bus keeps. The bus keeps all bits except the
-    /// protection bits (after `locking`, all bits except SRP0), because some of them can be set only once.
+    /// A status write was not sent, for one of these reasons: status 1 or 2 was not read before; the write doesn't have
+    /// exactly two data bytes; BUSY, WEL or SUS is set in it; or it would change a bit that this bus keeps. The bus
+    /// keeps all bits except the protection bits (after `locking`, all bits except SRP0), because some of them can be
+    /// set only once.
     Refused,
-    /// The status write of `sent` was not stored: afterwards the status registers are `found`, which differs in a
+    /// The status write of `sent` was not stored: afterwards the status registers contained `found`, which differs in a
     /// non-volatile bit.
     NotStored { sent: [u8; 2], found: [u8; 2] },
-    /// The chip first replied the ID `id`, and later `found`. If contact or supply fails, all replies are FFh or 00h,
+    /// The chip first returned the ID `id`, and later `found`. If contact or power fails, all replies are FFh or 00h,
     /// and so are the bytes of `found`.
     Lost { id: [u8; 3], found: [u8; 3] },
     /// The first modifying command was not sent, because the port seems to change bytes (`ChangedByte`).
@@ -38,7 +39,7 @@ pub(crate) struct Known {
     pub(crate) written: Option<[u8; 2]>,
     // The ID of the chip: the reply to the first 9Fh with three reply bytes.
     pub(crate) id: Option<[u8; 3]>,
-    // True if a status write may change only SRP0, false if it may change only the protection bits.
+    // True if a status write may change only SRP0. False if it may change only the protection bits.
     pub(crate) locks: bool,
 }
 

@@ -10,8 +10,8 @@ ghost use Rattle.nor_buses.specs.Listed.{is_readable, names_status2, IsKnownOnce
 use nor_model::opcodes::{READ_ID, READ_SFDP, READ_STATUS2};
 use nor_model::{Bus, History, Stopped};
 
-// The number of double words that the first parameter table must have to contain the quad enable requirements, which
-// are in double word 15.
+// The number of double words that the first parameter table must have. Double word 15 contains the quad enable
+// requirements.
 const WORDS: u8 = 15;
 
 // The offset of double word 15 in the table.
@@ -19,51 +19,52 @@ const WORD_15: u32 = 56;
 
 /// A bus that sends 35h only to a chip that is known to return status 2 for it. On other makers' chips 35h may mean
 /// something else: Macronix MX25L12835F, ISSI IS25LP128 and Micron MT25QL128 enter QPI mode, and then ignore each
-/// command until their power is off.
+/// command that is sent over one data line, until their power is off.
 ///
 /// The chip is known if one of these conditions holds:
 ///
 /// - A read of the ID (9Fh with three reply bytes) returned an ID of the list `ids`, or the ID `before`.
 /// - Double word 15 of its first parameter table says so: its quad enable requirements, bits 22 to 20, are 101b or 110b
-///   (JESD216B). When the first 35h is requested, the bus reads this double word if the header of the table, at address
-///   8, was read before and gives at least 15 double words.
+///   (JESD216B). When 35h is requested for a chip that isn't known, the bus reads this double word if the header of the
+///   table, at address 8, was read before and gives at least 15 double words.
 ///
-/// To any other chip 35h is not sent, and each reply byte is 00h. Each other transaction is passed on unchanged, and so
-/// is 35h if the chip is known. The bus remembers what it knows. So the bus inside must stop if the ID changes, as
-/// `CheckedStatus` does. That bus sends 35h also of its own accord, after a status write; but it sends a status write
-/// only if 35h was passed on to it before.
+/// If the chip isn't known, 35h is not sent, and each reply byte is 00h. If it is known, 35h is passed on unchanged,
+/// like every other transaction. The bus remembers that the chip is known, so the bus inside must stop if the ID
+/// changes, as `CheckedStatus` does. `CheckedStatus` also sends 35h itself, after a status write. But it sends a status
+/// write only if 35h was passed on to it before.
 ///
-/// Before an ID other than FFFFFFh was read (9Fh alone, with three reply bytes), nothing is known about the chip. Then
-/// 35h stops, unless double word 15 names it.
+/// Until an ID other than FFFFFFh was read (9Fh alone, with three reply bytes), 35h returns `Stopped` if the chip isn't
+/// known.
 ///
-/// This bus is well-behaved if the bus inside is and the chip has an ID of `ids`, or the ID `before`. It is never
-/// punctual. If the chip is known, each transaction over it is one transaction of the bus inside (`known`).
+/// This bus is well-behaved if the bus inside is, and the chip has an ID of `ids` or the ID `before`. It is never
+/// punctual. If the chip is known, each transaction over this bus is one transaction of the bus inside (clause
+/// `known`).
 ///
 /// The history lists each transaction over this bus with its reply. In contracts, the chip is that of the bus inside.
 /// The modifying commands and the result of the last poll are those of this bus's own history.
 #[derive(Drop)]
 pub struct KnownStatus2<B: Bus + Drop> {
     bus: B,
-    // The IDs of the chips that have the command.
+    // The IDs of the chips that return status 2 for 35h.
     ids: &'static [[u8; 3]],
-    // The ID of a chip whose status 2 an earlier run read.
+    // The ID of a chip whose status 2 an earlier run read, if one is given.
     before: Option<[u8; 3]>,
     is_known: bool,
     // True if an ID other than FFFFFFh was read.
     has_id: bool,
-    // The address of double word 15 that is still to be read. `None` before the table's header was read, if the table
-    // lacks this double word, and after the double word was read.
+    // The address of double word 15, if this double word is still to be read. `None` until the table's header was read,
+    // if the table lacks this double word, and after the double word was read.
     word_15: Option<u32>,
     history: History,
-    // If an ID was read, a chip with an ID of `ids` or with the ID `before` is known.
+    // If an ID was read over a well-behaved bus, a chip with an ID of `ids` or with the ID `before` is known.
     ghost judged: { IsKnownOnceRead ids.now before has_id is_known (B.state bus) },
 }
 
 impl<B: Bus + Drop> KnownStatus2<B> {
     ghost use Rattle.nor_buses.specs.KnownStatus2.{known_by, has_status2, ids_of, before_of, history_of};
 
-    /// Returns a bus over `bus`. The chips with the IDs `ids` have the command. So has the one with the ID `before`, if
-    /// it is given, because an earlier run read its status 2.
+    /// Returns a bus over `bus`. The chips with an ID of `ids` return status 2 for 35h. If `before` is given, so does
+    /// the chip with this ID, because an earlier run read its status 2.
     pub fn new(bus: B, ids: &'static [[u8; 3]], before: Option<[u8; 3]>) -> KnownStatus2<B>
         ensures bus { known_by result ≡ bus }
         ensures known { has_status2 result ≡ false }
@@ -100,7 +101,8 @@ impl<B: Bus + Drop> KnownStatus2<B> {
 impl<B: Bus + Drop> KnownStatus2<B> {
     ghost use Rattle.nor_buses.specs.KnownStatus2.{known_by, has_status2, ids_of, before_of, history_of, inside_known};
 
-    // Reads double word 15 if its address is known, and records whether it names 35h.
+    // If the chip isn't known and the address of double word 15 is, reads this double word and records whether it says
+    // that 35h reads status 2.
     #[tactic(auto, using(crate::proofs::Judged::judged_still))]
     fn find_out(&mut self) -> Result<(), Stopped>
         ensures history { history_of self.new ≡ history_of self.old }
@@ -239,7 +241,7 @@ fn is_second(out: &[u8]) -> bool
     matches!(out, [READ_STATUS2, ..])
 }
 
-// Returns whether a transaction is a read of the ID that returned another one than FFFFFFh.
+// Returns whether a transaction is a read of the ID that returned an ID other than FFFFFFh.
 fn is_id(out: &[u8], reply: &[u8]) -> bool
     ensures { result ≡ shows_id out.now reply.now }
 {
@@ -249,8 +251,8 @@ fn is_id(out: &[u8], reply: &[u8]) -> bool
     }
 }
 
-// Returns whether a transaction is a read of the ID of a chip that has the command: one of the list, or the one with
-// the ID `before`.
+// Returns whether a transaction is a read of the ID (with three reply bytes) that returned an ID of `ids` or the ID
+// `before`.
 fn is_known_chip(ids: &[[u8; 3]], before: Option<[u8; 3]>, out: &[u8], reply: &[u8]) -> bool
     ensures { result ≡ shows_known ids.now before out.now reply.now }
 {
@@ -262,14 +264,13 @@ fn is_known_chip(ids: &[[u8; 3]], before: Option<[u8; 3]>, out: &[u8], reply: &[
     is_same(before, id) || is_id_listed(ids, id)
 }
 
-// Returns whether the ID is in the list.
 pub(crate) fn is_id_listed(ids: &[[u8; 3]], id: [u8; 3]) -> bool
     ensures { result ≡ is_id_listed ids.now id }
 {
     ids.iter().any(|one| *one == id)
 }
 
-// Returns whether `before` is this ID.
+// Returns whether `before` is given and equals `id`.
 fn is_same(before: Option<[u8; 3]>, id: [u8; 3]) -> bool
     ensures { result ≡ is_same before id }
 {
@@ -280,7 +281,8 @@ fn is_same(before: Option<[u8; 3]>, id: [u8; 3]) -> bool
 }
 
 // Returns the address of double word 15 of the table that `header`, the first parameter header, describes. Returns
-// `None` if this isn't a basic table of major revision 1 with at least 15 double words (JESD216B, parameter headers).
+// `None` if `header` doesn't describe a basic table of major revision 1 with at least 15 double words (JESD216B,
+// parameter headers).
 pub(crate) fn word_15_in(header: &[u8]) -> Option<u32> {
     match header {
         [0, _, 1, words, low, middle, high, _] if *words >= WORDS => {
@@ -290,7 +292,8 @@ pub(crate) fn word_15_in(header: &[u8]) -> Option<u32> {
     }
 }
 
-// Returns whether the quad enable requirements of double word 15 name 35h (JESD216B, section on this double word).
+// Returns whether the quad enable requirements of double word 15 say that 35h reads status 2 (JESD216B, double word
+// 15).
 fn is_readable(word: [u8; 4]) -> bool
     ensures { result ≡ is_readable word }
 {

@@ -1,6 +1,6 @@
-//! Buses that wrap a bus to a chip at any programmer. Each passes transactions on to the bus inside and adds its own
-//! features, for example pauses or second reads. The program `flashnor_serprog` uses this crate; the program `flashnor`
-//! does not.
+//! Buses that wrap another bus to the same chip. Each of them passes transactions on to the bus inside and adds a
+//! feature, for example pauses or second reads. The program `flashnor-serprog` uses them; the program `flashnor` does
+//! not.
 #![tactic(auto)]
 
 mod again;

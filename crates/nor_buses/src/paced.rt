@@ -8,10 +8,11 @@ use nor_model::{Bus, Stopped};
 use std::thread;
 use std::time::{Clock, Duration, Instant};
 
-// The longest typical duration of an operation, in microseconds, for which the first poll waits.
+// The first poll of a wait is delayed only if the operation typically takes at most this number of microseconds.
 const FIRST_POLL: u64 = 1000;
 
-// The shortest pause before the third poll of a wait, in microseconds: a seventh of the time of a page program.
+// The shortest pause before the third and each later poll of a wait, in microseconds: a seventh of the time of a page
+// program.
 const SHORTEST: u64 = 100;
 
 // The longest pause before the third and each later poll of a wait, in microseconds.
@@ -29,13 +30,13 @@ const LONGEST: u64 = 6250;
 ///   typically takes 0.7 ms, a status write 10 ms, an erase of 4 KiB 45 ms, of 32 KiB 120 ms, of 64 KiB 150 ms
 ///   (W25Q64FV datasheet, AC characteristics). An erase of the whole chip counts as one of 64 KiB. If the clock fails,
 ///   the pause has the whole duration. If no command began an operation, there is no pause.
-/// - two or more: a sixteenth of the typical duration, but at least 0.1 ms. This pause doubles after every 16 polls, up
-///   to 6.25 ms.
+/// - two or more: a sixteenth of the typical duration, but at least 0.1 ms and at most 6.25 ms. After every 16 polls
+///   this pause doubles, up to 6.25 ms.
 ///
-/// No pause is longer than 150 ms. The pauses of a wait whose 65,536 polls all show BUSY add up to at least 400 s, and
-/// to at most 410 s. The longest operation of the known chips, the erase of a whole W25Q128FV, takes at most 200 s
+/// No pause is longer than 150 ms. If all 65,536 polls of a wait show BUSY, their pauses add up to at least 400 s and
+/// at most 410 s. The longest operation of the known chips, the erase of a whole W25Q128FV, takes at most 200 s
 /// (datasheet, AC characteristics). It is not proved that `Clock::sleep` is called, or that it waits for the requested
-/// time. The bus has the state of the bus inside, so it is well-behaved if and only if the bus inside is.
+/// time. The state of this bus is the state of the bus inside, so it is well-behaved if and only if the bus inside is.
 #[derive(Drop)]
 pub struct Paced<B, C> {
     bus: B,

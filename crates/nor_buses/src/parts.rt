@@ -25,7 +25,8 @@ const ADDRESSES_END: usize = 1 << 24;
 const MOST_POLLS: u32 = 65536;
 
 // Carries out the read `out` in parts of at most `longest` bytes each, and fills `reply`. Returns `Stopped` and sends
-// nothing if `out` is no read that can be split, or passes address FFFFFFh.
+// nothing if `out` is no read that can be split, or if the read passes address FFFFFFh. Also returns `Stopped` if the
+// bus stopped.
 pub(crate) fn split_read<B: Bus>(
     bus: &mut B,
     longest: u32,
@@ -110,7 +111,8 @@ fn address_from(high: u8, middle: u8, low: u8, from: u32) -> [u8; 3]
 }
 
 // Carries out the program `out` in parts that send at most `longest` bytes each. Returns `Stopped` and sends nothing if
-// `out` is no program within one page, or if `reply` isn't empty. A poll may read `polled` bytes.
+// `out` is no program within one page, or if `reply` isn't empty. Also returns `Stopped` if the bus stopped, or if the
+// chip stayed busy. A poll may read `polled` bytes.
 pub(crate) fn split_program<B: Bus>(
     bus: &mut B,
     longest: u32,

@@ -11,17 +11,17 @@ use nor_model::{Bus, History, Stopped, is_changing};
 
 const READ_UNIQUE: [u8; 5] = [0x4B, 0, 0, 0, 0];
 
-/// The unique IDs of two chips: the one that was read first, and the one that was found before the first modifying
-/// command.
+/// The unique IDs of two chips: the one that was read last (`before`), and the one that this bus found when it read the
+/// unique ID again before the first modifying command (`found`).
 #[derive(Clone, Copy, Debug, PartialEq, Eq)]
 pub struct OtherChip {
     pub before: [u8; 8],
     pub found: [u8; 8],
 }
 
-/// A bus that checks that the chip that it is about to change is the one that was read. A board that was exchanged
-/// after its chip was read may have a chip of the same kind, which the ID (9Fh) doesn't distinguish. A session would
-/// change it with the journal of the other chip.
+/// A bus that checks, before it changes the chip, that this is the chip that was read. If a board is exchanged after
+/// its chip was read, the other board's chip may have the same ID (9Fh). Without this check, a session would change
+/// that chip with the journal of the first chip.
 ///
 /// The bus remembers the reply to the last read of the unique ID (4Bh with eight reply bytes), and reads it again
 /// before the first modifying command. If the reply differs, each modifying command returns `Stopped` and isn't sent,
@@ -29,8 +29,8 @@ pub struct OtherChip {
 /// returns the same bytes each time, so it can't be distinguished from another one. A wrong bit looks like another
 /// chip, so put this bus around a bus that reads the unique ID twice (`ReadTwice`).
 ///
-/// This bus is not punctual, but well-behaved if and only if the bus inside is. A chip ignores a read of its unique ID
-/// while it is busy; the engine sends the first modifying command only after it has waited for the chip.
+/// This bus is well-behaved if and only if the bus inside is. It is never punctual. A busy chip ignores a read of its
+/// unique ID, but the engine sends the first modifying command only after it has waited for the chip.
 ///
 /// The history lists each transaction over this bus with its reply, or without one if it failed or was refused. In
 /// contracts, the chip is that of the bus inside, and the modifying commands and the result of the last poll are those
@@ -69,7 +69,8 @@ impl<B: Bus + Drop> SameChip<B> {
         &self.bus
     }
 
-    /// Returns the two unique IDs if the chip was another one before the first modifying command, otherwise `None`.
+    /// Returns the two unique IDs if this bus found another chip before the first modifying command, and otherwise
+    /// `None`.
     pub fn other(&self) -> Option<OtherChip>
         ensures { result ≡ other_of self.now }
     {

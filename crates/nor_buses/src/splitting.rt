@@ -23,14 +23,14 @@ use nor_model::{Bus, History, Stopped};
 /// it is too long for the bus inside.
 ///
 /// A program in parts stops if the bus inside stops, or after 65,536 polls in a row that show BUSY. Then perhaps only
-/// some of its bytes are programmed, as after an interrupted program. A restore can undo this, because the bytes lie in
-/// a sector that the journal saves.
+/// some of its bytes are programmed, as after an interrupted program. After a session, a restore can undo this, because
+/// each byte that a session programs lies in a sector that its journal saves.
 ///
-/// If the limits allow a page program (260 bytes sent) and the read of a sector (4,096 bytes read), this bus is proved
-/// to be well-behaved if the bus inside is. It then passes on each transaction within the limits unchanged, so it is
+/// This bus is proved to be well-behaved if the bus inside is, and the limits allow a page program (260 bytes sent) and
+/// the read of a sector (4,096 bytes read). It then passes on each transaction within the limits unchanged, so it is
 /// also punctual and steady if the bus inside is, and takes reads as long as `longest_read` and the bus inside allow.
-/// With narrower limits this bus is not well-behaved, because a program in parts that stops may leave an idle chip with
-/// its write enable latch set.
+/// With narrower limits this bus is not well-behaved, because a program in parts that stops may leave the page partly
+/// programmed, the chip idle and its write enable latch set.
 ///
 /// The history lists each transaction over this bus with its reply. A transaction that failed or was rejected is listed
 /// without a reply, and a transaction that was split is listed once. In contracts, the chip is that of the bus inside,

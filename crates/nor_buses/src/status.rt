@@ -1,4 +1,4 @@
-//! A bus that notices a lost chip, reads status registers twice, and checks each status write.
+//! A bus that detects a lost chip, reads status registers twice, and checks each status write.
 ghost use Rattle.std.specs.Prelude.{◌≡◌, ◌⊎◌, ◌%◌, ◌||◌, ◌∷◌, [], true, false, length, ℕ, List, None, Some, OnOk, OnErr, IfOk};
 ghost use Rattle.std.specs.Option.{ForSome};
 ghost use Rattle.nor_model.specs.Bus.{IsHonestFor, SameNature, AtStop, Transfers};
@@ -20,14 +20,14 @@ use nor_model::{Bus, History, Status, Stopped, is_changing};
 
 const BUSY: u8 = 0x01;
 
-/// A bus that notices a lost chip, reads status registers twice, refuses status writes that would change other bits
-/// than the protection bits (than SRP0, if `locking` made the bus), and reads each status write back.
+/// A bus that detects a lost chip, reads status registers twice, and reads each status write back. It refuses status
+/// writes that would change any bit except the protection bits (for a bus made with `locking`, any bit except SRP0).
 ///
-/// - If contact or supply fails, each reply is FFh or 00h, however often it is read. Therefore the ID is read (9Fh with
+/// - If contact or power fails, each reply is FFh or 00h, however often it is read. Therefore the ID is read (9Fh with
 ///   three reply bytes) after each reply on which a decision depends, except for polls that are believed at once (see
-///   below). Each ID must equal the first one, even if the caller requested it; otherwise the call returns `Stopped`.
-///   With this check, a wrong reply is believed only if the chip is lost each time the reply is read, and has contact
-///   again each time for the ID after it.
+///   below). Each ID must equal the first one; otherwise the call returns `Stopped`. This includes an ID that the
+///   caller requests. With this check, a wrong reply is believed only if the chip is lost each time the reply is read,
+///   and has contact again each time for the ID after it.
 /// - The ID is read after each transaction with the opcode of a read of data (03h), SFDP (5Ah) or the unique ID (4Bh).
 /// - A poll (05h with one reply byte) is carried out with two reply bytes, since a chip repeats its status (W25Q64FV
 ///   datasheet, Read Status Register). If one of them shows BUSY, that byte is returned. If both show that the chip is
@@ -35,15 +35,15 @@ const BUSY: u8 = 0x01;
 ///   then repeated and must have the same reply, and the ID is read after each of the two polls. If the repeated poll
 ///   shows BUSY, the replies differ (`Differs`), and no ID is read after it. Other polls are believed at once.
 /// - Status 2 (35h with one reply byte) is read twice, and the ID is read after each read. Both replies must be equal.
-/// - A status write (01h) is passed on only if both status registers were read in this way before. Outside the
-///   protection bits it must have the bits that were read: SRP0, SRP1, QE, the reserved bit, and the one-time bits LB1,
-///   LB2 and LB3. BUSY, WEL and SUS must be clear. Otherwise nothing is sent. Over a bus that `locking` made, a status
-///   write must have all bits that were read, also the protection bits, except SRP0.
+/// - A status write (01h) is passed on only if it has two data bytes and both status registers were read in this way
+///   before. Outside the protection bits it must have the bits that were read: SRP0, SRP1, QE, the reserved bit, and
+///   the one-time bits LB1, LB2 and LB3. BUSY, WEL and SUS must be clear. Otherwise nothing is sent. For a bus made
+///   with `locking`, the protection bits must also be those that were read, but SRP0 may differ.
 /// - After a status write, the first poll that shows that the chip is ready also reads status 2, twice. If a
-///   non-volatile bit isn't as it was sent, the poll returns `Stopped`.
+///   non-volatile bit differs from the bit that was sent, the poll returns `Stopped`.
 /// - The bus counts how often each value occurs in the data that is read. If the port seems to change one value into
-///   another (`changed_byte`), a bus that `guarding` made refuses the first modifying command, since a journal of such
-///   data would be wrong.
+///   another (`changed_byte`), a bus made with `guarding` refuses the first modifying command, because a journal of
+///   such data would be wrong.
 ///
 /// `fault` returns why this bus stopped, if the bus inside did not.
 ///
@@ -51,11 +51,11 @@ const BUSY: u8 = 0x01;
 /// that returns BUSY reads no ID, and data, SFDP, the unique ID and status 2 must be read only while the chip is ready.
 /// The engine does so: a probe waits first, and each operation waits at its end (`wait` of nor_driver).
 ///
-/// A transaction over this bus may be several over the bus inside, or none, and this bus may stop after each of them,
-/// so it is never punctual. It is proved to be well-behaved if the bus inside is, and steady if that bus is: of its own
-/// accord it stops only after transactions that left the chip as it was, which are reads, and polls that showed that
-/// the chip is ready. A poll that shows BUSY is returned at once. If a transaction fails, `reply` may contain bytes of
-/// it.
+/// A transaction over this bus may be several transactions over the bus inside, or none, and this bus may stop after
+/// each of them, so it is never punctual. It is proved to be well-behaved if the bus inside is, and steady if that bus
+/// is. On a well-behaved bus, it stops by itself only after transactions that left the chip as it was: reads, and polls
+/// that showed that the chip is ready. If the first poll shows BUSY, its status is returned at once. If a transaction
+/// fails, `reply` may contain bytes of it.
 ///
 /// The history lists each transaction over this bus with its reply; a transaction that failed or was refused is listed
 /// without a reply. In contracts, the chip is that of the bus inside. The modifying commands and the result of the last
@@ -100,8 +100,7 @@ impl<B: Bus + Drop> CheckedStatus<B> {
         CheckedStatus::with(bus, true, false)
     }
 
-    /// Returns a bus over `bus` that checks the status registers, and lets a status write change no bit except SRP0,
-    /// not even a protection bit.
+    /// Returns a bus over `bus` that checks the status registers, and lets a status write change only SRP0.
     pub fn locking(bus: B) -> CheckedStatus<B>
         ensures bus { bus_of result ≡ bus }
         ensures begun { has_begun result ≡ false }
@@ -150,8 +149,8 @@ impl<B: Bus + Drop> CheckedStatus<B> {
         self.fault
     }
 
-    /// Returns the value that the port seems to change (0Dh or 0Ah), if there is one: it does not occur in the data
-    /// that was read, but the other of the two occurs at least 64 times, and at least 192 of the 256 values occur.
+    /// Returns the value that the port seems to change (0Dh or 0Ah), if there is one: this value does not occur in the
+    /// data that was read, but the other of the two occurs at least 64 times, and at least 192 of the 256 values occur.
     pub fn changed_byte(&self) -> Option<ChangedByte> {
         self.counts.changed_byte()
     }

@@ -20,22 +20,22 @@ const ADDRESSES_END: usize = 1 << 24;
 
 /// A bus that carries out each read of data (03h), of the ID (9Fh), of SFDP (5Ah) and of the unique ID (4Bh) twice, and
 /// stops if the replies differ. A poor contact flips bits in some reads. Without a second read a flipped bit could get
-/// into the journal, and a restore would write it to the chip. Such a read of more than 65,536 bytes is rejected:
-/// nothing is sent.
+/// into the journal, and a restore would write it to the chip. If one of these reads requests more than 65,536 bytes,
+/// it is rejected and nothing is sent.
 ///
-/// If an image is expected (`expecting`), only the sectors of a reply that differ from the image at the same addresses
-/// are read again, neighbouring ones together. This holds for reads of data (03h and three address bytes) that do not
-/// pass address FFFFFFh. If the expected image is the one that a session writes, each sector that the session's journal
-/// saves was read twice: such a session saves only sectors that differ from the image, and reads each with a single
-/// transaction.
+/// If an image is expected (`expecting`), a read of data (03h and three address bytes) that doesn't pass address
+/// FFFFFFh is not repeated as a whole. Only the sectors of its reply that differ from the image at the same addresses
+/// are read again, neighbouring sectors together. If the expected image is the one that a session writes, each sector
+/// that the session's journal saves was read twice: such a session saves only sectors that differ from the image, and
+/// reads each with a single transaction.
 ///
 /// An error that is the same in both reads is not detected. On any bus, each byte that a successful read returned is
 /// the expected one, or was returned a second time by a later transaction. If a read fails, `reply` may contain bytes
 /// of it.
 ///
-/// This bus is never punctual. It is proved to be well-behaved if the bus inside is: contracts give it the state of
-/// that bus, with its own history. If the bus inside is well-behaved and punctual, and accepts a read of this length, a
-/// read of at most 65,536 bytes fails only if no transaction is left afterwards.
+/// This bus is never punctual. It is proved to be well-behaved if the bus inside is: in contracts, its state is that of
+/// the bus inside, with its own history. If the bus inside is well-behaved and punctual, and takes a read of this
+/// length, a read of at most 65,536 bytes fails only if no transaction is left afterwards.
 ///
 /// The history lists each transaction over this bus with its reply, or without one if it failed; a repeated read is
 /// listed once.
@@ -89,7 +89,7 @@ impl<B: Bus + Drop> ReadTwice<B> {
         &self.bus
     }
 
-    /// Returns whether two reads of the same bytes ever differed.
+    /// Returns whether the two replies to a repeated read ever differed.
     pub fn differed(&self) -> bool
         ensures { result ≡ has_differed self.now }
     {
@@ -140,8 +140,9 @@ impl<B: Bus> ReadTwice<B> {
         Ok(())
     }
 
-    // Repeats the read `out`, whose first reply was `reply`, or only the sectors that differ from an expected image.
-    // Returns whether all second replies are the same. In the clauses, `before` is the state before the first read.
+    // Repeats the read `out`, whose first reply was `reply`. If an image is expected, repeats only the sectors that
+    // differ from it. Returns whether all second replies are the same. In the clauses, `before` is the state before the
+    // first read.
     fn is_confirmed(&mut self, out: &[u8], reply: &[u8]) -> Result<bool, Stopped>
         requires reads { begins_read out.now ≡ true }
         requires len { length reply.now ≤ 65536 }

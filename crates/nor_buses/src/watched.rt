@@ -1,4 +1,4 @@
-//! A bus that notices that a chip which seems to be busy has lost its contact or its supply.
+//! A bus that detects that the chip lost contact or power while it seems to be busy.
 ghost use Rattle.std.specs.Prelude.{◌≡◌, ◌⊎◌, ◌∷◌, [], true, false, length, OnErr, OnOk};
 ghost use Rattle.nor_model.specs.Bus.{IsHonestFor, SameNature, AtStop, Transfers};
 ghost use Rattle.nor_model.specs.History.{replied, stopped};
@@ -10,40 +10,43 @@ ghost use Rattle.nor_buses.specs.Watched.{unsteady};
 use nor_model::opcodes::{READ_ID, READ_STATUS1};
 use nor_model::{Bus, History, Stopped};
 
-// Each received byte if no chip drives the line, and a pull-up does.
+// The value of each received byte if no chip drives the line and a pull-up holds it high.
 const UNDRIVEN: u8 = 0xFF;
 
-// After this number of polls in a row with only FFh the ID is read. With the pauses of `Paced` they take 1.1 to 1.8
-// seconds, and longer over a slow wire.
+// The number of polls in a row with only FFh after which this bus may read the ID. With the pauses of `Paced` these
+// polls take 1.1 to 1.8 seconds, and longer over a slow wire.
 const LOOK_AFTER: u32 = 256;
 
-// A status 1 of at least this value has all bits set except WEL and BUSY, so it becomes FFh while the chip is busy.
+// A status 1 of at least this value has all bits set except perhaps WEL and BUSY, so it may be FFh while the chip is
+// busy.
 const ALL_SET: u8 = 0xFC;
 
-/// A bus that stops if the chip has lost its contact or its supply while the caller waits for it. Each reply is FFh
-/// then, which looks like BUSY, so without this bus a wait uses up its 65,536 polls and takes minutes.
+/// A bus that stops if the chip lost contact or power while the caller waits for it. Then each reply is FFh, which
+/// looks like BUSY, so without this bus a wait uses up its 65,536 polls and takes minutes.
 ///
-/// After 256 polls (05h) in a row whose replies had only bytes FFh, this bus reads the ID (9Fh). If the ID is FFFFFFh,
-/// this bus and each later transaction stop, and nothing more is sent. Any other transaction is passed on unchanged.
+/// After 256 polls (05h) in a row whose replies were one or two bytes FFh, this bus reads the ID (9Fh), except in the
+/// two cases of the next paragraph. If the ID is FFFFFFh, this transaction and each later one return `Stopped`, and
+/// nothing more is sent. Until then, each transaction is passed on unchanged.
 ///
-/// A chip that is really busy is waited for. It ignores 9Fh, so its ID may be read as FFFFFFh; but in status 1 it still
-/// shows its protection bits and SRP0, which no erase and no program changes (W25Q64FV datasheet, Status Registers).
-/// They are all set only if status 1 was FCh or more when it was last read with another value than FFh. Then the ID is
-/// not read, and neither is it if no poll returned another value yet. A status write may set all these bits, but ends
-/// after at most 30 ms, before 256 polls.
+/// A chip that is only busy must not count as lost. It ignores 9Fh, so its ID may be read as FFFFFFh. But it still
+/// shows its protection bits and SRP0 in status 1, which no erase and no program changes (W25Q64FV datasheet, Status
+/// Registers). So a busy chip can return FFh only if all these bits are set. Therefore this bus does not read the ID if
+/// the last status 1 other than FFh was FCh or more, or if no poll has returned another value than FFh yet. A status
+/// write may set all these bits, but it ends after at most 30 ms, before 256 polls.
 ///
-/// A line that is pulled low reads as 00h. That shows that the chip is ready, so the wait ends at once, and
-/// `CheckedStatus` finds the other ID.
+/// A line that is pulled low reads as 00h, which looks like a ready chip. Then the wait ends at once, and
+/// `CheckedStatus` detects that the ID changed.
 ///
-/// This bus is well-behaved if the bus inside is. It is neither punctual nor steady, because it may stop after a poll
-/// that the chip carried out.
+/// This bus is well-behaved if and only if the bus inside is. It is neither punctual nor steady, because it may stop
+/// after a poll that the chip carried out.
 ///
 /// The history lists each transaction over this bus with its reply. In contracts, the chip is that of the bus inside.
 /// The modifying commands and the result of the last poll are those of this bus's own history.
 #[derive(Drop)]
 pub struct Watched<B> {
     bus: B,
-    // How many of the last transactions were polls in a row with only FFh, at most `LOOK_AFTER`.
+    // How many polls in a row, up to the last transaction, returned only FFh; at most `LOOK_AFTER`. A read of the ID by
+    // this bus resets the number to 0.
     row: u32,
     // True if the last poll with another reply returned a status 1 below `ALL_SET`.
     has_status: bool,
@@ -52,7 +55,7 @@ pub struct Watched<B> {
 }
 
 impl<B: Bus + Drop> Watched<B> {
-    /// Returns a bus over `bus` that notices a lost chip.
+    /// Returns a bus over `bus` that detects a lost chip.
     pub fn new(bus: B) -> Watched<B>
         ensures bus { watched_by result ≡ bus }
         ensures lost { is_lost result ≡ false }
@@ -76,7 +79,7 @@ impl<B: Bus + Drop> Watched<B> {
         &self.bus
     }
 
-    /// Returns whether the chip has lost its contact or its supply.
+    /// Returns whether this bus found that the chip lost contact or power.
     pub fn is_lost(&self) -> bool
         ensures { result ≡ is_lost self.now }
     {
@@ -85,7 +88,7 @@ impl<B: Bus + Drop> Watched<B> {
 }
 
 impl<B: Bus> Watched<B> {
-    // Records the reply to a transaction.
+    // Updates `row` and `has_status` after a transaction.
     fn count(&mut self, out: &[u8], reply: &[u8])
         ensures history { history_of self.new ≡ history_of self.old }
         ensures bus { watched_by self.new ≡ watched_by self.old }
@@ -101,7 +104,7 @@ impl<B: Bus> Watched<B> {
         };
     }
 
-    // Reads the ID. If it is FFFFFFh, the chip is lost.
+    // Reads the ID. If it is FFFFFFh, records that the chip is lost, and returns `Stopped`.
     fn look(&mut self) -> Result<(), Stopped>
         ensures history { history_of self.new ≡ history_of self.old }
         ensures looked { HasLooked (B.state (watched_by self.old)).history (B.state (watched_by self.new)).history }
@@ -217,8 +220,7 @@ fn is_undriven(out: &[u8], reply: &[u8]) -> bool
     }
 }
 
-// Returns whether the last poll with another reply than FFh returned a status 1 below `ALL_SET`, after a transaction.
-// `known` is the result before it.
+// Returns the value of `has_status` after a transaction. `known` is its value before.
 fn status_after(out: &[u8], reply: &[u8], known: bool) -> bool
     ensures { result ≡ status_after out.now reply.now known }
 {

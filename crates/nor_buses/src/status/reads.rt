@@ -39,7 +39,8 @@ impl<B: Bus + Drop> CheckedStatus<B> {
         Stopped
     }
 
-    // Reads the ID, and stops if it differs from the known one. The first ID that is read is known from then on.
+    // Reads the ID, and stops if it differs from the known ID. If no ID is known, the ID that was read is known from
+    // then on.
     pub(super) fn read_id(&mut self) -> Result<[u8; 3], Stopped>
         ensures history { history_of self.new ≡ history_of self.old }
         ensures status { KeepsStatus (known_of self.old) (known_of self.new) }
@@ -68,7 +69,7 @@ impl<B: Bus + Drop> CheckedStatus<B> {
         Ok(found)
     }
 
-    // Stops because two replies differ. Reads the ID first, since the reason may be that the chip is lost.
+    // Stops because two replies differ. Reads the ID first, because the chip may be lost.
     fn differ(&mut self) -> Stopped
         ensures history { history_of self.new ≡ history_of self.old }
         ensures status { KeepsStatus (known_of self.old) (known_of self.new) }
@@ -87,8 +88,8 @@ impl<B: Bus + Drop> CheckedStatus<B> {
         }
     }
 
-    // Polls once, with two reply bytes. Returns a byte that shows BUSY, if there is one; otherwise both must
-    // be equal.
+    // Polls once, with two reply bytes. Returns a byte that shows BUSY, if there is one. Otherwise returns the first
+    // byte, and stops if the two bytes differ.
     pub(super) fn poll_once(&mut self) -> Result<u8, Stopped>
         ensures history { history_of self.new ≡ history_of self.old }
         ensures status { KeepsStatus (known_of self.old) (known_of self.new) }
@@ -120,8 +121,9 @@ impl<B: Bus + Drop> CheckedStatus<B> {
         Ok(first)
     }
 
-    // Polls twice, and reads the ID after each poll, unless the first poll shows BUSY. All reply bytes must be equal.
-    // If the second poll shows BUSY, no ID is read: a busy chip would ignore the read, and would count as lost.
+    // Polls once, and returns the status if it shows BUSY. Otherwise reads the ID, polls again, and reads the ID again.
+    // Stops if any reply bytes of the polls differ. If the second poll shows BUSY, stops without a read of the ID: a
+    // busy chip would ignore this read, so it would count as lost.
     pub(super) fn poll_twice(&mut self) -> Result<u8, Stopped>
         ensures history { history_of self.new ≡ history_of self.old }
         ensures status { KeepsStatus (known_of self.old) (known_of self.new) }
