@@ -1,5 +1,5 @@
--- What nor_session promises for the chip of a bus over a port holds for the chip of the programmer at this port. The bus
--- is a `SerprogBus`, or the layers over a `BatchingBus`.
+-- Lemmas: what nor_session promises for the chip of a bus over a port also holds for the programmer's chip at this
+-- port. The bus is a `SerprogBus`, or the layers over a `BatchingBus`.
 use Rattle.std.proofs.Common.{◌≡◌, ◌∙◌, ◌<◌, ◌/◌, ℕ, Bool, true, false, List, [], length, refl, sym, ap, subst, arith, inl, inr}
 use Rattle.std.specs.Prelude.{Option, Result, Ok, Err}
 use Rattle.std.proofs.lemmas.List.{append-nil}
@@ -36,12 +36,14 @@ use Rattle.nor_serprog.specs.Bus.{over_port}
 use Rattle.nor_serprog.specs.Enabled.{enabled}
 use Rattle.serprog_session.specs.Headline.{ReachesGenuine, CanRestoreChip, CanRestoreChipFrom, HadFewCalls, SessionFails, KeepsOriginalChip, SessionResults, FailsBy, RefusesUnsent, RestoresOriginalChip, RewritesOriginalChip, BackupFails, SavesChipOver, uncounted}
 
--- The state of a bus to the chip at the port, with this write enable latch. `waits` is true if a write enable waits.
+-- The state of a bus to the chip at the port. `waits` is true if a write enable waits; then the chip's write enable
+-- latch counts as set.
 abbrev pub seen : BusState → (waits : Bool) → PortState → BusState
 seen state waits port = record state { chip = enabled waits port.device.chip }
 
--- Holds if a bus over a port can be in the states `seen bus waits old` and `seen bus' waits' new` before and after a
--- call.
+-- Holds if a bus over a port may have the states `seen bus waits old` and `seen bus' waits' new` before and after a
+-- call: no write enable waited before, the bus is well-behaved if the port is, it isn't steady, and if it ran out of
+-- transactions, the port had too few calls left.
 pub record IsOver (old new : PortState) (waits waits' : Bool) (bus bus' : BusState) : Type 0 where
   pub empty : waits ≡ false
   pub honest : old.honest ≡ true → bus.honest ≡ true
@@ -49,7 +51,7 @@ pub record IsOver (old new : PortState) (waits waits' : Bool) (bus bus' : BusSta
   pub few : (transactions : ℕ) → 0 < transactions
       → RanOut transactions (seen bus waits old) (seen bus' waits' new) → HadFewCalls transactions old
 
--- A `SerprogBus` is over its port: a transaction takes three calls.
+-- `IsOver` holds for a `SerprogBus`, whose transactions take three calls of the port each.
 pub serprog : (old new : PortState) (history history' : List Exchange)
     → IsOver old new false false (over_port old history) (over_port new history')
 serprog old new history history' = record {
@@ -59,7 +61,8 @@ serprog old new history history' = record {
   few = λ transactions some ran. let below = (ran refl).below in omega arith;
 }
 
--- A bus that isn't punctual may stop at any transaction, as if the port had no call left.
+-- `IsOver` also holds for any other bus with its first three fields, if the port counts as having no call left
+-- (`uncounted`). Then its fourth field claims nothing, so a bus that isn't punctual may stop at any transaction.
 pub unpunctual : (old new : PortState) (waits waits' : Bool) (bus bus' : BusState) → waits ≡ false
     → (old.honest ≡ true → bus.honest ≡ true) → bus'.steady ≡ false
     → IsOver (uncounted old) new waits waits' bus bus'
@@ -91,7 +94,8 @@ target_seen waits wanted first chip made = record {
   latch = λ set. made.latch (or_right (waits && is_idle chip) chip.latch set);
 }
 
--- The latch of the chip plays no part in what a journal can restore.
+-- If a journal can restore `first` over one bus to the port's chip that isn't steady, it can restore `first` over every
+-- bus to this chip. Whether a write enable waits doesn't matter.
 pub on_every_bus : (journal : Content) (first : Chip) (bus : BusState) (waits : Bool) (port : PortState)
     → bus.steady ≡ false → CanRestore journal first (seen bus waits port)
     → CanRestoreChip journal first port.device.chip
@@ -124,6 +128,7 @@ read_from bytes first chip journal from is read =
     let P : Content → Type 0 = λ j. CanRestoreChip j first chip in
     subst P same from.back
 
+-- If a journal can restore `first` from `old`, it can also restore it from `new`, which is `old` without power.
 -- `CanRestoreChip` holds for every bus to the chip, and so for one that isn't steady. For such a bus `lost_can_restore`
 -- also covers a busy chip.
 pub lost_from_chip : (journal : Content) (first old new : Chip) → CanRestoreChip journal first old

@@ -1,4 +1,4 @@
--- Two frames of O_SPIOP in one call of the port.
+-- Lemmas on two frames of O_SPIOP in one call of the port.
 use Rattle.std.proofs.Common.{◌≡◌, ◌∙◌, ◌++◌, ◌⊎◌, ◌≤◌, ◌<◌, ℕ, List, Option, [], ◌∷◌, length, take, drop, refl, sym, ap, subst, arith, length-append}
 use Rattle.std.specs.Prelude.{Some, None, slice_index, unwrap_or}
 use Rattle.std.specs.List.{IsSplitAt}
@@ -10,13 +10,13 @@ use Rattle.nor_serprog.specs.Firmware.{Firmware, buffer_at}
 use Rattle.nor_serprog.specs.Frame.{IsFrame, frame_len, long_len, out_in}
 use Rattle.serprog_session.specs.SimPort.{simulated_firmware, IsOneFrame, AreOperations, ArePair}
 
--- A frame of O_SPIOP has at least four bytes, since its length is known only then.
+-- If the length of a frame isn't known from `rest` (`long_len` is `None`), the bytes are no whole frame of O_SPIOP.
 short_frame : (opcode : ℕ) (rest : List ℕ) → long_len rest ≡ None → IsOneFrame (opcode ∷ rest) → ⊥
 short_frame opcode rest none is =
     let P : ℕ → Type 0 = λ o. frame_len (o ∷ rest) ≡ Some (length (opcode ∷ rest)) in
     none-some _ (sym none ∙ subst P is.1 is.0)
 
--- The length of a frame of O_SPIOP follows from its first bytes, whatever follows the frame.
+-- The length of a frame of O_SPIOP follows from its first bytes, even if other bytes follow the frame.
 pub len_before : (first second : List ℕ) → IsOneFrame first → frame_len (first ++ second) ≡ Some (length first)
 len_before [] second is = absurd (let zero : ⊥ = omega (arith, is.1) in zero)
 len_before (opcode ∷ []) second is = absurd (short_frame opcode [] refl is)
@@ -31,7 +31,7 @@ some_bytes : (frame : List ℕ) → IsOneFrame frame → 0 < length frame
 some_bytes [] is = omega (arith, is.1)
 some_bytes (opcode ∷ rest) is = omega arith
 
--- Two frames of O_SPIOP are not one.
+-- Two frames of O_SPIOP, joined, are not one frame.
 pub not_one : (first second bytes : List ℕ) → bytes ≡ first ++ second → IsOneFrame first → IsOneFrame second
     → IsFrame bytes → ⊥
 not_one first second bytes is former latter whole =
@@ -94,7 +94,7 @@ second_same first second bytes front back pair other =
     sym (drop-append_seam first second) ∙ ap (λ (n : ℕ). drop n (first ++ second)) (lens_same _ _ _ _ _ pair other)
     ∙ ap (λ (b : List ℕ). drop (length front) b) (sym pair.is ∙ other.is) ∙ drop-append_seam front back
 
--- What holds for the two frames holds for any two frames with the same bytes.
+-- If `P` holds for a pair of frames, it holds for any pair of frames with the same bytes.
 for_both : (P : (first second : List ℕ) → Type 0) (first second bytes front back : List ℕ)
     → ArePair first second bytes → ArePair front back bytes → P first second → P front back
 for_both P first second bytes front back pair other holds =
@@ -112,7 +112,7 @@ pub both_cut : (first second bytes front back : List ℕ) (old new : Device) →
 both_cut first second bytes front back old new =
     for_both (λ f s. IsCut (out_in f) old new ⊎ CutsSecond f s old new) first second bytes front back
 
--- The bytes that a transaction sends, given in two ways.
+-- If `out` and `sent` are equal, `StepsOnce` for `out` implies `StepsOnce` for `sent`.
 pub stepped : (out sent answer : List ℕ) (old new : Device) → out ≡ sent → StepsOnce out answer old new
     → StepsOnce sent answer old new
 stepped out sent answer old new same steps = subst (λ (o : List ℕ). StepsOnce o answer old new) same steps
@@ -156,7 +156,7 @@ split_pair bytes front back len split are fits = record {
   fits = fits;
 }
 
--- The replies to two frames, of which the first requests no bytes.
+-- If the first of two frames requests no bytes, the replies to both are two ACKs and the bytes for the second frame.
 pub two_replies : (none reply : List ℕ) → length none ≡ 0 → 0x06 ∷ 0x06 ∷ reply ≡ (0x06 ∷ none) ++ 0x06 ∷ reply
 two_replies [] reply is = refl
 two_replies (x ∷ rest) reply is = absurd (let none : ⊥ = omega (arith, is) in none)

@@ -1,4 +1,4 @@
--- The simulated programmer replies to frames one after another, as its firmware says.
+-- Lemmas: the simulated programmer replies to frames one after another, as its firmware specifies.
 use Rattle.std.proofs.Common.{◌≡◌, ◌∙◌, ◌+◌, ◌<◌, ◌≤◌, true, ◌++◌, ℕ, Bool, true, false, List, [], ◌∷◌, length, take, drop, refl, sym, ap, arith, append_assoc, length-append}
 use Rattle.std.specs.Prelude.{◌==◌, ◌||◌, if◌then◌else◌, slice_index, Option, Some, unwrap_or, Result, Ok, Err, OnOk, IsOk}
 use Rattle.std.specs.Result.{is_err}
@@ -12,8 +12,8 @@ use Rattle.nor_serprog.specs.Frame.{frame_of, frame_len, long_len, argument_coun
 use Rattle.nor_serprog.specs.Firmware.{ProgrammerSettings, HasReply, HaveReplies, reply_of, replies_of, settings_after, settings_after_all, frames_of}
 use Rattle.serprog_session.specs.SimPort.{simulated_firmware, simulated_reply, simulated_settings, bus_type_after}
 
--- Holds if the simulated programmer replies to the frame of a command as its firmware says, and this frame doesn't
--- begin as that of an O_SPIOP.
+-- Holds if the simulated programmer replies to the frame of a command as its firmware specifies, and this frame doesn't
+-- begin with the opcode of O_SPIOP (13h).
 record IsAnswerable (command : Command) : Type 0 where
   reply : simulated_reply (slice_index (frame_of command) 0) ≡ reply_of simulated_firmware command
   selects : (bus_type : Option ℕ) → simulated_settings (bus_type_after (frame_of command) bus_type)

@@ -1,4 +1,4 @@
--- A transaction of the simulated chip is a transaction of the programmer with this chip.
+-- Lemmas: a transaction of the simulated chip is a transaction of the programmer with this chip.
 use Rattle.std.proofs.Common.{◌≡◌, ◌∙◌, ℕ, Bool, true, List, [], ◌∷◌, length, refl, ap, subst, arith}
 use Rattle.std.specs.Prelude.{◌||◌, ◌==◌, take, Option, Result, Ok, Err, OnOk, OnErr}
 use Rattle.std.proofs.lemmas.Bool.{eqb-true}

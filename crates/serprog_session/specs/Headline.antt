@@ -42,29 +42,29 @@ pub record CanRestoreChipFrom (bytes : List ℕ) (first chip : Chip) : Type 0 wh
 abbrev pub HadFewCalls : (transactions : ℕ) → PortState → Type 0
 HadFewCalls transactions port = port.left < 3 * transactions
 
--- The port as if it had no call left. Over layers that aren't punctual a call may stop at any transaction, even if
--- calls of the port are left. Promises with this state say so: `HadFewCalls` excludes no stop.
+-- The state of the port, but with no call left, so that `HadFewCalls` holds for any positive number of transactions. It
+-- is used for layers that aren't punctual: they may stop at any transaction, even if the port has calls left.
 abbrev pub uncounted : PortState → PortState
 uncounted port = record port { left = 0 }
 
 -- ---- a session
 
--- Holds if a session that succeeded made the chip what `request` asks for.
+-- Holds if the session made the chip what `request` asks for, including its non-volatile status bits.
 pub record IsTargetOf (request : Request) (image : List ℕ) (old new : Chip) : Type 0 where
   pub made : IsTargetChip (wanted request image old) old new
   pub code : ℕ
   pub is_wanted : IsWantedCode request.what old code
   pub kept : new.kept ≡ with_code code old.kept
 
--- Holds if an error of a session on a well-behaved port to a genuine chip is the verdict on the request; 11, and the
--- vault failed; or 12, and the port had too few calls left.
+-- Holds if an error of a session on a well-behaved port to a genuine chip is one of three: the verdict on the request,
+-- error 11 because the vault failed, or error 12 because the port had too few calls left.
 abbrev pub SessionFails : Request → (image : List ℕ) → PortState → (vault vault' : VaultState) → Refusal → Type 0
 SessionFails request image port vault vault' Vault = CountsRefusal vault vault'
 SessionFails request image port vault vault' Stopped = HadFewCalls (most_of (port.device.chip.config.size / 4096)) port
 SessionFails request image port vault vault' refusal = IsVerdict request image port.device.chip refusal
 
--- The promise of a session at every exit, wherever the port failed. `sent` and `sent'` list the transactions that may
--- modify the chip and that the bus was asked to send, before the session and until its exit.
+-- The promise of a session at every exit, even after a failure of the port. `sent` and `sent'` list the transactions
+-- that may modify the chip and that the bus was asked to send, before the session and until its exit.
 pub record KeepsOriginalChip (old new : PortState) (sent sent' : Sent) (vault : VaultState) : Type 0 where
   -- on every port: if the vault isn't sealed, no modifying command was sent
   pub unsent : vault.sealed ≡ false → sent' ≡ sent
@@ -96,8 +96,8 @@ RefusesUnsent sent sent' (Timeout address) = ⊤
 RefusesUnsent sent sent' (Mismatch address) = ⊤
 RefusesUnsent sent sent' refusal = sent' ≡ sent
 
--- Holds if an error of a restore with this choice of sectors, on a well-behaved port to a genuine chip, is the verdict,
--- or 12 and the port had too few calls left.
+-- Holds if an error of a restore with this choice of sectors, on a well-behaved port to a genuine chip, is the verdict
+-- on the journal, or error 12 because the port had too few calls left.
 abbrev pub FailsBy : Choice → Content → PortState → Refusal → Type 0
 FailsBy choice journal port Stopped = HadFewCalls (most_of (length journal.saved)) port
 FailsBy choice journal port refusal = IsRestoreVerdict choice journal port.device.chip refusal
@@ -109,14 +109,14 @@ RestoreFails journal port refusal = FailsBy differing journal port refusal
 -- about each chip `first` that the journal can restore at the start. The other fields hold for every journal.
 pub record RestoresOriginalChip (journal : Content) (old new : PortState)
     (result : Result Report Refusal) : Type 0 where
-  -- at every exit, wherever the port failed, the journal can still restore `first`
+  -- at every exit, even after a failure of the port, the journal can still restore `first`
   pub within : (first : Chip) → CanRestoreChip journal first old.device.chip
       → CanRestoreChip journal first new.device.chip
   -- a restore that succeeds has restored the contents and the non-volatile status bits of `first`
   pub back : (first : Chip) → CanRestoreChip journal first old.device.chip
       → OnOk result (IsSame first new.device.chip)
   pub idle : OnOk result (new.device.chip.busy ≡ 0)
-  -- the only possible error is a stop, because the port had too few calls left
+  -- if the journal can restore `first`, the only possible error is 12, because the port had too few calls left
   pub only_stops : (first : Chip) → CanRestoreChip journal first old.device.chip
       → IfErr result (λ refusal. (refusal ≡ Stopped) × HadFewCalls (most_of (length journal.saved)) old)
   -- after success the chip has the saved bytes and non-volatile status bits
@@ -128,7 +128,8 @@ pub record RestoresOriginalChip (journal : Content) (old new : PortState)
 
 -- ---- a restore that rewrites every saved sector
 
--- The promise of a rewrite on a well-behaved port to a genuine chip. The fields are those of `RestoresOriginalChip`.
+-- The promise of a rewrite on a well-behaved port to a genuine chip. The fields are those of `RestoresOriginalChip`,
+-- but `only_stops` has another premise, and `errors` is about every saved sector.
 pub record RewritesOriginalChip (journal : Content) (old new : PortState)
     (result : Result Report Refusal) : Type 0 where
   pub within : (first : Chip) → CanRestoreChip journal first old.device.chip
@@ -136,7 +137,7 @@ pub record RewritesOriginalChip (journal : Content) (old new : PortState)
   pub back : (first : Chip) → CanRestoreChip journal first old.device.chip
       → OnOk result (IsSame first new.device.chip)
   pub idle : OnOk result (new.device.chip.busy ≡ 0)
-  -- if no saved sector of `first` is protected by a locked status, the only possible error is a stop
+  -- if no saved sector of `first` is protected by a locked status, the only possible error is 12
   pub only_stops : (first : Chip) → CanRestoreChip journal first old.device.chip → CanBeRewritten journal first
       → IfErr result (λ refusal. (refusal ≡ Stopped) × HadFewCalls (most_of (length journal.saved)) old)
   pub made : OnOk result (IsTargetChip (restored journal old.device.chip.bytes) old.device.chip new.device.chip)
@@ -146,7 +147,8 @@ pub record RewritesOriginalChip (journal : Content) (old new : PortState)
 
 -- ---- a backup
 
--- Holds if an error of a backup says what the chip is, that the vault failed, or that the port had too few calls left.
+-- Holds if an error of a backup, on a well-behaved port to a genuine chip, is one of these: error 1, 2 or 3, and the
+-- chip's configuration implies it; error 11; or error 12, because the port had too few calls left.
 abbrev pub BackupFails : Option ChipName → PortState → Refusal → Type 0
 BackupFails named port NoChip = shown_as port.device.chip.config ≡ Err Probes.NoChip
 BackupFails named port (UnknownChip fault) = shown_as port.device.chip.config ≡ Err (Probes.UnknownChip fault)

@@ -43,20 +43,21 @@ simulated_firmware = record {
 abbrev pub IsOneFrame : List ℕ → Type 0
 IsOneFrame bytes = IsFrame bytes × (slice_index bytes 0 ≡ 0x13)
 
--- Holds for two whole frames of O_SPIOP, of which the first requests no reply bytes.
+-- Holds if `first` and `second` are whole frames of O_SPIOP and `first` requests no reply bytes.
 pub record AreOperations (first second : List ℕ) : Type 0 where
   pub former : IsOneFrame first
   pub unanswered : replies_in first ≡ 0
   pub latter : IsOneFrame second
 
--- Holds if `bytes` are these two frames of O_SPIOP, and fit into the serial buffer.
+-- Holds if `bytes` consist of `first` and `second`, two frames of O_SPIOP (`AreOperations`), and fit into the serial
+-- buffer.
 pub record ArePair (first second bytes : List ℕ) : Type 0 where
   pub is : bytes ≡ first ++ second
   pub operations : AreOperations first second
   pub fits : length bytes ≤ 512
 
--- The reply of the simulated programmer to a frame that begins with `opcode`. An O_SPIOP that is sent alone, or with
--- one other (`ArePair`), has another reply: ACK and the bytes that the chip returned.
+-- The reply of the simulated programmer to a frame that begins with `opcode`. This doesn't apply to a frame of O_SPIOP
+-- that is sent alone or with one other (`ArePair`): its reply is ACK and the bytes that the chip returned.
 abbrev pub simulated_reply : (opcode : ℕ) → List ℕ
 simulated_reply opcode =
     if opcode == 0x00 || opcode == 0x12 then 0x06 ∷ []

@@ -49,8 +49,8 @@ pub fn session_over<P: Port + Drop, V: Vault>(
 /// The port may fail at any call, and inside any exchange. If it fails, connect again, and run the restore again. The
 /// promises depend on the port and the journal:
 ///
-/// - On every port, the modifying commands that are sent fit the journal (`SendsSaved`). None is sent before an error
-///   other than 12, 13 and 14.
+/// - On every port, the modifying commands that are sent fit the journal (`SendsSaved`). A restore that returns another
+///   error than 12, 13 or 14 has sent none.
 /// - On a well-behaved port to a genuine chip, success leaves the saved bytes and non-volatile status bits. An error is
 ///   12 (the port failed), or the verdict of `restore`, which leaves the chip as it was.
 /// - If in addition the journal can restore an original chip at the start, it can restore that chip at every exit. Then
@@ -71,9 +71,11 @@ pub fn restore_over<P: Port + Drop>(
 /// Runs `rewrite` of nor_session on the chip at a programmer: restores as `restore_over` does, but erases and programs
 /// every saved sector, even if the sector has its saved bytes already, and then verifies all of them.
 ///
-/// The promises are those of `restore_over`, except that on every port, after success each saved sector was the target
-/// of an erase, and no erase was sent after the first page program (`thorough`), and that error 9 is possible if a
-/// locked status protects a saved sector of the original chip.
+/// The promises are those of `restore_over`, with two differences:
+///
+/// - On every port, after success each saved sector was the target of an erase, and no erase was sent after the first
+///   page program (`thorough`).
+/// - Error 9 is also possible if a locked status protects a saved sector of the original chip.
 pub fn rewrite_over<P: Port + Drop>(
     bus: &mut SerprogBus<P>,
     journal: &Journal<'_>,

@@ -1,6 +1,6 @@
-//! Sessions and restores of a chip at a serial programmer that speaks serprog. The calls run `session`, `restore`,
-//! `rewrite` and `backup` of nor_session. Their promises are stated for the programmer's chip, and for a port that may
-//! fail at any call.
+//! Sessions, restores and backups of a chip at a serial programmer that speaks serprog. The calls run `session`,
+//! `restore`, `rewrite` and `backup` of nor_session. Their promises are stated for the programmer's chip, and for a
+//! port that may fail at any call.
 //!
 //! ```rust
 //! use nor_chip::{Config, Delays, SimBus};
@@ -30,10 +30,10 @@
 //! - `calls.rt`: a session, a restore, a rewrite and a backup over a `SerprogBus`
 //! - `laws.rt`: laws (theorems) about what happens between a session and its restores
 //! - `sim_port.rt`: a simulated port to a simulated programmer with a simulated chip
-//! - `stack.rt`: nine layers of nor_buses over a `BatchingBus`, which are a well-behaved bus
-//! - `stacked.rt`: the same calls over these layers
+//! - `stack.rt`: nine layers of nor_buses over a `BatchingBus`, and when they are together a well-behaved bus
+//! - `stacked.rt`: the calls of `calls.rt` over these layers
 //!
-//! `specs/Headline.antt` has the promises of these calls.
+//! `specs/Headline.antt` contains the promises of these calls.
 #![tactic(auto)]
 
 mod calls;

@@ -24,7 +24,7 @@ const O_SPIOP: u8 = 0x13;
 // The greatest number of bytes that a transaction may read: the length of a sector.
 const MOST_READ: usize = 4096;
 
-// Two ACKs and the bytes of a read, after two frames of O_SPIOP.
+// The greatest number of pending reply bytes: two ACKs and the bytes of a read, after two frames of O_SPIOP.
 const MOST_PENDING: usize = 2 + MOST_READ;
 
 // The size of the serial buffer.
@@ -54,14 +54,15 @@ pub enum SimFailure {
 /// The programmer replies to the queries of a handshake (`Programmer::identify`), accepts any type of bus (S_BUSTYPE),
 /// and has a serial buffer of 512 bytes (Q_SERBUF). It carries out an O_SPIOP frame only if one call of `send` sends
 /// that frame and nothing else, or two such frames that fit into the buffer, of which the first requests no reply
-/// bytes. If the port fails while it sends an O_SPIOP, the chip stops as `SimBus::tear` and `SimBus::lose` specify. If
-/// it fails later, the chip has carried out the transaction.
+/// bytes. Its reply to any other O_SPIOP frame is NAK. If the port fails while it sends an O_SPIOP, the chip stops as
+/// `SimBus::tear` and `SimBus::lose` specify. If the port fails later, the chip has carried out the transaction.
 ///
-/// The last call can't send two frames: it carries out the first one and stops in the second. If no call is left, the
-/// chip stops in the first one.
+/// The last call that is left can't send two O_SPIOP frames: it carries out the first one and stops in the second. If
+/// no call is left, the chip stops in the first one.
 ///
-/// A call also fails if an O_SPIOP frame is sent while a reply is pending or requests more than 4,096 bytes, if other
-/// frames would make more than 4,098 reply bytes pending, or if more bytes are received than are pending.
+/// A call also fails in these cases: an O_SPIOP frame is sent while a reply is pending; an O_SPIOP frame requests more
+/// than 4,096 bytes; other frames would make more than 4,098 reply bytes pending; or more bytes are received than are
+/// pending.
 #[derive(Drop)]
 pub struct SimPort {
     chip: SimBus,
@@ -233,7 +234,7 @@ fn is_operation(bytes: &[u8]) -> bool
     bytes.first() == Some(&O_SPIOP) && frame_len(bytes) == Some(bytes.len())
 }
 
-// Returns whether `first` and `second` are whole frames of O_SPIOP, of which the first requests no reply bytes.
+// Returns whether `first` and `second` are whole frames of O_SPIOP and `first` requests no reply bytes.
 fn are_operations(first: &[u8], second: &[u8]) -> bool
     ensures operations { result ≡ true → AreOperations first.now second.now }
     ensures other { result ≡ false → ¬ AreOperations first.now second.now }
@@ -241,8 +242,8 @@ fn are_operations(first: &[u8], second: &[u8]) -> bool
     is_operation(first) && reply_len(first) == 0 && is_operation(second)
 }
 
-// Returns the two frames of O_SPIOP of which `bytes` consist, if the first requests no reply bytes and both fit into
-// the serial buffer.
+// Returns the two frames of O_SPIOP in `bytes`, if `bytes` consist of two such frames, the first one requests no reply
+// bytes, and both fit into the serial buffer.
 fn pair_in(bytes: &[u8]) -> Option<(&[u8], &[u8])>
     ensures { MatchOption result ((first second : List ℕ) → ¬ ArePair first second bytes.now)
         (λ pair. ArePair pair.0.now pair.1.now bytes.now) }
@@ -305,8 +306,8 @@ fn transact(chip: &mut SimBus, out: &[u8], reply: &mut [u8])
     let _ = chip.transfer(out, reply);
 }
 
-// Stops the chip in a transaction that sends `out`. The chip receives as many bytes of it as `SimBus::tear` set, and
-// loses its power if `SimBus::lose` set that.
+// Stops the chip in a transaction that sends `out`. `SimBus::tear` sets how many bytes the chip receives, and
+// `SimBus::lose` whether it then loses its power.
 fn cut(chip: &mut SimBus, out: &[u8])
     ensures { (bus_type : Option ℕ) (pending pending' : List ℕ) → IsCut out.now
         (device_over (⟦<SimBus as Bus>⟧.state chip.old) bus_type pending)
@@ -316,8 +317,8 @@ fn cut(chip: &mut SimBus, out: &[u8])
     let _ = chip.transfer(out, &mut []);
 }
 
-// Appends the reply to each of these frames to `pending`, and stores the type of bus that they select in `bus_type`.
-// Ignores bytes after the last whole frame. Returns false if the replies do not fit.
+// Appends the reply to each of these frames to `pending`, and stores the type of bus that they select, if any, in
+// `bus_type`. Ignores bytes after the last whole frame. Returns false if the replies do not fit.
 fn reply_to_each(
     pending: &mut ArrayVec<u8, MOST_PENDING>,
     bus_type: &mut Option<u8>,
@@ -358,8 +359,8 @@ fn selected_by(frame: &[u8], before: Option<u8>) -> Option<u8>
     }
 }
 
-// Returns the reply to one frame (flashrom's Documentation/serprog-protocol.txt). An O_SPIOP that is sent together with
-// other frames is refused.
+// Returns the reply to one frame (flashrom's Documentation/serprog-protocol.txt). An O_SPIOP gets NAK here, because the
+// frames of O_SPIOP that are carried out never get here.
 fn reply_to(frame: &[u8]) -> &'static [u8]
     ensures { result.now ≡ simulated_reply (slice_index frame.now 0) }
 {

@@ -18,12 +18,13 @@ use nor_serprog::Port;
 use nor_session::{Refusal, Report, Request, backup, restore, rewrite, session};
 use std::time::Clock;
 
-/// Runs a session as `session_over` does, with its promises, over the layers of `Stack`.
+/// Runs a session over the layers of `Stack`, with the promises of `session_over`.
 ///
-/// The promises about the programmer's chip hold for a well-behaved port if the stack fits the programmer (`IsFit`):
-/// the programmer takes 260 bytes and reads the longest block, the layers know the chip's ID, and no write enable waits
-/// at the start. Layers may send several transactions for one, so they may stop at any transaction, and error 12 does
-/// not show that the port had few calls left (`uncounted`).
+/// The promises about the programmer's chip hold if the stack fits the programmer (`IsFit`): the `BatchingBus` is one
+/// that `BatchingBus::emulated` returned, the programmer takes a page program and the reads of a sector and of the
+/// longest block, the layers know the chip's ID and don't hide bit 6 of its status 1, and no write enable waits at the
+/// start. The layers may send several transactions for one, so they may stop at any transaction, and error 12 does not
+/// show that the port had few calls left (`uncounted`).
 ///
 /// On every port, no modifying command is sent to the layers before the vault is sealed.
 pub fn session_over_layers<P: Port + Drop, C: Clock + Drop, V: Vault>(
@@ -48,8 +49,8 @@ pub fn session_over_layers<P: Port + Drop, C: Clock + Drop, V: Vault>(
     session(bus, vault, image, request)
 }
 
-/// Runs a restore as `restore_over` does, with its promises, over all layers. The promises about the programmer's chip
-/// hold as for `session_over_layers`.
+/// Runs a restore over the layers of `Stack`, with the promises of `restore_over`. The promises about the programmer's
+/// chip have the premises of `session_over_layers`.
 pub fn restore_over_layers<P: Port + Drop, C: Clock + Drop>(
     bus: &mut Stack<P, C>,
     journal: &Journal<'_>,
@@ -66,8 +67,8 @@ pub fn restore_over_layers<P: Port + Drop, C: Clock + Drop>(
     restore(bus, journal)
 }
 
-/// Runs a restore as `rewrite_over` does, with its promises, over all layers. The promises about the programmer's chip
-/// hold as for `session_over_layers`.
+/// Runs a restore over the layers of `Stack` that rewrites every saved sector, with the promises of `rewrite_over`. The
+/// promises about the programmer's chip have the premises of `session_over_layers`.
 pub fn rewrite_over_layers<P: Port + Drop, C: Clock + Drop>(
     bus: &mut Stack<P, C>,
     journal: &Journal<'_>,
@@ -86,8 +87,8 @@ pub fn rewrite_over_layers<P: Port + Drop, C: Clock + Drop>(
     rewrite(bus, journal)
 }
 
-/// Runs a backup as `backup_over` does, with its promises, over all layers. The promises about the programmer's chip
-/// hold as for `session_over_layers`.
+/// Runs a backup over the layers of `Stack`, with the promises of `backup_over`. The promises about the programmer's
+/// chip have the premises of `session_over_layers`.
 pub fn backup_over_layers<P: Port + Drop, C: Clock + Drop, V: Vault>(
     bus: &mut Stack<P, C>,
     vault: &mut V,
