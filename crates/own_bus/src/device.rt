@@ -10,8 +10,8 @@ use std::io::{Read, Write};
 use std::os::unix::fs::FileTypeExt;
 use std::{fs, io};
 
-/// A port over a device file. Its reads must time out (`stty min 0 time 50`), or a silent programmer blocks the
-/// program.
+/// A port over a device file. Its reads must time out (`stty min 0 time 50`), because otherwise a silent programmer
+/// blocks the program.
 #[derive(Drop)]
 pub struct DevicePort<F> {
     file: F,
@@ -20,8 +20,8 @@ pub struct DevicePort<F> {
 
 impl DevicePort<File> {
     /// Opens a character device for reading and writing, and locks it against other programs that lock it. Returns
-    /// `NoDevice` for any other file, `InUse` if another program has locked the device, and `System` for any other
-    /// failure.
+    /// `NoDevice` if the file is of another type, `InUse` if another program has locked the device, and `System` for
+    /// any other failure.
     pub fn open(rt: &HostRuntime, name: &str) -> Result<DevicePort<File>, Fault> {
         if !fs::metadata(rt, name)?.file_type().is_char_device() {
             return Err(Fault::NoDevice);

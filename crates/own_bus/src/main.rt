@@ -2,8 +2,9 @@
 //! `docs/OWN_BUS.md` explains the example.
 //!
 //! Without arguments the example simulates a serial programmer and a chip: it reads the chip out, changes it with a
-//! journal, and restores it. Then it begins the same change over a bus that does not speak serprog, and whose wires are
-//! cut. If the argument is the name of a serial port, it only identifies the chip there.
+//! journal, and restores it. Then it starts the same change over simulated wires to a programmer that does not speak
+//! serprog, and the wires are cut during the change. If the argument is the name of a serial port, it only identifies
+//! the chip there.
 //!
 //! - `main.rt`: the steps of the example
 //! - `device.rt`: a port over a device file
@@ -56,7 +57,8 @@ fn identify_chip<P: Port<Cause = std::io::Error> + Drop>(
     Ok(())
 }
 
-// No port of the example counts as well-behaved (`honest`), so no contract promises anything about the programmer.
+// Identifies the programmer at the port. No port of the example counts as well-behaved (`honest`), so no contract
+// promises anything about the programmer.
 fn open<P: Port + Drop>(
     rt: &HostRuntime,
     port: P,
@@ -81,7 +83,7 @@ fn play(rt: &HostRuntime) -> Result<(), Fault> {
     cut_off(rt)
 }
 
-// The bus carries out up to `u64::MAX` transactions.
+// Returns an erased chip of 64 KiB, whose bus carries out up to `u64::MAX` transactions.
 fn erased_chip(alloc: Global) -> Result<SimBus, Fault> {
     let idle = Delays { now: 0, each: 0 };
     let erased = vec![in alloc; 0xFF; 65536]?;
@@ -98,7 +100,7 @@ fn back_up<B: Bus>(rt: &HostRuntime, bus: &mut B) -> Result<(), Fault> {
     Ok(())
 }
 
-// The image is `chip.bin` with the first byte changed to 5Ah.
+// Writes `chip.bin` with its first byte changed to 5Ah to the chip.
 fn change<B: Bus>(rt: &HostRuntime, bus: &mut B, journal: &str) -> Result<Report, Fault> {
     let mut image = fs::read(rt, "chip.bin")?;
     if let Some(first) = image.first_mut() {
@@ -109,7 +111,8 @@ fn change<B: Bus>(rt: &HostRuntime, bus: &mut B, journal: &str) -> Result<Report
     Ok(report)
 }
 
-// The journal's file exists, so the change must fail, and leave this journal as it was.
+// Repeats the change with the same journal. The journal's file exists, so the change must fail and leave the journal as
+// it was.
 fn change_again<B: Bus>(rt: &HostRuntime, bus: &mut B) -> Result<(), Fault> {
     let before = fs::read(rt, "undo.journal")?;
     match change(rt, bus, "undo.journal") {
@@ -146,7 +149,7 @@ fn print_counts(rt: &HostRuntime, what: &str, done: &Report) -> Result<(), Fault
     Ok(())
 }
 
-// The wires are cut after 10 transactions, while the session still scans the chip.
+// Starts the change over wires that are cut after 10 transactions, while the session still scans the chip.
 fn cut_off(rt: &HostRuntime) -> Result<(), Fault> {
     let mut bus = OwnBus::new(PlayedWires::new(erased_chip(rt.alloc())?, 10));
     let refusal = match change(rt, &mut bus, "second.journal") {

@@ -18,7 +18,7 @@ pub trait Wires {
 }
 
 /// A bus over `wires`. It doesn't count as well-behaved (`honest`), so only the contract clauses for any bus apply.
-/// `cause` has the cause of the last failure, since error 12 contains none.
+/// `cause` contains the cause of the last failure, because error 12 contains none.
 #[derive(Drop)]
 pub struct OwnBus<W: Wires + Drop> {
     pub wires: W,

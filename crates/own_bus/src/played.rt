@@ -10,17 +10,18 @@ use nor_serprog::{Port, Wire, frame_len};
 use std::io::ErrorKind;
 use std::{fmt, io, mem};
 
-// A page program: 7 bytes of header, an opcode, three address bytes and 256 data bytes.
+// The length of the longest frame, a page program: 7 bytes of header, an opcode, three address bytes and 256 data
+// bytes.
 const MOST_BEGUN: usize = 267;
 
-// ACK and the 4,096 bytes of a sector.
+// The length of the longest reply: ACK and the 4,096 bytes of a sector.
 const MOST_PENDING: usize = 4097;
 
 const ACK: u8 = 0x06;
 
 const NAK: u8 = 0x15;
 
-// ACK, and the map with the commands 00h, 01h, 02h, 10h, 12h and 13h.
+// The reply to Q_CMDMAP: ACK, and the map with the commands 00h, 01h, 02h, 10h, 12h and 13h.
 const COMMANDS: [u8; 33] = [
     ACK, 0x07, 0, 0x0D, 0, 0, 0, 0, 0, 0, 0, 0, 0, 0, 0, 0, 0, 0, 0, 0, 0, 0, 0, 0, 0, 0, 0, 0, 0,
     0, 0, 0, 0,
@@ -65,7 +66,7 @@ impl PlayedPort {
             .map_err(|_| ErrorKind::OutOfMemory.into())
     }
 
-    // As in flashrom's Documentation/serprog-protocol.txt.
+    // Carries out one frame as flashrom's Documentation/serprog-protocol.txt specifies.
     fn carry_out(&mut self, frame: &[u8]) -> io::Result<()> {
         match frame {
             [0x00 | 0x12, ..] => self.reply(&[ACK]),
@@ -79,7 +80,7 @@ impl PlayedPort {
         }
     }
 
-    // Replies NAK if the simulated bus stops.
+    // Carries out one transaction. Replies NAK if the simulated bus stops.
     fn operate(&mut self, out: &[u8], replies: u16) -> io::Result<()> {
         let mut reply = [0; 4096];
         let len = usize::from(replies).min(4096);
