@@ -1,4 +1,5 @@
-//! Tests of announcements: the right numbers, after the last read of the scan and before the first modifying command.
+//! Tests that a session or restore announces the right numbers, after the last read of its scan and before its first
+//! modifying command.
 use crate::held::{assert_held, assert_that};
 use crate::row::{Row, Start};
 use crate::runs::AMPLE;
@@ -8,8 +9,9 @@ use nor_session::{Announcement, restore_announced, session_announced};
 use std::alloc::Global;
 use std::process::Abort;
 
-// Each row has the numbers of touched sectors and of erases, of its session and of a restore after it. A restore sends
-// seven transactions to identify a chip by its SFDP (four on a W25Q64FV) and one for each saved sector before that.
+// Each row has the numbers of touched sectors and of erases, first for its session and then for a restore after it, and
+// the number of transactions before the restore's announcement: seven that identify a chip by its SFDP (four on a
+// W25Q64FV), and one for each saved sector.
 const ROWS: [(Row, (u32, u32), (u32, u32), u64); 8] = [
     (Row::ABitFalls, (1, 0), (1, 1), 8),
     (Row::ABitRises, (1, 1), (1, 0), 8),

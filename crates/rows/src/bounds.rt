@@ -28,7 +28,7 @@ const READINGS: [Reading; 4] = [
 ];
 
 impl Reading {
-    // 65,540 transactions to identify the chip, and the reads after that.
+    // Returns the bound of a reading call: 65,540 transactions to identify the chip, and the reads after that.
     fn most(self, sectors: u32) -> u64 {
         match self {
             Reading::Probe => 65_540,
@@ -106,7 +106,8 @@ fn sessions_on_faulty_buses(rt: HostRuntime) {
     assert_that!(&rt; runs == 2 * 59 * 4);
 }
 
-// Restores after a session that was stopped after ten transactions. `Lied::restore` asserts the bound.
+// Runs restores on faulty buses after a session that was stopped after ten transactions. `Lied::restore` asserts the
+// bound.
 fn restore_each(rt: &impl Abort, stopped: &Runs, n: u8) -> u64 {
     let mut runs: u64 = 0;
     for spoil in lies(n) {

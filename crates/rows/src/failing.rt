@@ -18,7 +18,7 @@ pub enum Fault {
     Busy,
 }
 
-/// A bus on which at most one transaction fails, or the polls of one wait. The allowance begins anew after the failure.
+/// A bus on which at most one transaction, or the polls of one wait, fail. The allowance begins anew after the failure.
 #[derive(Drop)]
 pub struct OnceBus {
     pub bus: SimBus,
@@ -35,8 +35,8 @@ pub struct OnceBus {
 }
 
 impl OnceBus {
-    /// Returns a bus with the allowance `allowed`. The transaction that follows the first `after` fails as `fault`
-    /// says.
+    /// Returns a bus with the allowance `allowed`. The transaction that follows the first `after` transactions fails
+    /// with `fault`. If `after` is `None`, none fails.
     pub fn new(mut bus: SimBus, allowed: u64, fault: Fault, after: Option<u64>) -> OnceBus {
         bus.allow(allowed);
         OnceBus {

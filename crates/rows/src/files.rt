@@ -19,7 +19,8 @@ enum Failure {
     Sync,
 }
 
-// A file in memory, which records its length before each write and at each sync, even at one that fails.
+// A file in memory on which one call fails. It records its length before each write and at each sync, including those
+// that fail.
 #[derive(Drop)]
 struct OnceFile {
     failure: Option<Failure>,
@@ -68,7 +69,7 @@ impl OnceFile {
             && Journal::read(&self.bytes).is_ok()
     }
 
-    // True if the last call was write `n`, from 0, and all before it is as in the file `right`.
+    // Returns whether the last call was write `n`, counted from 0, and everything before it is as in the file `right`.
     fn ends_before(&self, right: &OnceFile, n: usize) -> bool {
         let (Some(writes), Some(before)) = (
             right.writes.get(0..n.saturating_add(1)),
@@ -154,8 +155,8 @@ fn fail_at_each(rt: &impl Abort, alloc: Global, row: Row, most: usize, counted: 
     assert_that!(rt; file.has(&right.writes, right.syncs, &right.bytes));
 }
 
-// Each row has the most bytes that a write accepts, and the numbers of writes and bytes. The pieces are the header (25
-// bytes), each record (4,100), the end mark (4) and the digest (32).
+// Each row has the greatest number of bytes that a write accepts, and the numbers of writes and bytes. The pieces are
+// the header (25 bytes), each record (4,100), the end mark (4) and the digest (32).
 const ROWS: [(Row, usize, (usize, usize)); 3] = [
     (Row::ABitRises, 5000, (1 + 1 + 2, 61 + 4100)),
     (Row::ABitRises, 1000, (1 + 5 + 2, 61 + 4100)),

@@ -1,5 +1,6 @@
-//! Two successive sessions on one chip, and then their restores in reverse order. The first session is stopped from its
-//! seal on, the second anywhere; the second is restored only if its vault is sealed.
+//! Two successive sessions on one chip, and then their restores in reverse order. The first session is stopped after
+//! its seal, the second after each number of transactions. The second session is restored only if its vault is sealed.
+//! Its restore is stopped after at most 15 transactions, and repeated if it didn't end.
 use crate::held::assert_held;
 use crate::row::{Row, Start};
 use crate::runs::{AMPLE, Cut, Runs};
@@ -60,7 +61,8 @@ fn stop_second(rt: &impl Abort, alloc: Global, runs: &Runs, other: Row, n: u64) 
 // - After 28 and 29, and at the end, byte 0 is 01h and needs an erase.
 const LENGTHS: [u64; 8] = [33, 33, 31, 31, 31, 33, 33, 33];
 
-// The lengths if each stop still sends the whole next transaction: the chip is one transaction further.
+// The lengths of the second session if each stop still sends the whole next transaction, so that the chip is one
+// transaction further.
 const LENGTHS_AFTER_A_LOST_REPLY: [u64; 8] = [33, 31, 31, 31, 33, 33, 33, 33];
 
 #[test]

@@ -22,8 +22,8 @@ fn is_same_to_itself(length: usize) -> bool {
     }
 }
 
-// True if the comparisons find the only difference at `place`: bit 1, which is clear in `lower` and set in `higher`.
-// Only `raises` depends on which slice is the old one.
+// Returns whether the comparisons find the only difference, which is at `place`: bit 1 is clear in `lower` and set in
+// `higher`. Only `raises` depends on which slice is the old one.
 fn differs_at(length: usize, place: usize) -> bool {
     let lower = [0xA5u8; LONGEST];
     let mut higher = [0xA5u8; LONGEST];

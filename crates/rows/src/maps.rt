@@ -7,7 +7,8 @@ const LEN: usize = 4096;
 
 type Piece = (usize, &'static [u8]);
 
-// The pieces of an image, the size of the chip, and the expected regions (name, start and end of each) or fault.
+// The pieces of an image, the size of the chip, the expected regions (name, start and end of each), and the expected
+// fault, if there is one.
 type Case = (
     &'static [Piece],
     u32,
@@ -209,7 +210,7 @@ const NAMED_TWICE: Option<MapFault> = Some(MapFault::Region {
     fault: RegionFault::Twice,
 });
 
-// Each case has pieces that are written over those of `AT_200`.
+// Each case has pieces that overwrite those of `AT_200`.
 const FMAPS: &[Case] = &[
     (&[], 0x1000, ALL, None),
     (&[], 0xFFF, &[], Some(MapFault::Outside { record: 3 })),
@@ -234,7 +235,7 @@ const FMAPS: &[Case] = &[
     // The name in the header has no NUL, or contains a blank.
     (&[(0x216, WHOLE)], 0x1000, &[], Some(MapFault::Missing)),
     (&[(0x216, BLANK)], 0x1000, &[], Some(MapFault::Missing)),
-    // Area 2 has a wrong name, the name of area 1, or an end above 4 GiB.
+    // Area 2 has a name with a blank, no name, the name of area 1, or an end above 4 GiB.
     (&[(0x26A, BLANK)], 0x1000, &[], WRONG_NAME),
     (&[(0x26A, b"\0")], 0x1000, &[], WRONG_NAME),
     (&[(0x26A, RO)], 0x1000, &[], NAMED_TWICE),
@@ -269,7 +270,7 @@ fn fmaps(rt: HostRuntime) {
     }
 }
 
-// Bytes that contain only the FMAP are enough, but not without the first one (`Missing`) or the last one (`Short`).
+// The bytes of the FMAP are enough. Without its first byte the fault is `Missing`, without its last byte `Short`.
 #[test]
 fn an_fmap_without_an_image(rt: HostRuntime) {
     let alloc = rt.alloc();

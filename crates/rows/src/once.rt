@@ -1,6 +1,6 @@
-//! After a stop or a timeout, a call other than a rehearsal must send nothing more, although the bus would carry it
-//! out. A rehearsal goes on only if a stop was given for the call that stopped. No call may read a sector again because
-//! a reply was spoilt.
+//! After a stop or a timeout, a call other than a rehearsal must send nothing more, even though the bus would carry it
+//! out. A rehearsal continues only if a stop was given for the call that stopped. No call may read a sector again
+//! because a reply was spoilt.
 use crate::failing::{Fault, OnceBus};
 use crate::held::assert_held;
 use crate::row::{Row, Start, erased};
@@ -95,8 +95,8 @@ fn a_stop_ends_each_command(rt: HostRuntime) {
 }
 
 // Each row has a call and the number of its transactions. The first wait has two polls, and an operation four
-// transactions. A session or restore identifies a chip with eight transactions by its SFDP, or five by its ID; a probe
-// lacks two of these, and `wp_status` one.
+// transactions. A session or restore identifies a chip with eight transactions by its SFDP, or five by its ID. A probe
+// sends two transactions fewer than this, and `wp_status` sends one more than a probe.
 //
 // On the two blocks, the session scans 32 sectors, sends two erases and two programs, reads two sectors before it
 // programs them, and verifies 19. The restore scans 19 sectors, sends two erases and 17 programs, reads 17 sectors
@@ -167,9 +167,9 @@ fn a_timeout_ends_each_call(rt: HostRuntime) {
     time_out_each_call(&rt, rt.alloc(), Job::OnW25q64fv, WAITS_ON_W25Q64FV);
 }
 
-// Each row has a call and the number of replies that are checked. A spoilt poll shows BUSY, so one more poll follows. A
-// sector whose reply is spoilt isn't read again: a comparison returns a mismatch at its first address, and `read_out`
-// no error.
+// Each row has a call and the number of its replies that the test checks. A spoilt poll shows BUSY, so one more poll
+// follows. A sector whose reply is spoilt isn't read again: a comparison returns a mismatch at the first address of the
+// sector, and `read_out` returns no error.
 const REPLIES: [(Call, u64); 4] = [
     (Call::ReadOut, 1 + 2),
     (Call::Verify, 1 + 2),
@@ -197,8 +197,9 @@ fn restore_after(sent: u64) -> Option<u64> {
 
 type Rehearsed = (Result<Rehearsal, Refusal>, u64);
 
-// The expected result on a bus that stops once, after `after` transactions: `Stopped` if no stop was given for this
-// call, otherwise a restore follows a sealed vault.
+// Returns the expected result on a bus that stops once, after `after` transactions, and the number of requested
+// transactions. The result is `Stopped` if no stop was given for this call. Otherwise a restore follows if the vault is
+// sealed.
 fn rehearsed(after: u64, stops: usize) -> Rehearsed {
     let asked = after.saturating_add(1);
     let ended = after >= 30;
@@ -214,7 +215,7 @@ fn rehearsed(after: u64, stops: usize) -> Rehearsed {
     (Ok(told), asked.saturating_add(needed.unwrap_or(0)))
 }
 
-// The given stops never take effect; the bus stops once, after `after` transactions.
+// Rehearses on a bus that stops once, after `after` transactions. The given stops are too large to take effect.
 fn rehearse_after(rt: &impl Abort, alloc: Global, after: u64, stops: usize) -> Rehearsed {
     let row = Row::ABitRises;
     let mut bus = OnceBus::new(row.bus(rt, alloc, Start::IDLE), 0, Fault::Stop, Some(after));

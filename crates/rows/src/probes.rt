@@ -171,8 +171,9 @@ const WAITED_LONG: Answer = Ok(Probed {
 
 const STOPPED: Answer = Err(ProbeFault::Stopped);
 
-// Each row has the polls that show BUSY at first, the fault of the bus (`HONEST` never occurs, `STUCK` shows BUSY
-// always), the allowance, and the result. No clause states that a timeout follows 65,536 polls, so this test does.
+// Each row has the number of polls that show BUSY at first, the fault of the bus (`HONEST` never occurs, `STUCK` always
+// shows BUSY), the allowance, and the expected result. No clause of a contract states that a timeout follows 65,536
+// polls, so this test checks it.
 const WAITS: [(u16, Spoil, u64, Answer); 6] = [
     (3, HONEST, 8, WAITED),
     (3, HONEST, 7, STOPPED),

@@ -28,8 +28,8 @@ fn rehearsed(
     (told, vault.is_sealed())
 }
 
-// The length of the restore after a session that was stopped, or `None` before the seal: 8 transactions if the sector
-// is as saved, and 13 if one byte is programmed.
+// Returns the length of the restore after a session that was stopped after `stop` transactions, or `None` before the
+// seal. A restore needs 8 transactions if the sector is as saved, and 13 if one byte is programmed.
 fn restore_after(stop: u64) -> Option<u64> {
     match stop {
         0..=22 => None,
@@ -60,14 +60,14 @@ fn each_pair_of_stops_is_reported(rt: HostRuntime) {
     }
 }
 
-// The length of the second restore. In a restore of 13 transactions the eleventh is the program, after which the sector
-// is as saved.
+// Returns the length of the second restore, if the first one needs `needed` transactions and sent `sent`. In a restore
+// of 13 transactions the eleventh is the program, after which the sector is as saved.
 fn restore_again(needed: u64, sent: u64) -> u64 {
     if sent < 11 { needed } else { 8 }
 }
 
-// The number of restores that run until one succeeds, if the first needs `needed` transactions. The first two are
-// allowed `first` and `second` transactions, and a third isn't stopped.
+// Returns the number of restores that run until one succeeds. The first one needs `needed` transactions. It is allowed
+// `first` transactions, the second one is allowed `second`, and a third one isn't stopped.
 fn restores_under(needed: u64, first: u64, second: u64) -> u32 {
     if first >= needed {
         1
@@ -106,7 +106,8 @@ struct Told {
     sent: u64,
 }
 
-// Each stop is greater than the number of transactions of any call, so it never takes effect.
+// Rehearses on a faulty bus. Each stop is greater than the number of transactions of any call, so it never takes
+// effect.
 fn rehearsed_lied(rt: &impl Abort, alloc: Global, row: Row, spoil: Spoil, stops: usize) -> Told {
     let bus = row.bus(rt, alloc, Start::IDLE);
     let mut bus = SpoiltBus::new(bus, spoil);
@@ -142,7 +143,7 @@ const TIMEOUT: Refusal = Refusal::Timeout { address: 0 };
 
 const MISMATCH: Refusal = Refusal::Mismatch { address: 0 };
 
-// The vault is unsealed, and the chip unchanged.
+// The result of a rehearsal that ends with an error before the seal, with an unchanged chip.
 fn early(refusal: Refusal, sent: u64) -> Told {
     Told {
         result: Err(refusal),
@@ -152,7 +153,7 @@ fn early(refusal: Refusal, sent: u64) -> Told {
     }
 }
 
-// The vault is sealed, and the chip changed.
+// The result of a rehearsal that ends with an error after the seal, with a changed chip.
 fn changed(refusal: Refusal, sent: u64) -> Told {
     Told {
         result: Err(refusal),
@@ -162,7 +163,8 @@ fn changed(refusal: Refusal, sent: u64) -> Told {
     }
 }
 
-// Transactions are counted from 1, over the session and its restore. A wait gives up after 65,536 polls.
+// Transactions are counted from 1, and the count continues from the session to its restore. A wait ends with a timeout
+// after 65,536 polls.
 //
 // `ABitRises` has 30 and 13 transactions. 1 is a poll; 24 enables the erase, without which the program doesn't raise
 // the bit; 26 is the poll after the erase, and 30 verifies. 31 is the restore's first poll, 40 enables its program, and

@@ -1,5 +1,6 @@
 //! Rewrites, which erase every saved sector and program each page that isn't all FFh, even if the chip already has the
-//! saved bytes. Each rewrite is stopped anywhere, and then the chip is rewritten again, or restored.
+//! saved bytes. Each rewrite is stopped after each number of its transactions, and then the chip is rewritten again, or
+//! restored.
 use crate::held::{assert_held, assert_that};
 use crate::row::{Row, Start};
 use crate::runs::{AMPLE, Cut, Runs};
@@ -13,10 +14,10 @@ struct Rewritten {
     row: Row,
     touched: u32,
     erases: u32,
-    // One for each page of the saved sectors that was not all FFh before the session.
+    // The number of page programs: one for each page of the saved sectors that was not all FFh before the session.
     programs: u32,
     writes: u32,
-    // Seven on a TINY64 and four on a W25Q64FV.
+    // The number of transactions that identify the chip: seven on a TINY64 and four on a W25Q64FV.
     identified: u32,
 }
 
@@ -32,7 +33,8 @@ impl Rewritten {
         }
     }
 
-    // An operation takes a write enable, a command and a poll. Sectors are read only to verify them.
+    // Returns the number of transactions of a rewrite. An operation takes a write enable, a command and a poll. Sectors
+    // are read only to verify them.
     fn length(&self) -> u64 {
         let operations = u64::from(self.erases)
             .saturating_add(u64::from(self.programs))
@@ -110,7 +112,8 @@ fn each_stop_of_a_rewrite(rt: HostRuntime) {
     }
 }
 
-// A restore would change nothing before the second rewrite, but a rewrite sends the same operations again.
+// Before the second rewrite the chip already has the saved bytes, so a restore would change nothing. A rewrite sends
+// the same operations again.
 #[test]
 fn a_rewrite_writes_what_reads_right(rt: HostRuntime) {
     for each in &rows() {

@@ -1,4 +1,4 @@
-//! The rows, which are the tested sessions.
+//! The tested sessions, which are called rows.
 use crate::contents::{Bytes, ERASED, first, run};
 use nor_chip::{Config, Delays, SimBus, TINY64_SFDP};
 use nor_layout::{Layout, Ranges};
@@ -16,7 +16,7 @@ pub struct Start {
     /// With `Some`, a stop cuts the chip's power, and this byte determines what an interrupted operation leaves
     /// (`SimBus::lose`).
     pub fill: Option<u8>,
-    /// The number of bytes of the next transaction that a stop still sends, or none.
+    /// The number of bytes of the next transaction that a stop still sends. `None` if it sends none.
     pub torn: Option<u32>,
 }
 
@@ -36,7 +36,7 @@ impl Start {
         ..Start::IDLE
     };
 
-    /// A chip that shows BUSY in 65,535 polls (the most of `Delays`) at first and after each operation.
+    /// A chip that shows BUSY in 65,535 polls (the maximum of `Delays`) at first and after each operation.
     pub const SLOWEST: Start = Start {
         delays: Delays {
             now: 65_535,
@@ -161,14 +161,14 @@ struct Written {
     status: [u8; 2],
     old: Bytes,
     image: Bytes,
-    // The line of a layout whose region `part` is included, if not the whole chip.
+    // A layout of one line, whose region `part` is included. `None` if the whole chip is included.
     part: Option<&'static [u8]>,
     unlock: bool,
     // The number of transactions before the seal, on a chip without delays.
     sealed: u32,
     // The number of all transactions, on a chip without delays.
     length: u32,
-    // Erases, page programs and status writes, after each of which the session waits.
+    // The number of erases, page programs and status writes. The session waits after each of them.
     operations: u32,
 }
 

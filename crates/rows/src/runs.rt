@@ -36,7 +36,7 @@ pub struct Cut {
 
 impl Cut {
     /// Restores with the allowance `allowed`. Returns the number of transactions if the restore ends, and `None` if it
-    /// was stopped. At the end the chip must be idle, and its write enable latch no more set than before.
+    /// was stopped. If it ends, asserts that the chip is idle, and that its write enable latch is clear or as before.
     pub fn restore(&mut self, rt: &impl Abort, allowed: u64) -> Option<u64> {
         let journal = Journal::read(self.vault.bytes()).expect(rt, "a journal");
         self.bus.allow(allowed);
@@ -74,7 +74,8 @@ pub struct Runs {
 }
 
 impl Runs {
-    /// Returns the runs of this row's session. A stop of a restore sends as many bytes as one of the session.
+    /// Returns the runs of this row's session. A stop of a restore sends the same number of bytes as a stop of the
+    /// session.
     pub fn new(rt: &impl Abort, alloc: Global, row: Row, start: Start) -> Runs {
         Runs {
             alloc,
@@ -127,8 +128,8 @@ impl Runs {
         assert_that!(rt; [one & 0xFC, two & 0x7F] == self.row.status());
     }
 
-    /// Runs the session with each allowance from `first` on, and restores if its vault is sealed. Asserts that each run
-    /// leaves the chip as before. Returns the number of runs.
+    /// Runs the session with each allowance from `first` to its length, and restores if the vault is sealed. Asserts
+    /// that each run leaves the chip as before. Returns the number of runs.
     pub fn stop_at_each(&self, rt: &impl Abort, first: u64) -> u64 {
         let mut runs: u64 = 0;
         for n in first..=self.row.ends_at(self.start) {
@@ -142,8 +143,8 @@ impl Runs {
         runs
     }
 
-    /// Like `stop_at_each`, but also stops each restore after each number of its transactions, and then restores again.
-    /// A session that leaves its vault unsealed is one run.
+    /// Does what `stop_at_each` does, but also stops each restore after each number of its transactions, and then
+    /// restores again. A session that leaves its vault unsealed is one run.
     pub fn stop_restores_at_each(&self, rt: &impl Abort, first: u64) -> u64 {
         let mut runs: u64 = 0;
         for n in first..=self.row.ends_at(self.start) {
@@ -152,8 +153,9 @@ impl Runs {
         runs
     }
 
-    /// Stops the session from `first` transactions on, and restores if its vault is sealed; otherwise the write enable
-    /// latch must be clear. Asserts that each run leaves the chip as before. Returns the number of stopped sessions.
+    /// Stops the session after each number of transactions from `first` on, and restores if its vault is sealed. If the
+    /// vault isn't sealed, asserts that the write enable latch is clear. Asserts that each run leaves the chip as
+    /// before. Returns the number of stopped sessions.
     pub fn stop_sessions(&self, rt: &impl Abort, first: u64) -> u64 {
         let mut stops: u64 = 0;
         for n in first..self.row.ends_at(self.start) {
@@ -169,13 +171,14 @@ impl Runs {
         stops
     }
 
-    /// Stops the session after `n` transactions and, if its vault is sealed, its restore anywhere, and then restores
-    /// again. Asserts that each run leaves the chip as before. Returns the number of stopped restores.
+    /// Stops the session after `n` transactions. If its vault is sealed, stops its restore after each number of
+    /// transactions, and then restores again. Asserts that each run leaves the chip as before. Returns the number of
+    /// stopped restores.
     pub fn stop_restores(&self, rt: &impl Abort, n: u64) -> u64 {
         self.stop_restores_after(rt, n).saturating_sub(1)
     }
 
-    // Like `stop_restores`, but counts the restore that ends, too, and 1 if the vault isn't sealed.
+    // Does what `stop_restores` does, but also counts the restore that ends. Returns 1 if the vault isn't sealed.
     fn stop_restores_after(&self, rt: &impl Abort, n: u64) -> u64 {
         for m in 0..AMPLE {
             let mut cut = self.cut(rt, n);
@@ -190,7 +193,8 @@ impl Runs {
     }
 }
 
-// If the restore is stopped, another one follows. Returns whether it ended, or true if the vault isn't sealed.
+// Restores with the allowance `allowed` and, if this restore is stopped, once more. Returns whether the first restore
+// ended, or true if the vault isn't sealed.
 fn ends_within(rt: &impl Abort, cut: &mut Cut, allowed: u64) -> bool {
     if !cut.vault.is_sealed() {
         return true;

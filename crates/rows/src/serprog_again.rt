@@ -1,4 +1,4 @@
-//! Which sectors `ReadTwice` reads again, if it expects an image.
+//! Tests which sectors `ReadTwice` reads again if it expects an image.
 
 use crate::held::assert_that;
 use nor_buses::ReadTwice;
@@ -29,7 +29,7 @@ const fn five_sectors(differing: &'static [usize], lines: &'static [u8]) -> Read
     }
 }
 
-// No byte is FFh, and no two sectors are equal.
+// Returns the contents of the chip. No byte is FFh, and no two sectors are equal.
 fn contents(rt: &impl Abort, alloc: Global) -> Vec<u8> {
     let mut bytes = vec![in alloc; 0; 65536].expect(rt, "memory");
     for (address, byte) in bytes.iter_mut().enumerate() {
@@ -127,8 +127,8 @@ fn parts_of_sectors_are_read_again(rt: HostRuntime) {
     }
 }
 
-// If a second read differs from the first, the bus stops. The spoilt second reads are: that of the first of two
-// differing sectors, that of the second, and that of the only byte that a read covers in its last sector.
+// If a second read differs from the first, the bus stops. The spoilt second read is that of the first of two differing
+// sectors, then that of the second, and then that of the only byte that the read covers in its last sector.
 #[test]
 fn a_sector_that_differs_stops_the_bus(rt: HostRuntime) {
     let cases: [(u64, usize, &'static [usize], &'static [u8]); 3] = [

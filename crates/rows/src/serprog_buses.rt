@@ -79,7 +79,8 @@ fn each_fault_stops_the_bus(rt: HostRuntime) {
     }
 }
 
-// If the port fails inside a frame, the bus sends nothing more, because the programmer would take it for the rest.
+// If the port fails inside a frame, the bus sends nothing more, because the programmer would treat it as the rest of
+// the frame.
 #[test]
 fn a_cut_frame_is_never_completed(rt: HostRuntime) {
     let mut model = Model::new(&rt, rt.alloc());
@@ -139,7 +140,8 @@ fn assert_silent(rt: &impl Abort, bus: &mut BatchingBus<Model>) {
     assert_that!(rt; command.is_err() && flushed.is_ok() && poll.is_err());
 }
 
-// The write enable waits for the poll, and the fault occurs at its frame, which is sent first.
+// The write enable waits until the poll, and its frame is sent before that of the poll. The fault occurs at the frame
+// of the write enable.
 #[test]
 fn a_batch_is_sent_only_in_step(rt: HostRuntime) {
     for fault in [Fault::Nak, Fault::Silent, Fault::Strange, Fault::Cut] {

@@ -11,8 +11,8 @@ use std::alloc::Global;
 use std::process::Abort;
 use std::{fmt, mem};
 
-// The greatest numbers of bytes of an incomplete frame, and of replies that weren't received yet: the read of a sector
-// after stale bytes.
+// The greatest number of bytes of an incomplete frame (`MOST_BEGUN`), and of reply bytes that weren't received yet
+// (`MOST_PENDING`): a sector, with stale bytes before it.
 const MOST_BEGUN: usize = 300;
 
 const MOST_PENDING: usize = 5000;
@@ -162,7 +162,8 @@ impl Model {
         self.reply(&answer);
     }
 
-    // No transaction takes place with `Nak`, or if the command exceeds a limit of the programmer.
+    // Carries out an O_SPIOP command. Replies NAK, and makes no transaction, if the fault `Nak` occurs or the command
+    // exceeds a limit of the programmer.
     fn operate(&mut self, out: &[u8], replies: u16) {
         let fault = if self.operations == self.fault_at {
             self.fault
@@ -199,7 +200,7 @@ impl Model {
     }
 }
 
-// A limit of 0 means that there is no limit.
+// Returns whether a length exceeds a limit. A limit of 0 means that there is none.
 fn exceeds(len: usize, limit: [u8; 3]) -> bool {
     let [low, middle, high] = limit;
     let limit = u32::from_le_bytes([low, middle, high, 0]) as usize;

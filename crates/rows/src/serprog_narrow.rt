@@ -9,7 +9,8 @@ use nor_serprog::{AnyProgrammer, BatchingBus, Link};
 use std::alloc::Global;
 use std::process::Abort;
 
-// The chip shows BUSY in two polls after each operation.
+// Returns a programmer that sends and reads at most `limit` bytes in a transaction. Its chip shows BUSY in two polls
+// after each operation.
 fn narrow(rt: &impl Abort, alloc: Global, bytes: Vec<u8>, limit: u16) -> Model {
     let delays = Delays { now: 0, each: 2 };
     let mut model = Model::new(rt, alloc);
@@ -31,7 +32,7 @@ fn open(rt: &impl Abort, model: Model) -> SplittingBus<BatchingBus<Model>> {
     SplittingBus::new(BatchingBus::over(link, programmer), writes, reads)
 }
 
-// The 256 bytes are different.
+// Returns a page program of 256 different bytes at 1100h.
 fn page_program() -> [u8; 260] {
     let mut program = [0; 260];
     for (index, byte) in program.iter_mut().enumerate() {
@@ -79,7 +80,7 @@ fn a_page_is_programmed_in_parts(rt: HostRuntime) {
     }
 }
 
-// Each byte differs from its neighbours.
+// Returns 65,536 bytes of which each differs from its neighbours.
 fn pattern(rt: &impl Abort, alloc: Global) -> Vec<u8> {
     let mut bytes = vec![in alloc; 0; 65536].expect(rt, "memory");
     for (address, byte) in bytes.iter_mut().enumerate() {
@@ -111,7 +112,7 @@ fn reads_are_split(rt: HostRuntime) {
     assert_that!(&rt; bus.inner().port().operations == 3);
 }
 
-// A transaction that can't be split fails and sends nothing, and the bus works afterwards.
+// A transaction that exceeds the limits and can't be split fails and sends nothing. The bus works afterwards.
 #[test]
 fn what_cannot_be_split_is_rejected(rt: HostRuntime) {
     let mut bus = over_pattern(&rt, rt.alloc(), 5);

@@ -26,7 +26,7 @@ fn open(rt: &impl Abort, port: SimPort) -> SerprogBus<SimPort> {
     let programmer = Programmer::identify(&mut link, None)
         .ok()
         .expect(rt, "a programmer");
-    // `SerprogBus::new` requires this.
+    // `SerprogBus::new` requires a link without a pending reply.
     assert!(rt; link.port().is_idle());
     SerprogBus::new(link, programmer)
 }
@@ -65,13 +65,13 @@ fn handshake(rt: &impl Abort, alloc: Global) -> u64 {
     AMPLE.saturating_sub(bus.port().left())
 }
 
-// The number of bytes that a simulated bus (`SimBus`) sends at its stop to match this port: `cut` if the frame fails,
-// all if the reply is lost.
+// Returns how many bytes a simulated bus (`SimBus`) must send at its stop to match this port: `cut` if sending the
+// frame fails, and all if only the reply is lost.
 fn torn(calls: u64, cut: u32) -> u32 {
     if calls % CALLS == 0 { cut } else { u32::MAX }
 }
 
-// If the reply is lost, all bytes were sent before, so one value is enough.
+// Returns the cuts to test. If the reply is lost, all bytes were sent before, so one cut is enough.
 fn cuts(calls: u64) -> &'static [u32] {
     if calls % CALLS == 0 { &CUTS } else { &[0] }
 }

@@ -1,4 +1,4 @@
-//! `Paced`, which waits between polls that show BUSY, `ReadTwice`, and `CheckedStatus`.
+//! Tests of `Paced`, which pauses between polls that show BUSY, of `ReadTwice`, and of `CheckedStatus`.
 
 use crate::held::assert_that;
 use crate::serprog_model::{Fault, Model};
@@ -12,7 +12,7 @@ use std::io;
 use std::process::Abort;
 use std::time::{Clock, Duration};
 
-/// A clock that advances only by sleeps and by the test, or can't be read (`fails`).
+/// A clock that only sleeps and the test advance. If `fails` is true, it can't be read.
 #[derive(Drop)]
 pub struct Timer<'a> {
     pub now: &'a Cell<u64>,
@@ -58,8 +58,8 @@ fn always_busy<'a>(
     )
 }
 
-// A command, the time that `Paced` expects of it, and the pause before the third poll after it, in microseconds. A chip
-// erase (C7h) counts as an erase of 64 KiB, and the last command begins no operation.
+// Each row has a command, its typical duration as `Paced` knows it, and the pause before the third poll after it, in
+// microseconds. A chip erase (C7h) counts as an erase of 64 KiB, and the last command begins no operation.
 const COMMANDS: [(&[u8], u64, u64); 7] = [
     (&[0x02, 0, 0, 0, 0], 700, 100),
     (&[0x01, 0, 0], 10_000, 625),
@@ -70,8 +70,9 @@ const COMMANDS: [(&[u8], u64, u64); 7] = [
     (&[0x06], 0, 100),
 ];
 
-// The chip shows BUSY in 600 polls. 2 polls have no pause, and polls 3 to 16 pauses of 0.1 ms; then come 16 polls with
-// each of the pauses 0.2, 0.4, 0.8, 1.6 and 3.2 ms, and polls 97 to 601 with 6.25 ms. The poll after that has no pause.
+// The chip shows BUSY in 600 polls. Polls 1 and 2 have no pause, and polls 3 to 16 a pause of 0.1 ms each. Then come 16
+// polls with each of the pauses 0.2, 0.4, 0.8, 1.6 and 3.2 ms, and polls 97 to 601 with 6.25 ms. The poll after these
+// has no pause.
 #[test]
 fn polls_of_a_busy_chip_are_paced(rt: HostRuntime) {
     let now = Cell::new(0);
@@ -94,8 +95,8 @@ fn polls_of_a_busy_chip_are_paced(rt: HostRuntime) {
     assert_that!(&rt; now.get() == 14 * 100 + 16 * 6200 + 505 * 6250);
 }
 
-// The pause before the second poll is the expected time, less the time since the command; with a failing clock, all of
-// it. The first poll waits in the same way after a page program only. A poll has one or two reply bytes.
+// The pause before the second poll is the typical duration, minus the time since the command. If the clock fails, it is
+// the whole duration. Only after a page program, the first poll has the same pause. A poll has one or two reply bytes.
 #[test]
 fn the_second_poll_comes_after_the_typical_time(rt: HostRuntime) {
     for (command, typical, third) in COMMANDS {
@@ -160,7 +161,8 @@ fn readings_that_differ_stop_the_bus(rt: HostRuntime) {
 }
 
 // A poll is four transactions of the bus inside: a poll, the ID, a poll and the ID. In the second row the chip is lost
-// at the first ID. In the third row it begins an operation there, so the polls differ, and the chip isn't lost.
+// at the first ID. In the third row the chip seems to be busy from the second poll on, so an ID that was read after it
+// would be FFFFFFh. The polls differ, and the chip doesn't count as lost.
 #[test]
 fn a_busy_chip_is_not_lost(rt: HostRuntime) {
     let id = [0xFE, 0x10, 0x10];

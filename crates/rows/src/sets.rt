@@ -23,7 +23,7 @@ const SETS: &[(&[(u32, u32)], Option<&[(u32, u32)]>)] = &[
     (&[(1, u32::MAX), (0, 0)], Some(&[(0, u32::MAX)])),
 ];
 
-// Returns `None` also for a list of more than eight spans.
+// Returns the set of these spans, or `None` if `Ranges::of` rejects the list or it has more than eight spans.
 fn set_of(ends: &[(u32, u32)]) -> Option<Ranges> {
     let mut spans = [Span::default(); 8];
     for (slot, (first, last)) in spans.iter_mut().zip(ends) {
@@ -51,7 +51,8 @@ fn spans_make_their_set(rt: HostRuntime) {
     }
 }
 
-// Makes a set from `more` and the addresses 2, 4, .., 2 * `addresses` (at most 65), in falling order.
+// Makes a set from `more` and the addresses 2, 4, .., 2 * `addresses` (at most 65 addresses), in falling order. Returns
+// the number of its spans, or `None` if it is rejected.
 fn count_of(addresses: u32, more: Span) -> Option<usize> {
     let mut spans = [more; 66];
     for (slot, above) in spans.iter_mut().zip(0..addresses) {

@@ -28,7 +28,8 @@ const DIGEST: [u8; 32] = [
     0x83, 0xD5, 0xFA, 0x75, 0xB9, 0xC2, 0x79, 0x2D, 0x91, 0x66, 0x46, 0xFB, 0x18, 0x8C, 0x93, 0x13,
 ];
 
-/// Writes a journal like `chip` with unique ID 0, which saves sector 0 with bytes FFh, into a fresh vault.
+/// Writes a journal into a fresh vault: with the ID, status and size of `chip`, the unique ID 0, and sector 0, whose
+/// bytes are FFh.
 fn save<V: Vault>(vault: &mut V, chip: &Journal<'_>) -> Result<(), VaultFault>
     requires { IsFresh (V.state vault.old) }
 {
@@ -41,7 +42,7 @@ fn is_whole(bytes: &[u8]) -> bool {
     bytes.len() == 4161 && bytes.ends_with(&DIGEST) && Journal::read(bytes).is_ok()
 }
 
-/// An implementation that always refuses would fail this test.
+/// This test fails for an implementation that refuses every call.
 #[test]
 fn mem_vault_refuses(rt: HostRuntime) {
     let mut vault = MemVault::new(rt.alloc());
@@ -57,8 +58,8 @@ fn mem_vault_refuses(rt: HostRuntime) {
     assert_that!(&rt; vault.bytes() == b"journal".as_slice());
 }
 
-// The calls for the header, the record, the end mark, the digest and the seal: number, position and length of the
-// piece.
+// The calls for the header, the record, the end mark, the digest and the seal. Each row has the number of the call, and
+// the position and length of its piece.
 const CALLS: [(u64, usize, usize); 5] = [
     (1, 0, 25),
     (2, 25, 4100),
@@ -67,8 +68,9 @@ const CALLS: [(u64, usize, usize); 5] = [
     (5, 4161, 0),
 ];
 
-// `broken` has the refused call and the bytes that the vault keeps of it; `told` the result, the number of refusals,
-// and whether the vault is sealed.
+// Asserts the result of `save` into a vault that refuses a call. `broken` is the number of this call, and how many
+// bytes of its piece the vault keeps. `told` is the result, the number of refusals, and whether the vault is sealed.
+// `beginning` is what the vault contains.
 fn assert_broken(
     rt: &impl Abort,
     alloc: Global,
@@ -113,7 +115,7 @@ fn each_call_of_a_writer_is_refused(rt: HostRuntime) {
 }
 
 /// A file in memory that accepts at most `most` bytes per write and `writes` writes. If `syncs` is true, `sync_all`
-/// succeeds and `sync_data` fails, otherwise the reverse. `resized`: `set_len` was called.
+/// succeeds and `sync_data` fails; otherwise it is the reverse. `resized` is true if `set_len` was called.
 #[derive(Drop)]
 struct SmallFile {
     bytes: Vec<u8>,
@@ -178,20 +180,20 @@ impl OpenFile for SmallFile {
     }
 }
 
-// The most bytes of a write, the number of writes that succeed, whether `sync_all` does, the result, and the file's
-// length.
+// Each row has the greatest number of bytes that a write accepts, the number of writes that succeed, whether `sync_all`
+// succeeds, the expected result, and the expected length of the file.
 const FILES: [(usize, u32, bool, Result<(), VaultFault>, usize); 9] = [
     (1, u32::MAX, true, Ok(()), 4161),
     (4096, u32::MAX, true, Ok(()), 4161),
     (usize::MAX, 4, true, Ok(()), 4161),
-    // No write succeeds; each write accepts no bytes.
+    // In the first row no write succeeds. In the second row each write accepts no bytes.
     (2, 0, true, Err(VaultFault { kept: 0 }), 0),
     (0, u32::MAX, true, Err(VaultFault { kept: 0 }), 0),
     // The second write of the first piece fails.
     (2, 1, true, Err(VaultFault { kept: 2 }), 2),
     // The third write fails, inside the record.
     (2050, 2, true, Err(VaultFault { kept: 2050 }), 2075),
-    // The write of the digest fails; the sync fails.
+    // In the first row the write of the digest fails, in the second row the sync.
     (usize::MAX, 3, true, Err(VaultFault { kept: 0 }), 4129),
     (usize::MAX, 4, false, Err(VaultFault { kept: 0 }), 4161),
 ];

@@ -9,8 +9,8 @@ use std::alloc::Global;
 use std::process::Abort;
 
 /// Returns a bound on the transactions of a session on `sectors` sectors, or of a restore of this number of saved
-/// sectors: 65,542 to identify the chip, three reads of each sector, and for each an erase and sixteen programs, and
-/// two status writes. Each operation is a write enable, the command and at most 65,536 polls.
+/// sectors: 65,542 to identify the chip, three reads, an erase and sixteen programs for each sector, and two status
+/// writes. Each operation is a write enable, the command and at most 65,536 polls.
 pub fn most(sectors: u32) -> u64 {
     let sectors = u64::from(sectors);
     65_542 + 3 * sectors + 65_538 * (17 * sectors + 2)
@@ -41,7 +41,8 @@ pub struct Lied {
 }
 
 impl Lied {
-    /// Runs the row's session on a bus with this fault. Asserts its bound, and that a sealed vault holds a journal.
+    /// Runs the row's session on a bus with this fault. Asserts that it sends at most `most` transactions, and that a
+    /// sealed vault contains a journal.
     pub fn session(rt: &impl Abort, alloc: Global, row: Row, spoil: Spoil) -> Lied {
         let mut bus = spoilt(row.bus(rt, alloc, Start::IDLE), spoil);
         let mut vault = MemVault::new(alloc);
@@ -55,7 +56,8 @@ impl Lied {
         Lied { refusal, sent, cut }
     }
 
-    /// Runs a restore on a bus with this fault, from the journal of `cut`. Asserts its bound.
+    /// Runs a restore on a bus with this fault, from the journal of `cut`. Asserts that it sends at most `most`
+    /// transactions.
     pub fn restore(rt: &impl Abort, cut: Cut, spoil: Spoil) -> Lied {
         let Cut { bus, vault } = cut;
         let mut bus = spoilt(bus, spoil);
@@ -69,7 +71,8 @@ impl Lied {
         Lied { refusal, sent, cut }
     }
 
-    /// If the vault is sealed, asserts that a restore without the fault leaves the chip as before the session.
+    /// Restores without the fault if the vault is sealed. Asserts that the chip is then as before the session, even if
+    /// the vault isn't sealed.
     pub fn assert_undone(self, rt: &impl Abort, alloc: Global, row: Row) {
         let Lied { mut cut, .. } = self;
         if cut.vault.is_sealed() {

@@ -21,8 +21,8 @@ pub enum Job {
     /// Two blocks of 64 KiB. The session erases the last sector of the first block and the second block, and writes the
     /// four bytes into the two sectors before.
     OnTwoBlocks,
-    /// A W25Q64FV whose last 128 KiB are protected. The session lifts the protection, and writes two bytes each into
-    /// the first two protected sectors, of which it erases the second.
+    /// A W25Q64FV whose last 128 KiB are protected. The session lifts the protection, and writes two bytes into each of
+    /// the first two protected sectors. It erases the second of these sectors.
     OnW25q64fv,
 }
 
@@ -156,7 +156,7 @@ impl Stage {
         vault.bytes().to_vec(self.alloc).expect(rt, "memory")
     }
 
-    // For a restore the chip is as the session left it. The allowance is the bound of a session.
+    // For a restore the chip has the contents that the session left. The allowance is the bound of a session.
     fn bus(&self, rt: &impl Abort, call: Call, fault: Fault, after: Option<u64>) -> OnceBus {
         let bytes = if call == Call::Restore {
             &self.image
@@ -207,8 +207,8 @@ impl Stage {
         (refusal, bus.asked)
     }
 
-    /// Stops a call at each of its transactions in turn, and then not at all. Asserts that it returns `Stopped` and
-    /// sends nothing more. Returns its number of transactions.
+    /// Stops a call at each of its transactions in turn, and then runs it without a stop. Asserts that a stopped call
+    /// returns `Stopped` and sends nothing more. Returns the number of transactions of the call.
     pub fn stop_at_each(&self, rt: &impl Abort, call: Call) -> u64 {
         let (right, length) = self.right(rt, call);
         for n in 0..=length {
@@ -225,8 +225,8 @@ impl Stage {
         length
     }
 
-    /// Shows BUSY in all 65,536 polls of each wait of a call in turn. Asserts that the call returns a timeout and sends
-    /// nothing more. The stage must have no delays. Returns the number of waits.
+    /// Runs a call once for each of its waits, and shows BUSY in all 65,536 polls of this wait. Asserts that the call
+    /// returns a timeout and sends nothing more. The stage must have no delays. Returns the number of waits.
     pub fn time_out_each(&self, rt: &impl Abort, call: Call) -> u64 {
         let (_, length) = self.right(rt, call);
         let mut waits: u64 = 0;
@@ -243,9 +243,9 @@ impl Stage {
         waits
     }
 
-    /// Spoils each reply of a call in turn, and checks the result for a poll, or for a sector that is verified or read
-    /// out. A session or restore verifies `touched` sectors. The stage must have no delays. Returns the number of
-    /// checks.
+    /// Spoils each reply of a call in turn. Checks the result if the reply is that of a poll, or of a sector that is
+    /// verified or read out. A session or restore verifies `touched` sectors. The stage must have no delays. Returns
+    /// the number of checks.
     pub fn spoil_each(&self, rt: &impl Abort, call: Call, touched: u64) -> u64 {
         let right = self.right(rt, call);
         let mut spoilt: u64 = 0;
@@ -261,8 +261,9 @@ impl Stage {
     }
 }
 
-// The expected error and number of transactions of a call if the reply of transaction `n`, from 0, is spoilt, or `None`
-// if it isn't checked (`spoil_each`). `right` has both without a fault, and `met` what transaction `n` sent.
+// Returns the expected error and number of transactions of a call if the reply of transaction `n`, counted from 0, is
+// spoilt, or `None` if `spoil_each` doesn't check it. `right` contains both without a fault, and `met` what transaction
+// `n` sent.
 fn expected_of_spoilt(
     call: Call,
     touched: u64,

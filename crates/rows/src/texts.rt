@@ -28,7 +28,8 @@ fn fault_of(told: Option<(usize, LineFault)>) -> Option<LayoutFault> {
     in_line(line, fault)
 }
 
-// The bytes before a million equal bytes, the repeated byte, the bytes after them, and the fault with its line.
+// Each row has the bytes before a million equal bytes, the repeated byte, the bytes after them, and the expected fault
+// with its line.
 const LAYOUTS: &[(&[u8], u8, &[u8], Option<(usize, LineFault)>)] = &[
     (b"", b':', b"", Some((1, LineFault::Line))),
     (b"", b' ', b"", Some((1, LineFault::Line))),
@@ -52,8 +53,8 @@ fn layouts_of_a_million_bytes(rt: HostRuntime) {
     }
 }
 
-// A name of one byte may be any byte from 21h to 7Eh, except comma and colon; an address must be a hexadecimal digit.
-// With a line feed, the name is empty, or line 2 has no start address.
+// A name of one byte may be any byte from 21h to 7Eh, except comma and colon. An address of one byte must be a
+// hexadecimal digit. If the byte is a line feed, the name is empty, or line 2 has no start address.
 #[test]
 fn a_name_and_an_address_of_each_byte(rt: HostRuntime) {
     for byte in 0..=255 {
@@ -80,7 +81,7 @@ const fn is_of_name(byte: u8) -> bool {
 }
 
 // The contract of `Layout::read` allows an implementation that returns out of memory for some names. This test detects
-// one that does so for a name of two bytes.
+// an implementation that does so for a name of two bytes.
 #[test]
 fn each_name_of_two_bytes(rt: HostRuntime) {
     for first in 0x21..=0x7E {
@@ -99,8 +100,9 @@ fn each_name_of_two_bytes(rt: HostRuntime) {
 
 const HEAD: &[u8; 25] = b"NORUNDO2\xFE\x10\x10\0\0\0\0\0\0\0\0\0\0\0\0\x01\0";
 
-// A prefix, a byte that follows it a million times, and the fault. After a header, 00h makes two records of sector 0,
-// FFh an end mark with more bytes than a digest, and 10h a sector that the chip lacks.
+// Each row has a prefix, a byte that follows it a million times, and the expected fault. After a header, 00h makes two
+// records of sector 0, FFh makes an end mark with more bytes after it than a digest, and 10h makes a record of a sector
+// that the chip lacks.
 const JOURNALS: &[(&[u8], u8, JournalFault)] = &[
     (b"", 0x00, JournalFault::Magic),
     (b"", b'N', JournalFault::Magic),
@@ -121,8 +123,8 @@ fn journals_of_a_million_bytes(rt: HostRuntime) {
     }
 }
 
-// A journal of 4,161 bytes that saves one sector: 0 magic, 8 ID, 11 unique ID, 19 status, 21 size, 25 number of the
-// sector, 29 its bytes, 4125 end mark, 4129 digest.
+// Returns a journal of 4,161 bytes that saves one sector. Its fields begin at these positions: magic 0, ID 8, unique ID
+// 11, status 19, size 21, number of the sector 25, bytes of the sector 29, end mark 4125, digest 4129.
 fn journal_of_a_sector(rt: &impl Abort, alloc: Global) -> Vec<u8> {
     let row = Row::ABitRises;
     let cut = Runs::new(rt, alloc, row, Start::IDLE).cut(rt, 23);
@@ -130,8 +132,9 @@ fn journal_of_a_sector(rt: &impl Abort, alloc: Global) -> Vec<u8> {
     cut.vault.bytes().to_vec(alloc).expect(rt, "memory")
 }
 
-// The fault after the lowest bit of a byte is inverted. At 25 sector 0 becomes sector 1, which only the digest detects;
-// elsewhere in this number, or in the end mark, the chip lacks the sector.
+// Returns the fault if the lowest bit of the byte at `place` is inverted. At 25 sector 0 becomes sector 1, which only
+// the digest detects. In the other bytes of this number, or in the end mark, the result is a sector that the chip
+// lacks.
 const fn fault_of_change(place: usize) -> JournalFault {
     match place {
         0..=7 => JournalFault::Magic,

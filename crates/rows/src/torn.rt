@@ -6,11 +6,12 @@ use crate::runs::Runs;
 use std::alloc::Global;
 use std::process::Abort;
 
-// The bytes that a stop still sends, for rows that program at most two bytes of a page: such a program sends six bytes,
-// and any other transaction at most five.
+// The numbers of bytes that a stop still sends, for rows that program at most two bytes of a page: such a program sends
+// six bytes, and any other transaction at most five.
 const SHORT: [u32; 7] = [0, 1, 2, 3, 4, 5, 6];
 
-// For the row that programs whole pages with 260 bytes, of which four precede the data. Each number would take minutes.
+// The numbers of bytes that a stop still sends, for the row that programs whole pages. Such a program sends 260 bytes,
+// of which four precede the data. Testing every number would take minutes.
 const LONG: [u32; 10] = [0, 1, 2, 3, 4, 5, 6, 132, 259, 260];
 
 // Two starts with a chip that keeps its power, the second one busy, and three with a chip that loses it: an interrupted
@@ -25,8 +26,8 @@ fn starts() -> [Start; 5] {
     ]
 }
 
-// For the rows with protection, which take longest. An interrupted status write is undone with an even fill, and done
-// with an odd one.
+// The starts for the rows with protection, which take longest. With an even fill an interrupted status write is undone,
+// with an odd fill it is completed.
 fn few_starts() -> [Start; 3] {
     [Start::IDLE, Start::losing(0x5A), Start::losing(0xFF)]
 }
@@ -95,8 +96,9 @@ fn stop_all(rt: &impl Abort, alloc: Global, row: Row, counts: &[u32]) -> Stops {
     stops
 }
 
-// The stops with and without power. On an idle chip the sessions send 28, 30, 28, 31, 38 and 42 transactions. On the
-// other chips each operation has two more polls, and on the slow chip the first wait three more.
+// The numbers of stops on chips that keep their power, and on chips that lose it. On an idle chip the sessions send 28,
+// 30, 28, 31, 38 and 42 transactions. On the other chips each operation has two more polls, and on the slow chip the
+// first wait has three more.
 const SESSIONS: [(Row, u64, u64); 6] = [
     (Row::AByteIsProgrammed, 7 * 61, 7 * 3 * 30),
     (Row::ABitRises, 7 * 67, 7 * 3 * 34),
@@ -128,8 +130,8 @@ fn each_cut_of_a_session_that_programs_pages(rt: HostRuntime) {
     assert_that!(&rt; stops == SESSIONS_OF_PAGES);
 }
 
-// The session has 112 transactions with three operations, and is sealed after 71; the first stop is three before. On a
-// chip that loses its power each operation has two more polls.
+// The session has 112 transactions with three operations, and is sealed after 71. The first stop is three transactions
+// before the seal. On a chip that loses its power each operation has two more polls.
 const SESSIONS_OF_LARGE_ERASES: Stops = Stops {
     kept: 7 * 44,
     lost: 7 * 50,
@@ -166,14 +168,14 @@ fn each_cut_of_a_session_on_a_protected_chip(rt: HostRuntime) {
     assert_that!(&rt; stops == SESSIONS_IN_THE_RANGE);
 }
 
-// The stopped restores with and without power: each restore is stopped at each of its transactions, so these are the
-// sums of the lengths. A stop of a restore sends as many bytes (0 to 6) as that of its session. For the first row they
-// were also calculated by hand:
+// The numbers of stopped restores on chips that keep their power, and on chips that lose it. Each restore is stopped at
+// each of its transactions, so these are the sums of the lengths. A stop of a restore sends the same number of bytes (0
+// to 6) as the stop of its session. For the first row the numbers were also calculated by hand:
 //
 // - Idle chip: of five stops after the seal, three leave the byte (a restore of 8 transactions) and two leave it
 //   programmed (12), which makes 48. With five or six bytes the third stop programs it, too: 5 * 48 + 2 * 52 = 344.
-// - Slow chip: the next restore waits for the remaining polls of two that show BUSY; a stop that sends at least one
-//   byte of a poll uses it up. 83 + 4 * 81 + 2 * 89 = 585.
+// - Slow chip: two polls show BUSY after the program, and the next restore waits for those that remain. A stop that
+//   sends at least one byte of a poll uses this poll up. 83 + 4 * 81 + 2 * 89 = 585.
 // - Loss of power: a restore that erases has 14 transactions, any other 8. For each fill, 10 restores follow a failure
 //   in the page program, and erase unless the fill is FFh: 10 * (14 + 14 + 8). The others add up to 432 for each fill.
 const RESTORES: [(Row, u64, u64); 4] = [
@@ -191,8 +193,8 @@ fn each_cut_of_a_restore(rt: HostRuntime) {
     }
 }
 
-// The stop of the session sends 4, 5 or 6 bytes of a page program, so none, one or both data bytes; that of the restore
-// sends any number in `SHORT`.
+// The stop of the session sends 4, 5 or 6 bytes of a page program: no data byte, one or both. The stop of the restore
+// sends each number in `SHORT`.
 const RESTORES_OF_TWO_PAGES: Stops = Stops {
     kept: 5_152,
     lost: 9_492,
@@ -228,8 +230,8 @@ fn each_cut_of_a_restore_that_programs_pages(rt: HostRuntime) {
     assert_that!(&rt; stops == RESTORES_OF_PAGES);
 }
 
-// The session is stopped at only three transactions, since a run takes long: the two status writes and the page
-// program. An operation takes three transactions and polls with BUSY. No transaction sends more than five bytes.
+// A run takes long, so the session is stopped at only three transactions: the two status writes and the page program.
+// An operation takes three transactions, and polls that show BUSY. No transaction sends more than five bytes.
 const RESTORES_IN_THE_RANGE: Stops = Stops {
     kept: 172,
     lost: 408,

@@ -1,8 +1,8 @@
-//! Sessions that are stopped after each number of transactions (on the W25Q64FV from 2,049 on). After a stop that
-//! follows the seal, the restore is itself stopped anywhere, and then a second restore follows.
+//! Sessions that are stopped after each number of transactions (on the W25Q64FV from 2,049 on). If the stop follows the
+//! seal, the restore is also stopped after each number of its transactions, and then a second restore follows.
 //!
-//! Each test counts its runs: one for a stop before the seal, and for each later stop (the end included) one more than
-//! the length of its restore.
+//! Each test counts its runs. A stop before the seal is one run. A later stop, or the end of the session, counts one
+//! more than the length of its restore.
 //!
 //! A restore sends 7 transactions (4 on a W25Q64FV) to identify the chip, and reads the only saved sector. If something
 //! differs, its operations follow: a write enable, a command and a poll (three polls on a slow chip). It reads the
@@ -23,8 +23,8 @@ const SLOW_BYTE: u64 = 26 + 3 * 9 + 17 + 16 + 3 * 15;
 // program makes it 00h: 13 transactions (14 runs).
 const BIT: u64 = 23 + 2 * 9 + 6 * 14;
 
-// On a slow chip, 26 stops precede the seal. At the next two the byte is as it was (9 runs). Of the five stops from the
-// erase on, and of the five from the program on, two, one or no polls that show BUSY remain: 17, 16 and 15
+// On a slow chip, 26 stops precede the seal. At the next two the byte is as it was (9 runs). At the five stops from the
+// erase on, and at the five from the program on, two, one or no polls that show BUSY remain: 17, 16 and 15
 // transactions.
 const SLOW_BIT: u64 = 26 + 2 * 9 + 2 * (18 + 17 + 3 * 16);
 

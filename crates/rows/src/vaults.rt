@@ -8,8 +8,8 @@ use nor_session::Refusal;
 use std::alloc::Global;
 use std::process::Abort;
 
-// The vault refuses call `nth`, and keeps `kept` bytes of its piece. Asserts that the chip is unchanged after an error,
-// and has the image otherwise.
+// Runs the session with a vault that refuses call `nth` and keeps `kept` bytes of its piece. Asserts that the chip is
+// unchanged after an error, and has the image otherwise.
 fn refuse(
     rt: &impl Abort,
     alloc: Global,
@@ -31,8 +31,9 @@ fn refuse(
     (refusal, vault.failures(), held.is_sealed(), holds_journal)
 }
 
-// Asserts error 11 after one refusal for each of the session's `calls` calls, with an unsealed vault that holds a whole
-// journal only from call `whole_from` on. A refusal of a later call changes nothing.
+// Refuses each of the session's `calls` calls in turn. Asserts error 11, one refusal, and an unsealed vault, which
+// contains a whole journal only if call `whole_from` or a later one was refused. Refusing call `calls + 1` changes
+// nothing.
 fn refuse_each(rt: &impl Abort, alloc: Global, row: Row, calls: u64, kept: usize, whole_from: u64) {
     for nth in 1..=calls {
         let left = refuse(rt, alloc, row, nth, kept);

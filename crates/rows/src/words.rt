@@ -43,7 +43,7 @@ fn is_job(rt: &impl Abort, alloc: Global, words: &[&str]) -> bool {
     request_of(alloc, all.as_slice()).is_ok()
 }
 
-// Group i is added if bit i of `choice` is set.
+// Returns the arguments of a write. Group i of `MORE` is added if bit i of `choice` is set.
 fn write_with(rt: &impl Abort, alloc: Global, choice: u32) -> Vec<String> {
     let mut words = Vec::new(alloc);
     push_all(rt, alloc, &mut words, &WRITE);
@@ -57,8 +57,8 @@ fn write_with(rt: &impl Abort, alloc: Global, choice: u32) -> Vec<String> {
     words
 }
 
-// The contract of `request_of` allows an implementation that returns out of memory for some number of arguments. These
-// tests detect it, for 1 to 14 arguments.
+// The contract of `request_of` allows an implementation that returns out of memory for some number of arguments. This
+// test and the next one detect such an implementation, for 1 to 14 arguments.
 #[test]
 fn words_memory(rt: HostRuntime) {
     for words in OTHERS {
