@@ -1,5 +1,6 @@
 pub mod Found
 pub mod Merged
+pub mod SentFitted
 pub mod Sent
 pub mod RestRead
 pub mod Restored
