@@ -59,8 +59,8 @@ minute = (refl, refl)
 hour : (minutes_in 3600000000 ≡ 60) × (seconds_in 3600000000 ≡ 0)
 hour = (refl, refl)
 
--- One sector: 45 ms, and 0.7 ms for each of 16 programs. 34 scattered sectors: 34 times as long. 16 sectors in one
--- block: 150 ms and 179.2 ms. The 2,048 sectors of a W25Q64FV: 20 s and 22.9376 s.
+-- W25Q64FV. One sector: 45 ms, and 0.7 ms for each of its 16 programs. 34 scattered sectors: 34 times that. 16 sectors
+-- in one block of 64 KiB: 150 ms and 179.2 ms. All 2,048 sectors: 20 s and 22.9376 s.
 one_sector : change_time 1 1 ≡ 56200
 one_sector = refl
 

@@ -11,7 +11,7 @@ percent_of done total = if total == 0 then None else Some (min (done * 100 / tot
 abbrev pub tenths_of : (bytes micros : ℕ) → Option ℕ
 tenths_of bytes micros = if micros == 0 then None else Some (capped (bytes * 10000000 / (micros * 1024)))
 
--- the time for `amount` if `done` took `micros`
+-- the time for `amount` if `done` took `micros`, in the same unit
 abbrev pub time_for : (amount done micros : ℕ) → Option ℕ
 time_for amount done micros = if done == 0 then None else Some (capped (amount * micros / done))
 
@@ -27,17 +27,18 @@ whole_seconds_in micros = micros / 1000000
 abbrev pub millis_in : (micros : ℕ) → ℕ
 millis_in micros = micros % 1000000 / 1000
 
--- the number of 64 KiB erases among `erases` that cover exactly `touched` sectors, if the others are of 4 KiB
+-- the number of 64 KiB erases among `erases`, if all others are of 4 KiB and they cover just the `touched` sectors
 abbrev pub blocks_in : (touched erases : ℕ) → ℕ
 blocks_in touched erases = min erases ((touched - erases) / 15)
 
--- the typical time of the erases of a change. A single erase of more than 16 sectors is one of the whole chip, 20 s for
--- 2,048 sectors. (W25Q64FV datasheet, AC Electrical Characteristics: 45 ms for 4 KiB, 150 ms for 64 KiB.)
+-- the typical time of the erases of a change (W25Q64FV datasheet, AC Electrical Characteristics): 45 ms for 4 KiB, 150
+-- ms for 64 KiB. A single erase for more than 16 touched sectors counts as a chip erase, with 20 s for 2,048 sectors.
 abbrev pub erase_time : (touched erases : ℕ) → ℕ
 erase_time touched erases =
     if erases == 1 && nat_lt 16 touched then touched * 20000000 / 2048
     else blocks_in touched erases * 150000 + (erases - blocks_in touched erases) * 45000
 
--- the typical time of a change, with 0.7 ms for each page program (the same table of the datasheet)
+-- the typical time of a change: of its erases, and of 16 page programs of 0.7 ms for each touched sector (same
+-- datasheet)
 abbrev pub change_time : (touched erases : ℕ) → ℕ
 change_time touched erases = erase_time touched erases + touched * 16 * 700

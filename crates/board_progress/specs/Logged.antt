@@ -1,4 +1,4 @@
--- A writer that also writes to the log of a run, as contracts see it.
+-- The writer inside a writer that also writes to the log of a run.
 use Rattle.board_progress.specs.declared.run_log.Logged.{Logged}
 
 abbrev pub written_by : {W : Type 0} → Logged W → W

@@ -1,4 +1,4 @@
--- The log of a run (`-o`): which file may be one, and that creating it changes no other file.
+-- The log of a run (`-o`): which files it may overwrite, and that starting it changes no other file.
 use Rattle.std.specs.Prelude.{◌≡◌, ℕ, List, [], Option, None, Some, codes, true}
 use Rattle.std.specs.Borrow.{Bor}
 use Rattle.nor_files.specs.Files.{AreApart, AreUntouched, FilesState, Name, OthersStay, View, is_lawful}
@@ -19,13 +19,14 @@ pub record IsExistingLog (view : View) (name : Bor Text) (fault : Fault) : Type 
   pub begins : BeginsNoLog start
   pub is : fault ≡ end.File file.Exists name causes.Unknown
 
--- Holds if no file except the log was changed, if the files obey their contract.
+-- Holds if at most the log was changed. With a log, this is claimed only if the files obey their contract.
 abbrev pub CreatesLog : Option (Bor Text) → (old new : FilesState) → Type 0
 CreatesLog None old new = AreUntouched old new
 CreatesLog (Some name) old new = (new.view.nature ≡ old.view.nature)
     × (is_lawful old.view ≡ true → OthersStay name.now old new)
 
--- Holds if reads of each file except the log return the same before and after, if the files obey their contract.
+-- Holds if reads of each file except the log return what they returned before. With a log, this is claimed only if the
+-- files obey their contract.
 abbrev pub StayButLog : Option (Bor Text) → (old new : View) → Type 0
 StayButLog None old new = new ≡ old
 StayButLog (Some name) old new = (new.nature ≡ old.nature)

@@ -1,4 +1,4 @@
--- The notes of a run, as contracts see them.
+-- The notes of a run: their sums of the comparison after a restore.
 use Rattle.nor_sums.specs.declared.sums.Sums.{Sums}
 use Rattle.board_progress.specs.declared.notes.Notes.{Notes}
 

@@ -1,4 +1,5 @@
-//! The lines with what a session or a restore will change, and about how long that takes; and the line after the seal.
+//! The lines that announce what a session or a restore will change and the estimated time of the change, and the line
+//! after a journal was sealed.
 
 use crate::estimates::{Minutes, Rate, change_micros, tenths_of_kib, time_for};
 use crate::terminal::Transfer;
@@ -33,15 +34,15 @@ impl fmt::Display for RestoreText {
     }
 }
 
-/// The line with about how long a change takes: the typical time of its erases and programs and, if data was read, the
-/// time in which the touched sectors are sent and read back at the rate of those reads.
+/// The line with the estimated time of a change: the typical time of its erases and programs. If data was read before,
+/// also the time for sending and reading back the touched sectors at the rate of those reads.
 #[derive(Clone, Copy, Drop)]
 pub struct ExpectedTime {
     pub announcement: Announcement,
     pub read: Transfer,
 }
 
-// The bytes that are transferred for a touched sector: those programmed, and those read back.
+// The number of bytes that are transferred for a touched sector: the sector is programmed and read back.
 const SECTOR_TRANSFER: u64 = 2 * 4096;
 
 const SECOND: u64 = 1_000_000;
@@ -68,9 +69,10 @@ impl fmt::Display for ExpectedTime {
     }
 }
 
-/// The line before the first modifying command of a session, with the name of the journal's file if it is known. After
-/// an interruption the programmer may wait for the rest of a frame, and take the next run's first bytes for it, until
-/// its power is disconnected.
+/// The line before the first modifying command of a session, with the name of the journal's file if it is known.
+///
+/// If the run is interrupted, the programmer may still wait for the rest of a frame, and would take the first bytes of
+/// the next run for this rest. Therefore the line says that the programmer must be disconnected from power.
 #[derive(Clone, Copy, Drop)]
 pub struct SealedLine<'a>(pub Option<&'a str>);
 

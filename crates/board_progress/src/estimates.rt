@@ -1,11 +1,11 @@
-//! The numbers of the progress line: percent, rate and time left, and about how long a change takes.
+//! The numbers of the progress line (percentage, rate and time left), and the estimated duration of a change.
 ghost use Rattle.std.specs.Prelude.{◌≡◌, ◌*◌, ◌<◌};
 ghost use Rattle.board_progress.specs.Estimates.{capped, change_time, erase_time, minutes_in, percent_of, seconds_in};
 ghost use Rattle.board_progress.specs.Estimates.{tenths_of, time_for};
 
 use std::fmt;
 
-/// Returns `done` of `total` in percent, rounded down and at most 100; or `None` if `total` is 0.
+/// Returns `done` as a percentage of `total`, rounded down and at most 100, or `None` if `total` is 0.
 pub fn percent(done: u64, total: u64) -> Option<u64>
     ensures { result ≡ percent_of done total }
 {
@@ -15,7 +15,7 @@ pub fn percent(done: u64, total: u64) -> Option<u64>
     Some((u128::from(done) * 100 / u128::from(total)).min(100) as u64)
 }
 
-/// Returns the rate in tenths of a KiB per second, rounded down and at most `u64::MAX`; or `None` if `micros` is 0.
+/// Returns the rate in tenths of a KiB per second, rounded down and at most `u64::MAX`, or `None` if `micros` is 0.
 pub fn tenths_of_kib(bytes: u64, micros: u64) -> Option<u64>
     ensures { result ≡ tenths_of bytes micros }
 {
@@ -25,8 +25,8 @@ pub fn tenths_of_kib(bytes: u64, micros: u64) -> Option<u64>
     Some(cap(u128::from(bytes) * 10_000_000 / (u128::from(micros) * 1024)))
 }
 
-/// Returns the microseconds for `amount` if `done` took `micros`, rounded down and at most `u64::MAX`; or `None` if
-/// `done` is 0.
+/// Returns the number of microseconds for `amount` if `done` took `micros`, rounded down and at most `u64::MAX`.
+/// Returns `None` if `done` is 0.
 pub fn time_for(amount: u64, done: u64, micros: u64) -> Option<u64>
     ensures { result ≡ time_for amount done micros }
 {
@@ -36,9 +36,14 @@ pub fn time_for(amount: u64, done: u64, micros: u64) -> Option<u64>
     Some(cap(u128::from(amount) * u128::from(micros) / u128::from(done)))
 }
 
-/// Returns the typical time of a change in microseconds, without transfers (W25Q64FV datasheet, AC Electrical
-/// Characteristics). The estimate assumes that each touched sector is erased, by 4 KiB and 64 KiB erases or one chip
-/// erase, and gets 16 page programs.
+/// Returns the typical time of a change in microseconds, without the time of transfers. The typical times are those of
+/// the W25Q64FV datasheet (AC Electrical Characteristics). The estimate assumes these operations:
+///
+/// - Each touched sector is programmed in 16 pages of 0.7 ms.
+/// - If there is one erase for more than 16 touched sectors, it is a chip erase. It takes 20 s for 2,048 touched
+///   sectors, and for another number in proportion.
+/// - Otherwise the erases are of 4 KiB (45 ms) and 64 KiB (150 ms), and cover just the touched sectors. The number of
+///   64 KiB erases is `touched - erases` divided by 15, rounded down, but at most `erases`.
 pub fn change_micros(touched: u32, erases: u32) -> u64
     ensures { result ≡ change_time touched erases }
 {
@@ -62,7 +67,7 @@ fn cap(number: u128) -> u64
     u64::try_from(number).unwrap_or(u64::MAX)
 }
 
-/// A time in microseconds, printed as minutes and seconds, as `1:05`, rounded down.
+/// A time in microseconds, printed as minutes and seconds, rounded down, for example `1:05`.
 #[derive(Clone, Copy, Drop)]
 pub struct Minutes(pub u64);
 
@@ -80,7 +85,7 @@ fn split_minutes(micros: u64) -> (u64, u64)
     (micros / 60_000_000, micros / 1_000_000 % 60)
 }
 
-/// A rate in tenths of a KiB per second, printed as `11.2 KiB/s` or, from 100 KiB/s on, as `950 KiB/s`.
+/// A rate in tenths of a KiB per second, printed for example as `11.2 KiB/s` or, from 100 KiB/s on, as `950 KiB/s`.
 #[derive(Clone, Copy, Drop)]
 pub struct Rate(pub u64);
 

@@ -1,10 +1,10 @@
-//! Counts and times the operations of a job, for the line that shows its progress.
+//! Counts and times the operations of a job, for its progress line.
 
 use crate::steps::{Step, StepLine, Tally, Total};
 use crate::terminal::Transfer;
 use std::time::Instant;
 
-// The progress line of a step that isn't complete is drawn at most once in this number of microseconds.
+// The least number of microseconds between two drawings of the progress line, except for the line of a completed step.
 const BETWEEN: u64 = 100_000;
 
 const READ_STATUS: u8 = 0x05;
@@ -47,18 +47,19 @@ impl Tallies {
     }
 }
 
-/// Counts the operations of a job. A read is done with its reply, any other operation when a poll shows a ready chip.
+/// Counts the operations of a job. A read counts when its reply was received, any other operation when a poll shows
+/// that the chip is ready.
 #[derive(Clone, Copy)]
 pub struct Gauge {
     tallies: Tallies,
     running: Option<(Step, u64)>,
-    // when the last operation was done, or when `restart` was called after that
+    // when the last operation was counted, or `restart` was called, whichever was later
     last: Option<Instant>,
     drawn: Option<Instant>,
 }
 
 impl Gauge {
-    /// Returns a gauge that has counted nothing, and measures from `now` on.
+    /// Returns a gauge that has counted nothing. The time of the first operation is measured from `now` on.
     pub fn new(now: Option<Instant>) -> Gauge {
         Gauge {
             tallies: Tallies::default(),
@@ -68,18 +69,18 @@ impl Gauge {
         }
     }
 
-    /// Measures from `now` on.
+    /// Measures the time of the next operation from `now` on.
     pub fn restart(&mut self, now: Option<Instant>) {
         self.last = now;
     }
 
-    /// Forgets the scan so far: the next one is counted from 0.
+    /// Sets the count of the scan to 0, before a second scan.
     pub fn restart_scan(&mut self) {
         self.tallies.scan = Tally::default();
     }
 
-    /// Records a transaction that was carried out before `now`. `step` is `None` for a transaction that no step counts.
-    /// Returns the step whose line changed, if any.
+    /// Records a transaction that was carried out before `now`. `step` is `None` if the transaction belongs to no step.
+    /// Returns the step whose line has changed, if any.
     pub fn record(
         &mut self,
         step: Option<Step>,
@@ -119,7 +120,7 @@ impl Gauge {
         self.last = now;
     }
 
-    /// Returns how many bytes the scan read, and in which time.
+    /// Returns how many bytes the scan read, and in how many microseconds.
     pub fn scanned(&self) -> Transfer {
         Transfer {
             bytes: self.tallies.scan.bytes,
@@ -127,7 +128,7 @@ impl Gauge {
         }
     }
 
-    /// Returns the line of a step. If the chip performs an operation, the time of that operation so far is included.
+    /// Returns the line of a step. If the chip is performing an operation, its time so far is included.
     pub fn line(&self, step: Step, total: Total, now: Option<Instant>) -> StepLine {
         let mut tally = self.tallies.of(step);
         if self.running.is_some() {
@@ -137,7 +138,7 @@ impl Gauge {
         StepLine { step, tally, total }
     }
 
-    /// Returns whether the line may be drawn again: no drawing was recorded in the last tenth of a second.
+    /// Returns whether the line may be drawn again, because no drawing was recorded in the last tenth of a second.
     pub fn is_due(&self, now: Option<Instant>) -> bool {
         self.drawn.is_none() || micros_between(self.drawn, now) >= BETWEEN
     }

@@ -1,5 +1,5 @@
-//! What a run shows of its job while the job uses the chip, over any bus: its steps on standard error, its log, and the
-//! notes about the sectors that it read.
+//! Shows the progress of a job on standard error and in the log of the run, and records the sums of the sectors that
+//! the job reads. The job may use any bus.
 #![tactic(auto)]
 
 mod change_lines;

@@ -1,12 +1,12 @@
-//! The two bits that lock a chip's status: which of them is set, and what to do.
+//! SRP0 and SRP1, the two bits that lock a chip's status, and what to do if one is set.
 
-/// SRP0 in status 1 (W25Q64FV datasheet, Status Register Protect).
+/// SRP0, bit 7 of status 1 (W25Q64FV datasheet, Status Register Protect).
 pub const SRP0: u8 = 0x80;
 
-/// SRP1 in status 2.
+/// SRP1, bit 0 of status 2.
 pub const SRP1: u8 = 0x01;
 
-/// Which of the bits are set that lock the status.
+/// Which of SRP0 and SRP1 are set.
 #[derive(Clone, Copy, PartialEq)]
 pub enum Lock {
     Open,
@@ -14,12 +14,12 @@ pub enum Lock {
     Pin,
     /// SRP1 only: the status is locked until the chip loses its power.
     Power,
-    /// Both: on some chips the status is locked for good.
+    /// Both: on some chips the status is locked forever.
     Both,
 }
 
 impl Lock {
-    /// Returns which bits are set in these status bytes, status 1 first.
+    /// Returns which of the two bits are set in these status bytes, status 1 first.
     pub fn of(status: [u8; 2]) -> Lock {
         match (status[0] & SRP0 != 0, status[1] & SRP1 != 0) {
             (false, false) => Lock::Open,
@@ -29,7 +29,7 @@ impl Lock {
         }
     }
 
-    /// Returns the line that follows that of error 9: which bit is set, and what to do.
+    /// Returns the line that follows the line of error 9: which bit is set, and what to do.
     pub fn advice(self) -> &'static str {
         match self {
             Lock::Open => "Neither SRP0 nor SRP1 is set now: repeat the run.",
@@ -40,7 +40,7 @@ impl Lock {
         }
     }
 
-    /// Returns the end of the line that follows that of error 10: how to lift the protection.
+    /// Returns the end of the line that follows the line of error 10: how to lift the protection.
     pub fn advice_to_unlock(self) -> &'static str {
         match self {
             Lock::Open => ", or use --unlock.",

@@ -1,5 +1,5 @@
-//! What a run notes about the sectors of the chip: the sum of each sector that it read before the first modifying
-//! command, and of each sector that it read in a comparison after the change.
+//! The notes of a run about the sectors of the chip. They contain the sum of each sector that it read before the first
+//! modifying command, and of each sector that it read in the comparison after a restore.
 ghost use Rattle.std.specs.Prelude.{◌≡◌, ◌+◌, ◌*◌, ◌/◌};
 
 use crate::replies::Replies;
@@ -12,24 +12,25 @@ use nor_sums::{SECTORS, SHEET_LEN, Sums, encode};
 use std::alloc::{AllocError, Global};
 use std::fmt;
 
-/// The sums that a run notes, and the file for them. All memory is allocated when the notes are made.
+/// The sums of sectors that a run notes, and the name of the file to which it writes them. All memory is allocated by
+/// `new`.
 ///
-/// `before` has the sum of the last read of each sector before the first modifying command. A sector becomes unknown
-/// when an erase or program of it is sent, so all known sectors must keep their bytes. `after` has the sum of the last
-/// read of each sector in the comparison after a restore.
+/// `before` contains the sum of the last read of each sector before the first modifying command. An erase or a program
+/// of a sector removes its sum. After a change, `before` therefore contains only the sums of sectors that must have
+/// kept their bytes. `after` contains the sum of the last read of each sector in the comparison after a restore.
 #[derive(Drop)]
 pub struct Notes {
     before: Sums,
     after: Sums,
-    // the file's name, and memory for its bytes; `None` if the run writes no such file
+    // the file's name, and memory for its bytes; `None` if the run writes no sums to a file
     file: Option<(String, Vec<u8>)>,
 }
 
 impl Notes {
     ghost use Rattle.board_progress.specs.Notes.{after_of};
 
-    /// Returns empty notes. If a name is given, the notes are written to the file of this name before the first
-    /// modifying command (`write`). Returns an error if memory runs out.
+    /// Returns empty notes. If a name is given, `write` writes the sums to the file of this name. Returns an error if
+    /// memory runs out.
     pub fn new(alloc: Global, name: Option<String>) -> Result<Notes, AllocError> {
         let file = match name {
             Some(name) => Some((name, Vec::with_capacity(alloc, SHEET_LEN)?)),
@@ -42,9 +43,11 @@ impl Notes {
         })
     }
 
-    /// Notes a transaction that was carried out. If it read a whole sector, the sum of its reply is noted: in `before`
-    /// if no modifying command was sent, and in `after` if the comparison after a restore began. If it was an erase or
-    /// a program, the sectors that it was to change become unknown in `before`.
+    /// Notes a transaction that was carried out in this phase of the job.
+    ///
+    /// A read of a whole sector records the sum of its reply: in `before` if no modifying command was sent, and in
+    /// `after` if the comparison after a restore began. An erase or a program removes the sums of the sectors that it
+    /// targets from `before`.
     pub fn note(&mut self, phase: Phase, out: &[u8], reply: &[u8]) {
         match (phase, read_sector_of(out, reply)) {
             (Phase::Before, Some(sector)) => self.before.record(sector, reply),
@@ -68,20 +71,21 @@ impl Notes {
         }
     }
 
-    /// Returns the sum of a sector before the first modifying command, or `None` if it isn't known or was to change.
+    /// Returns the sum of a sector before the first modifying command. Returns `None` if the sector was not read, or if
+    /// an erase or a program of it was sent.
     pub fn before(&self, sector: usize) -> Option<[u8; 8]> {
         self.before.get(sector)
     }
 
-    /// Returns the sums of the comparison after a restore.
+    /// Returns the sums of the sectors that were read in the comparison after a restore.
     pub fn after(&self) -> &Sums
         ensures { result.now ≡ after_of self.now }
     {
         &self.after
     }
 
-    /// Writes the sums `before` to the file, if the notes have one, and syncs it. Must be called before the first
-    /// modifying command. Prints a line if the file can't be written.
+    /// Writes the sums `before` to a new file and syncs it, if `new` received a name. Must be called before the first
+    /// modifying command. If the file can't be created or written, prints and logs a line.
     pub fn write(&mut self, terminal: Terminal<'_>, replies: Replies) {
         let Some((name, room)) = &mut self.file else {
             return;

@@ -1,4 +1,5 @@
-//! A bus that shows the progress of a job on standard error: its steps, and lines before the first modifying command.
+//! A bus that shows the progress of a job on standard error: its steps, and what the user must know before the first
+//! modifying command.
 ghost use Rattle.std.specs.Prelude.{◌≡◌};
 
 mod durations;
@@ -18,19 +19,20 @@ use crate::terminal::{Look, Terminal};
 use nor_model::{Bus, Stopped, is_changing};
 use std::time::Instant;
 
-// Bits of status 1 and 2 (W25Q64FV datasheet, Status Registers).
+// `BUSY` is bit 0 of status 1, `QE` bit 1 of status 2 (W25Q64FV datasheet, Status Registers).
 const BUSY: u8 = 0x01;
 
 const QE: u8 = 0x02;
 
-// The line before the first modifying command of a restore.
+// The line before the first modifying command of a restore or of a change of SRP0. A session has a `SealedLine` there.
 const CHANGED: &str = "The chip is changed from here on.";
 
-// Before that line, if SRP1 is set without SRP0 (W25Q64FV datasheet, Status Register Protect).
+// The line before `CHANGED` or the `SealedLine` if SRP1 is set and SRP0 is clear (W25Q64FV datasheet, Status Register
+// Protect).
 const POWER_LOCKED: &str =
     "Keep its power on: a loss of power clears SRP1, and a restore then ends with error 17.";
 
-// Before that line, if QE is set and the job may write the status.
+// The line before `CHANGED` or the `SealedLine` if QE is set and the job may write the status.
 const QUAD: &str =
     "Keep its power on: a status write that is cut off may clear QE, and a restore doesn't set it again.";
 
@@ -38,78 +40,83 @@ const BUSY_CHIP: &str =
     "The chip shows BUSY. If no erase is running, it has no contact or no supply: press Ctrl-C, and check both. \
     (The run gives up after 400 seconds.)";
 
-// 256 polls take about a second (`Paced`) or more. Without contact all replies are FFh, which shows BUSY for 400
-// seconds.
+// The number of polls that must show BUSY before `BUSY_CHIP` is printed. They take about a second (`Paced`) or more.
+// Without contact each reply is FFh, which shows BUSY, and the run may wait 400 seconds before it gives up.
 const POLLS_UNTIL_LINE: u32 = 256;
 
-/// A bus that shows the progress of a job. These functions leave its state, as contracts see it, the same.
+/// A bus that shows the progress of a job. The functions of this trait don't change the state that contracts see.
 pub trait Progress: Bus {
-    /// Records that the job reads `sectors` sectors before it changes anything. The greatest number counts; if the
-    /// reads recorded before are done, more reads are a second scan.
+    /// Records that the job reads `sectors` sectors before it changes anything. If it is called again, the greatest
+    /// number counts. But if `sectors` is greater than the recorded number and all recorded reads are done, the further
+    /// reads are shown as a second scan.
     fn expect_reads(&mut self, sectors: usize)
         ensures { Self.state self.new ≡ Self.state self.old };
 
-    /// Records that the comparison after a change or restore begins, and how many sectors it will read.
+    /// Records that the comparison after a change or restore begins, and that it will read `sectors` sectors.
     fn expect_comparison(&mut self, sectors: usize)
         ensures { Self.state self.new ≡ Self.state self.old };
 
-    /// Sets where each further block that is read ahead ends at the latest, unless a read needs more bytes (`u32::MAX`:
-    /// no limit).
+    /// Sets the address at which each further block that is read ahead ends at the latest, unless the read itself needs
+    /// more bytes. `u32::MAX` removes this limit.
     fn end_blocks_at(&mut self, address: u32)
         ensures { Self.state self.new ≡ Self.state self.old };
 }
 
-/// A bus that shows the progress of a job on standard error, as the `Look` of its `Terminal` says.
+/// A bus that shows the progress of a job on standard error, as the `Look` of its `Terminal` requires:
 ///
-/// `Look::Line` rewrites one line (`StepLine`), at most ten times a second, and ends it if the step is complete.
-/// `Look::Plain` prints a line for the first transaction of a step and after each `Step::stride` further ones.
-/// `Look::Minutes` prints the line if nothing was printed for a minute, `Look::Hidden` only the lines of `-V`. The log
-/// (`-o`) has the plain lines, those of `-V`, and how long the change takes and took.
+/// - `Look::Line` rewrites one line (`StepLine`), at most ten times a second. It ends the line when the step is
+///   complete.
+/// - `Look::Plain` prints a line for the first transaction of a step, and then after each `Step::stride` further ones.
+/// - `Look::Minutes` prints a `StepLine` at most once per minute.
+/// - `Look::Hidden` prints none of these lines.
 ///
-/// A step is known by the opcode of a transaction and the phase of the job. Before the first modifying command a line
-/// says that the chip is changed from here on; in a session it begins with `SEALED`. Contracts see the state of the bus
-/// inside.
+/// The lines of `-V` are printed with any look. The log (`-o`) receives the lines of `Look::Plain` and `-V`, and how
+/// long the change takes and took.
+///
+/// The opcode of a transaction and the phase of the job determine the step. A line before the first modifying command
+/// says that the chip is changed from here on; in a session this line begins with `SEALED`. In contracts, the state of
+/// this bus is that of the bus inside.
 #[derive(Drop)]
 pub struct Shown<'a, B> {
     bus: B,
     terminal: Terminal<'a>,
     in_session: bool,
-    // the name of the journal's file, if the job is a session and memory for the name was left
+    // the name of the journal's file; `None` if the job is no session, or if memory for the name ran out
     journal: Option<String>,
     phase: Phase,
-    // the sectors of the present scan or comparison, if known
+    // the number of sectors that the present scan or comparison reads, if known
     expected: Option<usize>,
     counts: Counts,
     gauge: Gauge,
-    // when the first modifying command was sent
+    // when the first modifying command was passed on
     changed: Option<Instant>,
     status_write: StatusWrite,
     // what the chip replied before the first modifying command
     replies: Replies,
-    // how many polls showed BUSY before the ID was read
+    // the number of polls that showed BUSY before the ID was read
     busy_polls: u32,
-    // when the last line was printed with `Look::Minutes`, or when the run began
+    // when `print_each_minute` last printed a line; before its first line, when the terminal was created
     said: Option<Instant>,
-    // the sums of the sectors that were read, if the job notes them
+    // the sums of the sectors that were read, if the job notes sums
     notes: Option<Notes>,
 }
 
-/// Whether a job may write the chip's status.
+/// Whether a job may write the status registers.
 #[derive(Clone, Copy)]
 pub enum StatusWrite {
     Never,
     /// Only on a chip whose protection bits may protect an address.
     IfProtected,
-    /// On any chip, whatever its protection bits are.
+    /// On any chip.
     OnAnyChip,
-    /// Only on a chip whose protection bits may protect an address, or differ from those of these status bytes.
+    /// Only on a chip whose protection bits may protect an address, or aren't those of the given status bytes.
     Restoring([u8; 2]),
 }
 
 impl<'a, B: Bus + Drop> Shown<'a, B> {
     ghost use Rattle.board_progress.specs.Shown.{shown_bus};
 
-    /// Returns a bus that shows the progress of the job on `bus`. `status_write` holds until `begin_job` replaces it.
+    /// Returns a bus that shows the progress of the job on `bus`. `status_write` applies until `begin_job` replaces it.
     pub fn new(bus: B, terminal: Terminal<'a>, status_write: StatusWrite) -> Shown<'a, B>
         ensures { shown_bus result ≡ bus }
     {
@@ -146,8 +153,8 @@ impl<'a, B: Bus + Drop> Shown<'a, B> {
         self.replies
     }
 
-    /// Records whether a session begins, whose journal is sealed before the first change, the name of the journal's
-    /// file, and whether the job may write the status.
+    /// Records three facts about the job for the lines before its first modifying command: whether it is a session, the
+    /// name of its journal's file, and whether it may write the status. (A session has sealed its journal by then.)
     pub fn begin_job(
         &mut self,
         in_session: bool,
@@ -161,8 +168,9 @@ impl<'a, B: Bus + Drop> Shown<'a, B> {
         self.status_write = status_write;
     }
 
-    /// Ends the line of the progress: call it after the last transaction, before any other line. After a successful
-    /// change that isn't compared, first shows its final numbers (`show_duration`).
+    /// Ends the progress line. Call this after the last transaction of the job, before any other line is printed. If
+    /// the job succeeded and sent a modifying command, and no comparison followed, first shows the final numbers of its
+    /// steps.
     pub fn end_progress(&self, succeeded: bool) {
         if succeeded {
             self.show_duration();
@@ -263,7 +271,8 @@ impl<B> Shown<'_, B> {
         });
     }
 
-    // After the announcement the scan is done: a sector that is programmed without an erase is read again.
+    // After the announcement the scan is over. A read before the first modifying command then is a second read of a
+    // sector that will be programmed without an erase.
     fn step_of(&self, out: &[u8]) -> Option<Step> {
         match step_of(out, self.phase) {
             Some(Step::Scan) if self.terminal.announced().is_some() => Some(Step::ReadBack),
@@ -306,7 +315,7 @@ impl<B> Shown<'_, B> {
         }
     }
 
-    // A touched sector has at most 16 pages to program.
+    // Each touched sector has 16 pages, so at most 16 programs.
     fn total_of(&self, step: Step) -> Total {
         match (step, self.expected, self.terminal.announced()) {
             (Step::Scan | Step::Compare, Some(sectors), _) => Total::Exactly(sectors as u64),

@@ -1,11 +1,11 @@
-//! What the chip replied before the first modifying command.
+//! The replies of the chip before the first modifying command.
 
 use nor_probe::part_for;
 
-// The length in bytes of an SFDP table, as a probe reads it (JESD216: double words 1 to 9).
+// The length in bytes of the SFDP table that a probe reads (JESD216: double words 1 to 9).
 const TABLE_LEN: usize = 36;
 
-/// What the chip replied last before the first modifying command. Status bytes that were not read are 0.
+/// The last replies of the chip before the first modifying command. Status bytes that were not read are 0.
 #[derive(Clone, Copy, Default)]
 pub struct Replies {
     pub id: Option<[u8; 3]>,
@@ -13,12 +13,14 @@ pub struct Replies {
     /// Status 1 and status 2.
     pub status: [u8; 2],
     density: Option<u32>,
-    /// True if the SFDP table doesn't say that sectors of 4 KiB can be erased everywhere (JESD216, double word 1).
+    /// True if the SFDP table was read, and doesn't say that sectors of 4 KiB can be erased everywhere (JESD216, double
+    /// word 1).
     pub is_uneven: bool,
 }
 
 impl Replies {
-    /// Stores the reply to a transaction that sent `out`, if it is an ID, a unique ID, a status byte or an SFDP table.
+    /// Stores the reply to a transaction that sent `out`, if the reply is an ID, a unique ID, a status byte or an SFDP
+    /// table.
     pub fn remember(&mut self, out: &[u8], reply: &[u8]) {
         match (out, reply) {
             ([0x05, ..], [status1, ..]) => self.status[0] = *status1,
@@ -35,8 +37,9 @@ impl Replies {
         }
     }
 
-    /// Returns the size of the chip in bytes, from the table of chips or, if the table has no row for its ID, from its
-    /// SFDP. Returns `None` if the ID or this size isn't known.
+    /// Returns the size of the chip in bytes: the size in the table of chips or, if the table has no row for the chip's
+    /// ID, the size in its SFDP. Returns `None` if the ID was not read, or if the table has no row and the SFDP was not
+    /// read or gives no size.
     pub fn size(&self) -> Option<u32> {
         match part_for(true, self.id?) {
             Some(part) => Some(part.size),
@@ -45,8 +48,8 @@ impl Replies {
     }
 }
 
-// Double word 2 is the number of bits minus 1 or, with bit 31 set, the binary logarithm of the number of bits
-// (JESD216).
+// Double word 2 is the number of bits minus 1. If its bit 31 is set, the other bits are the binary logarithm of the
+// number of bits instead (JESD216).
 fn size_in_bytes(density: u32) -> Option<u32> {
     match density.checked_sub(1 << 31) {
         None => Some(density / 8 + 1),

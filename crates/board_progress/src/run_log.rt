@@ -1,5 +1,5 @@
-//! The log of a run, for `-o`: a file that receives what the run prints, with its progress as plain lines, and the
-//! lines of `-V`.
+//! The log of a run (`-o`): a file that receives what the run prints, its progress as plain lines, and the lines of
+//! `-V`.
 ghost use Rattle.std.specs.Prelude.{◌≡◌, IfErr, IsSomeAnd, false};
 ghost use Rattle.nor_console.specs.Files.{IsMaking};
 ghost use Rattle.board_progress.specs.Logging.{BeginsNoLog, CreatesLog, IsExistingLog};
@@ -11,18 +11,19 @@ use std::fs::File;
 use std::io::{BufWriter, Write};
 use std::{fmt, io};
 
-// The first line of a log, before the version. An existing file is overwritten only if it begins with these bytes.
+// The first line of a log, before the version. An existing regular file is overwritten only if it is empty or begins
+// with these bytes.
 const FIRST: &str = "Log of flashnor-serprog";
 
-/// The version of the program, as the first line of a log has it.
+/// The version of the program, which the first line of a log contains.
 pub const VERSION: &str = "1.0";
 
 /// A buffered writer to the file of a log.
 pub type LogWriter = BufWriter<LogFile<File>>;
 
-/// The log of a run. All parts of the run that print share it. A log without a file drops each line.
+/// The log of a run, shared by all parts of the run that print. If the log has no file, each line is dropped.
 ///
-/// If a line can't be written, the log ends before it, and the job goes on (`end_log`).
+/// If a line can't be written, nothing more is written to the log, and the job goes on. `lost` returns the reason.
 #[derive(Drop)]
 pub struct RunLog {
     file: RefCell<Option<LogWriter>>,
@@ -40,9 +41,11 @@ impl RunLog {
         }
     }
 
-    /// Starts the log in this file, with its first line. A log that is in the file is truncated before or, if `appends`
-    /// is true, kept and followed by an empty line. A file that can't be read, or that isn't empty and doesn't begin as
-    /// a log, stays as it is (`is_refused`).
+    /// Starts the log in this file by writing its first line. If the file contains a log, truncates it before or, if
+    /// `appends` is true, appends an empty line first.
+    ///
+    /// If the file can't be read, or if it isn't empty and doesn't begin as a log, leaves it as it is, and `is_refused`
+    /// returns true afterwards. A FIFO or a device isn't read.
     pub fn start(&self, file: LogWriter, appends: bool) {
         let mut file = file;
         match file.get_mut().is_empty_or_begins(FIRST.as_bytes()) {
@@ -58,17 +61,17 @@ impl RunLog {
         self.end_if_failed(begun);
     }
 
-    /// Returns whether `start` left the file as it was.
+    /// Returns whether `start` left the file as it was, because the file can't be read or is no log.
     pub fn is_refused(&self) -> bool {
         self.is_refused.get()
     }
 
-    /// Returns the system's reason why a line couldn't be written, or `None` if no line was lost.
+    /// Returns the system's reason why a line couldn't be written, or `None` if every line was written.
     pub fn lost(&self) -> Option<SystemReason> {
         self.lost.get()
     }
 
-    /// Returns whether there is a file to which lines are written.
+    /// Returns whether the log has a file.
     pub fn is_open(&self) -> bool {
         match self.file.try_borrow() {
             Ok(file) => file.is_some(),
@@ -76,12 +79,13 @@ impl RunLog {
         }
     }
 
-    /// Writes a line to the file, so that it stays even if the run is killed afterwards.
+    /// Writes a line to the log and passes it to the system, so the file contains the line even if the run is killed
+    /// afterwards.
     pub fn write_line<T: fmt::Display>(&self, text: &T) {
         self.end_if_failed(self.try_line(text));
     }
 
-    /// Writes a piece of a line to the log. A piece that ends the line is flushed to the file.
+    /// Writes a part of a line to the log. If the part ends with a newline, passes the line to the system.
     pub fn write_piece(&self, bytes: &[u8]) {
         self.end_if_failed(self.try_piece(bytes));
     }
@@ -128,8 +132,7 @@ fn begin(file: &mut LogWriter, appends: bool) -> io::Result<()> {
     file.flush()
 }
 
-/// A writer that writes to another one, and also to the log of the run. In contracts its contents are those of the
-/// other one.
+/// A writer that writes to `inner` and also to the log of the run. In contracts its contents are those of `inner`.
 #[derive(Drop)]
 pub struct Logged<'a, W> {
     inner: W,
@@ -150,8 +153,8 @@ impl<'a, W> Logged<'a, W> {
 impl<W: Write> Write for Logged<'_, W> {
     ghost contents = { λ logged. W.contents logged.inner };
 
-    // The log receives the bytes that were written, or all bytes if none could be written: then the log is the only
-    // place where they can be found.
+    // The log receives the bytes that `inner` wrote. If `inner` fails, the log receives all bytes, because they can be
+    // found nowhere else.
     fn write(&mut self, bytes: &[u8]) -> io::Result<usize> {
         let written = self.inner.write(bytes);
         match &written {
@@ -166,10 +169,11 @@ impl<W: Write> Write for Logged<'_, W> {
     }
 }
 
-/// Checks that the file of the log may be created or overwritten: that it doesn't exist, is empty or begins as a log of
-/// this program. A FIFO and a device aren't read. A file that can't be read is left to `start_log`.
+/// Checks that the file of the log may be created or overwritten. It may if it doesn't exist, is empty, or begins as a
+/// log of this program; for any other file, returns file fault 4.
 ///
-/// Returns file fault 4 for any other file.
+/// A FIFO or a character device isn't read, and is accepted. A file that can't be read is accepted too, and `start_log`
+/// returns its fault.
 pub fn check_log<'a, R: Store>(rt: &R, name: Option<&'a str>) -> Result<(), Fault<'a>>
     ensures { IfErr result (λ fault. IsSomeAnd name.entry (λ name.
         IsExistingLog (R.state rt.now).view name fault)) }
@@ -192,11 +196,16 @@ fn may_begin_log(start: &[u8]) -> bool
     start.is_empty() || start == FIRST.as_bytes()
 }
 
-/// If `name` is given, creates this file, or truncates the log in it, and starts the log of the run. If `appends` is
-/// true, the log in it is kept. If the file is another one, it stays as it is, and `check_started` returns the fault.
+/// Starts the log of the run in the file `name`, if a name is given. Creates the file or, if it contains a log,
+/// truncates the log or, if `appends` is true, appends to it. Leaves any other file as it is; `check_started` then
+/// returns the fault.
 ///
-/// Returns the faults of `create_log`: file fault 4 if the file is a journal, file fault 5 if another run has locked
-/// it, file fault 2 if it can't be created or truncated for another reason, or error 18 if memory runs out.
+/// Returns one of the faults of `create_log`:
+///
+/// - file fault 4 if the file is a journal
+/// - file fault 5 if another process has locked the file
+/// - error 18 if memory runs out
+/// - file fault 2 if the file can't be created or truncated for another reason
 pub fn start_log<'a, R: Store<Log = LogFile<File>>>(
     files: &mut R,
     log: &RunLog,
@@ -219,8 +228,8 @@ pub fn start_log<'a, R: Store<Log = LogFile<File>>>(
     }
 }
 
-/// Returns file fault 4 if the file of this name, which was opened for the log, was no log: it appeared after
-/// `check_log`.
+/// Returns file fault 4 if `start_log` left the file of this name as it was, because the file is no log or can't be
+/// read. Usually `check_log` finds such a file before; it may have changed since then.
 pub fn check_started<'a>(log: &RunLog, name: Option<&'a str>) -> Result<(), Fault<'a>> {
     match name {
         Some(name) if log.is_refused() => Err(exists(name, Cause::Unknown)),

@@ -1,9 +1,11 @@
-//! The lines for replies that differ, a lost chip, a status write that failed, and a port that changes bytes.
+//! The lines for replies that differ, a lost or an exchanged chip, a status write that failed, and a port that changes
+//! bytes.
 
 use nor_buses::{ChangedByte, CheckFault, OtherChip};
 use std::fmt;
 
-/// The line after that of error 12 if a `CheckedStatus` stopped the bus.
+/// The line for a fault that a `CheckedStatus` found. It follows the line of error 12. After a change of SRP0, it can
+/// also be the line of the fault itself (`JobFault::NotStored`).
 #[derive(Clone, Copy, Drop)]
 pub struct StatusLine(pub CheckFault);
 
@@ -40,7 +42,8 @@ impl fmt::Display for ChangedLine {
     }
 }
 
-/// The line after that of error 12 if a `SameChip` stopped because the chip is another one than before.
+/// The line that follows the line of error 12 if a `SameChip` stopped because the unique ID of the chip is another one
+/// than before.
 #[derive(Clone, Copy, Drop)]
 pub struct OtherLine(pub OtherChip);
 
@@ -56,7 +59,7 @@ impl fmt::Display for OtherLine {
     }
 }
 
-/// The line after two replies that differ.
+/// The line that follows the line of error 12 if two reads of the same bytes returned different replies.
 pub const DIFFERED: &str =
     "Cause: two reads of the same bytes differ. Lower the clock (spispeed=), shorten the wires, \
     and try again.";
@@ -84,7 +87,8 @@ struct NotStored {
 impl fmt::Display for NotStored {
     fn fmt<W: fmt::Write>(&self, f: &mut fmt::Formatter<W>) -> fmt::Result {
         let NotStored { sent, found } = *self;
-        // BUSY, WEL and SUS are left out: a status write that the chip missed leaves WEL set.
+        // BUSY, WEL and SUS aren't compared, because they change without a status write. For example, WEL stays set if
+        // the chip missed the status write.
         let [one, two] = [found[0] & 0xFC, found[1] & 0x7F];
         if keeps_srp0(sent, found) {
             f.write_str(IGNORED)?;
@@ -116,34 +120,36 @@ const IGNORED: &str =
     "Chip fault 3: SRP0 is still set, because the chip ignored the status write: WP# is probably low. Connect WP# to \
     the supply, and repeat the run.";
 
-// The bits of status 2 that no job of this program changes: all except CMP and SUS.
+// The bits of status 2 that no job of this program changes: all bits except CMP and SUS.
 const KEPT: u8 = 0x3F;
 
 const KEEPS: &str =
     "With another tool, set these bits as they were, because this program never changes them, not even in a \
     restore (see Chip fault 3 in the manual page):";
 
-/// True if a status write was to clear SRP0, and SRP0 is still set.
+/// Returns whether a status write was to leave SRP0 clear, and SRP0 was read back as set.
 pub fn keeps_srp0(sent: [u8; 2], found: [u8; 2]) -> bool {
     sent[0] & 0x80 == 0 && found[0] & 0x80 != 0
 }
 
-/// Returns whether status bytes may protect an address: one of BP0 to BP2 or CMP is set (W25Q64FV datasheet, memory
-/// protection tables).
+/// Returns whether these status bytes may protect an address, because one of BP0 to BP2 or CMP is set (W25Q64FV
+/// datasheet, memory protection tables).
 pub fn protects(status: [u8; 2]) -> bool {
     status[0] & 0x1C != 0 || status[1] & 0x40 != 0
 }
 
-/// Returns whether the status bytes of two chips have the same protection bits: BP0 to BP2, TB, SEC and CMP.
+/// Returns whether two pairs of status bytes have the same protection bits: BP0 to BP2, TB, SEC and CMP.
 pub fn are_equally_protected(one: [u8; 2], other: [u8; 2]) -> bool {
     (one[0] ^ other[0]) & 0x7C == 0 && (one[1] ^ other[1]) & 0x40 == 0
 }
 
-// The names of the bits that are set in status 1 and 2, each after a space.
+// The names of the bits that are set in these two bytes, each after a space. The first byte has the bits of status 1,
+// the second byte those of status 2.
 #[derive(Clone, Copy, Drop)]
 struct Differing([u8; 2]);
 
-// All bits except BUSY, WEL and SUS, the highest first (W25Q64FV datasheet, status registers).
+// The names of the bits of status 1 and, in `TWO`, of status 2, except BUSY, WEL and SUS. The highest bit is the first
+// (W25Q64FV datasheet, status registers).
 const ONE: [(u8, &str); 6] = [
     (0x80, "SRP0"),
     (0x40, "SEC"),

@@ -1,9 +1,9 @@
-//! The lines of the steps that are shown below each other, and the line that says how long a change took.
+//! The lines that `Look::Plain` prints for the steps, and the line that says how long a change took.
 use crate::estimates::Minutes;
 use crate::steps::Step;
 use std::fmt;
 
-/// How many transactions of each step the bus was asked to carry out so far. A second scan is counted from 0.
+/// For each step, how many of its transactions the bus was asked to carry out. A second scan is counted from 0.
 #[derive(Clone, Copy, Default)]
 pub struct Counts {
     pub identify: u64,
@@ -31,13 +31,13 @@ impl Counts {
     }
 }
 
-/// The line of a step with `Look::Plain`.
+/// The line of a step, as `Look::Plain` prints it and the log receives it.
 #[derive(Clone, Copy, Drop)]
 pub struct PlainLine {
     pub step: Step,
-    /// How many transactions of the step the bus was asked to carry out so far.
+    /// The number of transactions of the step that the bus was asked to carry out so far.
     pub count: u64,
-    /// How many sectors a scan or a comparison reads, if that is known.
+    /// The number of sectors that a scan or a comparison reads, if known.
     pub expected: Option<u64>,
 }
 
@@ -55,7 +55,7 @@ impl fmt::Display for PlainLine {
     }
 }
 
-/// The line that says how long a change took, with `Look::Line` and in the log.
+/// The line that says how long a change took. `Look::Line` prints it, and the log receives it.
 #[derive(Clone, Copy, Drop)]
 pub struct Took(pub Minutes);
 

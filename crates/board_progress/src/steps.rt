@@ -1,12 +1,14 @@
-//! The steps of a job, and what is shown of them.
+//! The steps of a job, and the lines that show them.
 ghost use Rattle.std.specs.Prelude.{◌≤◌};
 
 use crate::estimates::{Minutes, Rate, percent, tenths_of_kib, time_for};
 use std::fmt;
 
-/// The steps of a job. A job may omit a step, and the order varies: `--unlock` may write the status before the erases,
-/// and some sectors are read again before they are programmed. After the first modifying command each read of a sector
-/// counts as `ReadBack`, and in the comparison after a change or restore as `Compare`.
+/// The steps of a job. A job may omit a step, and the order varies: for example, `--unlock` may write the status before
+/// the erases, and some sectors are read again before they are programmed.
+///
+/// A read of a sector is a `Scan` until the change is announced, then a `ReadBack`, and a `Compare` in the comparison
+/// after a change or restore.
 #[derive(Clone, Copy, PartialEq)]
 pub enum Step {
     Identify,
@@ -18,19 +20,19 @@ pub enum Step {
     Compare,
 }
 
-/// The part of a job that a transaction belongs to.
+/// The phase of a job in which a transaction is made.
 #[derive(Clone, Copy, PartialEq)]
 pub enum Phase {
     /// No modifying command was sent yet.
     Before,
-    /// A modifying command was sent.
+    /// A modifying command was sent, and no comparison has begun.
     Changing,
-    /// The change or restore ended, and the comparison after it began.
+    /// The change or restore has ended, and the comparison after it has begun.
     After,
 }
 
-/// Returns the step that a transaction belongs to, or `None` for an opcode that no step counts: a poll, a write enable,
-/// or a read of the SFDP, status 2 or the unique ID.
+/// Returns the step to which a transaction belongs. Returns `None` for any other opcode, such as a poll, a write
+/// enable, or a read of the SFDP, of status 2 or of the unique ID.
 pub fn step_of(out: &[u8], phase: Phase) -> Option<Step> {
     match out {
         [0x9F, ..] => Some(Step::Identify),
@@ -47,9 +49,8 @@ pub fn step_of(out: &[u8], phase: Phase) -> Option<Step> {
 }
 
 impl Step {
-    /// Returns after how many transactions of this step its next line is printed if lines are shown below each other
-    /// (`Look::Plain`). Erases have a line more often than other steps, because one erase can take seconds (64 KiB: up
-    /// to 2 seconds, W25Q64FV datasheet).
+    /// Returns the number of transactions of this step from one line of `Look::Plain` to the next. Erases have more
+    /// lines than other steps, because one erase can take seconds (64 KiB: up to 2 seconds, W25Q64FV datasheet).
     pub fn stride(self) -> u64
         ensures { 1 ≤ result }
     {
@@ -86,14 +87,15 @@ impl Step {
         !matches!(self, Step::Erase | Step::Program | Step::Protect)
     }
 
-    /// Returns the noun for this number of what the step counts.
+    /// Returns the noun for `number` operations of this step, in the singular or the plural.
     pub fn unit(self, number: u64) -> &'static str {
         let (one, several) = self.nouns();
         if number == 1 { one } else { several }
     }
 }
 
-/// How many operations of a step are done, how many data bytes they transferred, and how many microseconds they took.
+/// The number of finished operations of a step, the data bytes that they transferred, and the microseconds that they
+/// took.
 #[derive(Clone, Copy, Default)]
 pub struct Tally {
     pub done: u64,
@@ -109,13 +111,13 @@ impl Tally {
     }
 }
 
-/// How many operations a step will have.
+/// The number of operations of a step, as far as it is known.
 #[derive(Clone, Copy, PartialEq)]
 pub enum Total {
     Unknown,
     AtMost(u64),
     Exactly(u64),
-    /// The number of operations that are done.
+    /// The step has ended, so the number is that of the finished operations.
     Done,
 }
 
@@ -128,8 +130,11 @@ impl Total {
     }
 }
 
-/// The line that shows a step: the percentage and rate if the total number of its operations is known, otherwise the
-/// number so far; then the time left or passed. When all are done, the line has their number, rate and duration.
+/// The line that shows a step.
+///
+/// - While the step runs: the percentage and the rate if the number of its operations is known exactly, otherwise the
+///   number of operations so far; then the time that is left or has passed.
+/// - After its last operation: the number of operations, the rate and the duration.
 #[derive(Clone, Copy, Drop)]
 pub struct StepLine {
     pub step: Step,
@@ -138,7 +143,7 @@ pub struct StepLine {
 }
 
 impl StepLine {
-    /// Returns whether the number of operations of the step is known exactly, and all of them are done.
+    /// Returns whether the number of operations of the step is known exactly, and all of them are finished.
     pub fn is_complete(&self) -> bool {
         self.total == Total::Exactly(self.tally.done)
     }

@@ -1,4 +1,4 @@
-//! Standard error, on which the progress of a job is shown, and the log of the run.
+//! Standard error, on which the progress of a job is shown, together with the log of the run.
 
 use crate::change_lines::{ExpectedTime, RestoreText, SessionText};
 use crate::gauge::micros_between;
@@ -12,8 +12,9 @@ use std::os::unix::fs::FileTypeExt;
 use std::time::Instant;
 use std::{env, fmt, fs};
 
-// For terminals with 40 or more columns: a line that is wrapped can't be rewritten, and std can't return the number of
-// columns. The last column stays free, because some terminals wrap a line that fills it.
+// The greatest width of the progress line, for a terminal with 40 or more columns. A line that is wrapped can't be
+// rewritten, and std can't return the number of columns. The last column stays free, because some terminals wrap a line
+// that fills it.
 const COLUMNS: usize = 39;
 
 // Erases from the cursor to the end of the line (ECMA-48, EL).
@@ -22,7 +23,7 @@ const ERASE_TO_END: &str = "\x1b[K";
 const WAITING: &str =
     "Waiting for the programmer. No reply in 10 s? Ctrl-C; see flashnor-serprog(8).";
 
-/// What all copies of a `Terminal` share.
+/// The data that all copies of a `Terminal` share.
 #[derive(Drop)]
 pub struct Screen {
     known: Cell<Known>,
@@ -45,7 +46,7 @@ enum Row {
     Progress,
 }
 
-/// A number of bytes, and the microseconds in which they were transferred.
+/// A number of bytes, and the number of microseconds in which they were transferred.
 #[derive(Clone, Copy, Default)]
 pub struct Transfer {
     pub bytes: u64,
@@ -53,7 +54,7 @@ pub struct Transfer {
 }
 
 impl Screen {
-    /// Returns a screen without a line that may be rewritten, and with a log without a file.
+    /// Returns a screen that shows no progress line yet, and whose log has no file.
     pub fn new() -> Screen {
         Screen {
             known: Cell::new(Known {
@@ -82,11 +83,11 @@ pub enum Look {
     Plain,
     /// One line, which is rewritten.
     Line,
-    /// A line if nothing was shown for a minute.
+    /// At most one line per minute.
     Minutes,
 }
 
-/// Standard error, with how the progress of a job is shown on it, and the log of the run.
+/// Standard error, the way in which the progress of a job is shown on it, and the log of the run.
 #[derive(Clone, Copy)]
 pub struct Terminal<'a> {
     rt: &'a HostRuntime,
@@ -98,9 +99,9 @@ pub struct Terminal<'a> {
 }
 
 impl<'a> Terminal<'a> {
-    /// Returns the terminal at standard error. `Auto` chooses one line on a terminal, lines on another character
-    /// device, and otherwise at most one line per minute. `Plain` and `Hidden` apply in any case, and so do the lines
-    /// of `-V` (`is_verbose`).
+    /// Returns the terminal at standard error. If `mode` is `Auto`, it shows one line on a terminal, several lines on
+    /// another character device, and at most one line per minute on anything else. The modes `Plain` and `Hidden` don't
+    /// depend on standard error. If `is_verbose` is true, the lines of `-V` are printed in any mode.
     pub fn new(
         rt: &'a HostRuntime,
         screen: &'a Screen,
@@ -139,7 +140,7 @@ impl<'a> Terminal<'a> {
         self.look
     }
 
-    /// Returns when the terminal was made, or `None` if the clock failed.
+    /// Returns when the terminal was created, or `None` if the clock failed.
     pub fn started(&self) -> Option<Instant> {
         self.started
     }
@@ -149,7 +150,8 @@ impl<'a> Terminal<'a> {
         Instant::now(self.rt).ok()
     }
 
-    /// Returns the numbers of touched sectors and of erases that were announced last, or `None` if none were.
+    /// Returns the numbers of touched sectors and erases that were announced last, or `None` if no change was
+    /// announced.
     pub fn announced(&self) -> Option<Announcement> {
         self.screen.known.get().announced
     }
@@ -168,13 +170,13 @@ impl<'a> Terminal<'a> {
         self.screen.known.get().has_journal
     }
 
-    /// Records how fast data was read so far.
+    /// Records how many bytes were read so far, and in which time.
     pub fn record_reads(&self, read: Transfer) {
         let known = self.screen.known.get();
         self.screen.known.set(Known { read, ..known });
     }
 
-    /// Rewrites the line with as much of this ASCII text as fits into a row. Shows nothing if memory runs out.
+    /// Rewrites the progress line with as much of this ASCII text as fits into a row. Shows nothing if memory runs out.
     pub fn draw<T: fmt::Display>(&self, text: &T) {
         let Ok(text) = format!(in self.rt.alloc(); "{text}") else {
             return;
@@ -184,13 +186,13 @@ impl<'a> Terminal<'a> {
         self.set_row(Row::Progress);
     }
 
-    /// Rewrites the line for the last time, with this text, and ends it.
+    /// Rewrites the progress line for the last time, with this text, and ends it.
     pub fn draw_last<T: fmt::Display>(&self, text: &T) {
         let _ = eprintln!(self.rt; "\r{text}{ERASE_TO_END}");
         self.set_row(Row::Empty);
     }
 
-    /// Ends the line that may be rewritten, if there is one.
+    /// Ends the progress line with a newline. Clears the line of `print_waiting`. Does nothing if neither is shown.
     pub fn end_line(&self) {
         match self.screen.known.get().row {
             Row::Empty => {}
@@ -202,8 +204,8 @@ impl<'a> Terminal<'a> {
         }
     }
 
-    /// Logs a line for a modifying transaction (`-V`, `-o`), before the transaction is passed on. The programmer's bus
-    /// may refuse the transaction, or send it only with the next poll.
+    /// Writes the line of a modifying transaction to the log (`-o`) and, with `-V`, to standard error, before the
+    /// transaction is passed on. The bus inside may refuse the transaction, or send it only with the next poll.
     pub fn log_command(&self, out: &[u8]) {
         if self.is_logging()
             && let Some(name) = command_name(out)
@@ -213,7 +215,7 @@ impl<'a> Terminal<'a> {
         }
     }
 
-    /// Logs that a step begins that only reads (`-V`, `-o`).
+    /// Writes a line for the start of a step that only reads to the log (`-o`) and, with `-V`, to standard error.
     pub fn log_step(&self, name: &'static str) {
         if self.is_logging() {
             let micros = self.elapsed();
@@ -221,7 +223,7 @@ impl<'a> Terminal<'a> {
         }
     }
 
-    /// Logs that the bus stopped (`-V`, `-o`).
+    /// Writes the line that says that the bus stopped to the log (`-o`) and, with `-V`, to standard error.
     pub fn log_stop(&self) {
         if self.is_logging() {
             let micros = self.elapsed();
@@ -246,7 +248,7 @@ impl<'a> Terminal<'a> {
         self.log().write_line(text);
     }
 
-    /// Clears the line that may be rewritten, if there is one.
+    /// Clears the progress line or the line of `print_waiting`, if one is shown.
     pub fn clear_line(&self) {
         if self.screen.known.get().row != Row::Empty {
             let _ = eprint!(self.rt; "\r{ERASE_TO_END}");
@@ -268,7 +270,7 @@ impl<'a> Terminal<'a> {
         self.log().write_line(text);
     }
 
-    /// Prints a line that isn't logged, with any look.
+    /// Prints a line with any look, and doesn't write it to the log.
     pub fn print_shown<T: fmt::Display>(&self, text: &T) {
         self.end_line();
         let _ = eprintln!(self.rt; "{text}");
@@ -282,8 +284,9 @@ impl<'a> Terminal<'a> {
         self.log().write_line(text);
     }
 
-    /// Logs and shows that the run waits for its programmer: with `Look::Plain` once, with `Look::Line` until the next
-    /// output. A read from a port that isn't set up waits without a limit, and std has no call that ends it.
+    /// Writes to the log that the run waits for its programmer. The first time, also shows it: with `Look::Plain` as a
+    /// line, and with `Look::Line` until the next output. The line matters because a read from a port that isn't set up
+    /// may wait forever, and std has no call that ends it.
     pub fn print_waiting(&self) {
         self.log().write_line(&WAITING);
         let known = self.screen.known.get();
@@ -307,7 +310,7 @@ impl<'a> Terminal<'a> {
         }
     }
 
-    /// Writes a line to the log that says how long the change takes or took. With `Look::Line`, also prints it.
+    /// Writes a line to the log that says how long the change will take or took. With `Look::Line`, also prints it.
     pub fn print_time<T: fmt::Display>(&self, text: &T) {
         if self.look == Look::Line {
             self.end_line();
@@ -316,13 +319,13 @@ impl<'a> Terminal<'a> {
         self.log().write_line(text);
     }
 
-    /// Prints what a session will change, the length of its journal, and about how long the change takes.
+    /// Prints and logs what a session will change, the length of its journal, and the estimated time of the change.
     pub fn print_session(&self, announcement: Announcement) {
         self.print(&SessionText(announcement));
         self.announce(announcement);
     }
 
-    /// Prints what a restore will change, and about how long that takes.
+    /// Prints and logs what a restore will change, and the estimated time of the change.
     pub fn print_restore(&self, announcement: Announcement) {
         self.print(&RestoreText(announcement));
         self.announce(announcement);

@@ -1,4 +1,4 @@
-//! The last lines of a change: the final numbers of its steps, and how long it took.
+//! The last lines of a change: the final numbers of its steps, and the time that it took.
 
 use super::Shown;
 use crate::estimates::Minutes;
@@ -9,7 +9,8 @@ use crate::terminal::Look;
 use std::time::Instant;
 
 impl<B> Shown<'_, B> {
-    // Shows nothing if no change began, or if its comparison did: the comparison's lines follow.
+    // Does nothing if no modifying command was sent, or if the comparison has begun: `expect_comparison` called this
+    // function just before.
     pub(super) fn show_duration(&self) {
         if self.phase != Phase::Changing {
             return;
@@ -27,8 +28,7 @@ impl<B> Shown<'_, B> {
             .print_time(&Took(Minutes(micros_between(self.changed, now))));
     }
 
-    // After the first transaction of a step and each `stride` further ones, the line with this count was printed
-    // already.
+    // Prints the line with the final number of a step, unless `show` printed it for the last transaction of the step.
     fn show_last(&self, step: Step, count: u64) {
         if count > 0 && count % step.stride() != 1 {
             self.show_step(step, count);

@@ -1,4 +1,4 @@
-//! What the bus of `progress.rt` expects of a job, for its progress lines.
+//! Records how many sectors a job will read, for the progress lines of `progress.rt`.
 
 use super::{Progress, Shown};
 use crate::steps::Phase;
@@ -9,12 +9,12 @@ impl<B: Bus + Drop> Progress for Shown<'_, ReadAhead<B>> {
     fn expect_reads(&mut self, sectors: usize) {
         let known = self.expected.unwrap_or(0);
         if known > 0 && self.counts.scan >= known as u64 && sectors > known {
-            // The reads that were recorded before are done; the further ones are a scan of their own.
+            // All reads that were recorded before are done, so the further reads are a second scan.
             self.expected = Some(sectors - known);
             self.counts.scan = 0;
             self.gauge.restart_scan();
         } else {
-            // A job may record the same reads again, or only those that are left.
+            // A job may record the same reads again, or only those that are left, so the greatest number counts.
             self.expected = Some(sectors.max(known));
         }
     }

@@ -1,4 +1,4 @@
-//! The sums of sectors that the bus of `progress.rt` notes.
+//! Notes the sums of the sectors that are read over the bus of `progress.rt`.
 ghost use Rattle.std.specs.Prelude.{◌≡◌, option_copied};
 
 use super::Shown;
@@ -7,28 +7,29 @@ use crate::notes::Notes;
 impl<B> Shown<'_, B> {
     ghost use Rattle.board_progress.specs.Shown.{notes_of, shown_bus};
 
-    /// Notes the sums of the sectors that are read from now on.
+    /// Begins to note the sums of the sectors that are read.
     pub fn begin_notes(&mut self, notes: Notes)
         ensures { shown_bus self.new ≡ shown_bus self.old }
     {
         self.notes = Some(notes);
     }
 
-    /// Returns the notes, if the job made any, and ends them.
+    /// Ends noting, and returns the notes, if the job noted sums.
     pub fn end_notes(&mut self) -> Option<Notes>
         ensures { shown_bus self.new ≡ shown_bus self.old }
     {
         self.notes.take()
     }
 
-    /// Returns the notes, if the job makes any.
+    /// Returns the notes, if the job notes sums.
     pub fn notes(&self) -> Option<&Notes>
         ensures { option_copied result ≡ notes_of self.now }
     {
         self.notes.as_ref()
     }
 
-    // Must be called before the phase changes.
+    // Notes a transaction that was carried out. Must be called in the phase in which it was carried out, before the
+    // next transaction.
     pub(super) fn note(&mut self, out: &[u8], reply: &[u8])
         ensures { self.new.bus ≡ self.old.bus }
     {
@@ -37,7 +38,8 @@ impl<B> Shown<'_, B> {
         }
     }
 
-    // Must be called before the first modifying command. A line says if writing the notes fails.
+    // Writes the notes to their file, if they have one. Must be called before the first modifying command is passed on.
+    // If writing fails, a line is printed.
     pub(super) fn write_notes(&mut self)
         ensures { self.new.bus ≡ self.old.bus }
     {
