@@ -1,4 +1,4 @@
-//! Saves a whole chip in a new journal.
+//! Saves the whole chip in a new journal (`--backup`).
 ghost use Rattle.std.specs.Prelude.{◌≡◌, IfErr, IfOk, true};
 ghost use Rattle.nor_files.specs.Files.{OthersStay, is_lawful};
 ghost use Rattle.board_jobs.specs.Backups.{IsExistingBackup};
@@ -12,7 +12,7 @@ use nor_geometry::SECTOR_LEN;
 use nor_jobs::find_first;
 use nor_probe::ChipName;
 
-/// Checks that the file which a backup is to create does not exist (file fault 4). Does nothing for other jobs.
+/// Returns file fault 4 if the file that a backup is to create exists. Checks nothing for other jobs.
 pub fn check_new<'a, R: Store>(rt: &R, operation: &Operation<'a>) -> Result<(), Fault<'a>>
     ensures { IfErr result (IsExistingBackup (R.state rt.now).view operation.now) }
 {
@@ -24,11 +24,11 @@ pub fn check_new<'a, R: Store>(rt: &R, operation: &Operation<'a>) -> Result<(), 
     }
 }
 
-/// Identifies the chip first, so that without a chip no file is created, and then saves the chip in a journal in a new
-/// file. Sends no modifying command.
+/// Identifies the chip, then creates the file and saves the chip in it as a journal. If there is no chip, no file is
+/// created. Sends no modifying command.
 ///
-/// The outer error is a fault of the identification or of creating the file. After the inner error, one of `backup`,
-/// the file may have only a part of the journal.
+/// The outer error is a fault of the identification or of creating the file. The inner error is one of `backup`; the
+/// file may then contain only a prefix of the journal.
 pub fn backup_chip<'a, R: Store, B: Progress>(
     rt: &mut R,
     bus: &mut B,

@@ -1,4 +1,4 @@
-//! The faults with which a job ends, and the lines of those that only this program has.
+//! The faults with which a job ends, and the lines of the faults that only this program has.
 ghost use Rattle.std.specs.Prelude.{◌≡◌};
 
 use crate::status_bits::status_bits;
@@ -13,17 +13,21 @@ use std::fmt;
 /// The fault with which a job ends, displayed as its line on standard error.
 #[derive(Drop)]
 pub enum JobFault<'a> {
-    /// A fault that `flashnor` reports too, with the same line.
+    /// A fault of the type that `flashnor` uses too, printed with the same line.
     Fault(Fault<'a>),
-    /// Chip fault 1, before a write or an erase: the chip with this ID has no row, and a bit of its status 1 is set
-    /// that may protect sectors. Nothing was changed, and the journal was not created.
+    /// Chip fault 1, before a write or an erase. The chip's ID has no row in the table of chips, and a bit of its
+    /// status 1 that may protect sectors is set. Nothing was changed, and the journal was not created.
     Protected { status1: u8, id: [u8; 3] },
-    /// Chip fault 3, of a change of SRP0: `sent` was written, and the status registers were read back as `found`.
+    /// Chip fault 3 after a change of SRP0: the status write sent the bytes `sent`, but a non-volatile bit was read
+    /// back with another value. `found` has the bytes that were read. If a `CheckedStatus` finds this first, the job
+    /// ends with error 12 instead, and the same line follows.
     NotStored { sent: [u8; 2], found: [u8; 2] },
-    /// The change was made and read back; then the comparison of the whole chip returned this error (14: chip fault 4).
+    /// The session succeeded, but the comparison of the whole chip after it returned this error. Error 14 is printed as
+    /// chip fault 4.
     NotCompared { refusal: Refusal },
-    /// After a restore with this outcome, whose error is printed before, the comparison of the sectors that the journal
-    /// doesn't save returned this error (14: chip fault 4; 12: the bus stopped).
+    /// The comparison after a restore returned this error: 12 (the bus stopped) or 14 (printed as chip fault 4). It
+    /// compares the sectors that the journal doesn't save. `outcome` is the result of the restore; if it is an error,
+    /// it is printed first.
     RestNotCompared { outcome: Outcome, refusal: Refusal },
 }
 
@@ -73,7 +77,7 @@ impl From<AllocError> for JobFault<'_> {
 }
 
 impl JobFault<'_> {
-    /// True for error 12: the bus stopped.
+    /// Returns whether the job ended with error 12 (the bus stopped).
     pub fn is_stop(&self) -> bool {
         matches!(
             self,
@@ -88,7 +92,7 @@ impl JobFault<'_> {
         )
     }
 
-    /// True if the change or the restore was completed, and only the comparison after it failed.
+    /// Returns whether the change or the restore succeeded, and only the comparison after it failed.
     pub fn follows_completion(&self) -> bool {
         matches!(
             self,
@@ -96,8 +100,8 @@ impl JobFault<'_> {
         )
     }
 
-    /// Returns a last line for a comparison after the change or restore that failed with another error than a
-    /// difference.
+    /// Returns the last line of the fault if the comparison after a change or restore failed with another error than
+    /// 14.
     pub fn note(&self) -> Option<&'static str> {
         match self {
             JobFault::NotCompared {

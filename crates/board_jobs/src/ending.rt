@@ -1,4 +1,4 @@
-//! The end of a run that succeeded: prints its answer, and returns the exit status.
+//! The end of a run that succeeded: prints the answer of its job, and returns the exit status.
 ghost use Rattle.std.specs.Prelude.{◌≡◌, ◌≤◌, OnOk, Some, false};
 ghost use Rattle.std.specs.Io.KnownBytes.{Appends};
 ghost use Rattle.nor_console.specs.AnswerLines.{name_line};
@@ -19,15 +19,15 @@ use std::io::Write;
 #[derive(Clone, Copy, Drop)]
 pub enum Further {
     Nothing,
-    /// After a write or an erase with `-n`: nothing was verified.
+    /// After a write or an erase with `-n`: the line says that nothing was verified.
     Unverified,
-    /// After `--wp-range`: the range that is protected now.
+    /// After `--wp-range`: the line has the range that is protected now.
     Protected { start: u32, len: u32 },
-    /// After `--wp-status`: status 1 and status 2, and which of their bits is set that lock the status.
+    /// After `--wp-status`: the line has status 1 and status 2, and says whether SRP0 and SRP1 are set.
     Status { bytes: [u8; 2] },
 }
 
-// An empty range begins at 0, whatever start was given.
+// For an empty range, the start is 0, even if another start was given.
 fn further_of(task: &Task<'_>, status: [u8; 2]) -> Further
     ensures { result ≡ further_of task.now status }
 {
@@ -47,8 +47,8 @@ fn further_of(task: &Task<'_>, status: [u8; 2]) -> Further
     }
 }
 
-/// Prints an answer, and returns the exit status, 0 only if all lines were printed. `status` is what was read last,
-/// status 1 first.
+/// Prints an answer, and returns the exit status: 0 only if all lines were printed. `status` has status 1 and status 2
+/// as they were last read; only the line of `--wp-status` uses them.
 #[tactic(auto, using(crate::proofs::Named::job_lines_printed))]
 pub fn end_well<O: Write, E: Write>(
     output: &mut O,

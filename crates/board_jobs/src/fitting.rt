@@ -1,4 +1,5 @@
-//! Restores a chip whose board changed status bits that flashnor never changes, after the journal was made.
+//! Restores a chip even if its board has changed QE, the reserved bit or LB1 to LB3 since the journal was made.
+//! flashnor never changes these status bits.
 ghost use Rattle.std.specs.Prelude.{◌≡◌, IfErr, IfOk};
 ghost use Rattle.nor_jobs.specs.Restoring.{HasRestoredNamed};
 ghost use Rattle.board_jobs.specs.BoardBits.{fitted_status, may_stay};
@@ -16,16 +17,23 @@ use nor_session::Refusal;
 use std::alloc::Global;
 use std::fmt;
 
-/// Restores the saved sectors and the protection bits from a journal, and keeps status bits as the board set them.
+/// Restores the saved sectors and the protection bits from a journal. Leaves the status bits as they are that only a
+/// board changes: QE, the reserved bit and LB1 to LB3.
 ///
-/// A board's software may set QE, a reserved bit or LB1 to LB3 after the session that made the journal. The restore of
-/// the engine then returns error 17 and changes nothing. In this case the status is read again. If only these bits
-/// differ, prints them, and restores from the same journal with these bits as in the chip, so that all other checks
-/// are made again.
+/// The software of a board may change these bits after the session that made the journal. The restore of the engine
+/// then returns error 17, and sends no modifying command. In this case the status is read again. If no other bits
+/// differ, prints those that differ, and restores from the same journal with these bits as in the chip. This second
+/// restore makes all checks again.
 ///
-/// Error 17 stays if SRP0 or SRP1 differs, if a bit of LB1 to LB3 is clear that the journal has set (it can't be
-/// cleared), if no row has the journal's ID (the meaning of these bits is unknown), or if the journal has no unique ID
-/// and `--replaced-chip` is not given.
+/// If one of these conditions holds, the second restore is not made, and the result stays error 17:
+///
+/// - SRP0 or SRP1 differs.
+/// - The journal has one of LB1 to LB3 set, and the chip has it clear. A chip can't clear such a bit.
+/// - No row has the journal's ID, so the meaning of these bits is unknown.
+/// - The journal has no unique ID, and `--replaced-chip` is not given.
+///
+/// Returns error 18 (out of memory), 12 or 13 if the second restore can't be prepared. Other errors are those of
+/// `restore_named`.
 pub fn restore_fitting<B: Progress>(
     bus: &mut B,
     terminal: Terminal<'_>,
@@ -61,7 +69,8 @@ fn restore_saved<B: Progress>(
     })
 }
 
-// Restores after error 17 from the journal fitted to the chip's status. If there is none, returns why.
+// After error 17, restores from the journal with the board's bits as in the chip (`fit`). If `fit` returns an error,
+// returns this error.
 fn restore_again<B: Progress>(
     bus: &mut B,
     terminal: Terminal<'_>,
@@ -85,7 +94,8 @@ fn restore_again<B: Progress>(
     restore_saved(bus, terminal, named, &fitted, operation.is_quick)
 }
 
-// Reads the status, and returns the encoding of the journal that is fitted to it.
+// Reads the status, and returns the encoding of the journal with QE, the reserved bit and LB1 to LB3 as they were read.
+// Returns 17 (`restore_fitting` lists the conditions), 18 (out of memory), 12 or 13.
 fn fit<B: Progress>(
     bus: &mut B,
     is_replaced: bool,
@@ -109,7 +119,7 @@ fn fit<B: Progress>(
     }
 }
 
-// True if a row has the journal's ID, and the journal has a unique ID or is used for a replaced chip.
+// Returns whether a row has the journal's ID, and the journal has a unique ID or is used for a replaced chip.
 fn is_for_known_device(journal: &Journal<'_>, is_replaced: bool) -> bool {
     let has_row = part_for(true, journal.id()).is_some();
     has_row && (is_replaced || journal.unique().is_some())
@@ -132,7 +142,7 @@ fn fitted_status(saved: [u8; 2], found: [u8; 2]) -> [u8; 2]
     [saved[0], two]
 }
 
-// The line that names the bits of status 2 that stay as the board set them.
+// The line that names the bits of status 2 that differ from the journal and aren't restored.
 #[derive(Clone, Copy, Drop)]
 struct KeptLine {
     saved: u8,

@@ -19,11 +19,12 @@ use nor_read::read_out;
 use nor_session::{Refusal, Report};
 use std::alloc::Global;
 
-/// Returns the target of a change of a chip of `size` bytes. Without `ranges`, this is `image`. With `ranges`, it has
-/// the bytes of `image` there and the chip's own bytes elsewhere, for which the whole chip is read into memory.
+/// Returns the target of a change of a chip of `size` bytes. Without `ranges`, the target is `image`. With `ranges`,
+/// the whole chip is read into memory. The target then has the bytes of `image` at these addresses, and the chip's own
+/// bytes at all others.
 ///
 /// With `ranges`, returns error 4 (`image` isn't as long as the chip), 5 (an address isn't on the chip), 18 (out of
-/// memory) or another error of `read_out`.
+/// memory) or another error of `read_out`. Without `ranges`, returns no error.
 pub fn complete<'a, B: Progress>(
     bus: &mut B,
     named: Option<ChipName>,
@@ -84,8 +85,8 @@ fn check_size(size: u32, len: usize) -> Result<(), Refusal>
     }
 }
 
-/// Copies the chip to a new vault in memory, with FFh at addresses that aren't included (`None` includes all). Returns
-/// error 18 (out of memory) or another error of `read_out`.
+/// Copies the chip to `chip`, a new vault in memory, with FFh at addresses that aren't included (`None` includes all).
+/// Returns error 18 (out of memory) or another error of `read_out`.
 pub fn read_to_memory<B: Bus>(
     bus: &mut B,
     included: Option<&Ranges>,
@@ -118,8 +119,8 @@ fn fill_rest(target: &mut [u8], chip: &[u8], included: &Ranges)
     }
 }
 
-/// Returns the number of sectors that a change reads first: those with an included address and, if `merged`, also each
-/// sector of the chip.
+/// Returns the number of sectors that are read before a change: those with an included address and, if `merged` is
+/// true, first all sectors of the chip. A sector that is read twice counts twice.
 pub fn sectors_before_change(size: usize, included: Option<&Ranges>, merged: bool) -> usize {
     let scanned = sectors_to_read(size, included);
     if merged {
@@ -129,9 +130,10 @@ pub fn sectors_before_change(size: usize, included: Option<&Ranges>, merged: boo
     }
 }
 
-/// Returns the number of sectors with an included address on a chip of `size` bytes (with `None`, all).
+/// Returns the number of sectors with an included address on a chip of `size` bytes (`None` includes all).
 pub fn sectors_to_read(size: usize, included: Option<&Ranges>) -> usize {
-    // A length with more sectors than a `u32` counts fits no chip, and is refused before a sector is read.
+    // A size whose number of sectors doesn't fit into a `u32` is refused before a sector is read, because no chip has
+    // it.
     let sectors = u32::try_from(size / SECTOR_LEN as usize).unwrap_or(0);
     (0..sectors)
         .filter(|sector| includes_in_sector(included, *sector))
@@ -145,8 +147,8 @@ pub fn ranges_if(compared: bool, ranges: Option<&Ranges>) -> Option<&Ranges>
     if compared { ranges } else { None }
 }
 
-/// After a session that succeeded, compares the whole chip with the target, if the change is `compared`. Returns the
-/// outcome of the session, or the error of the comparison as the fault of the job.
+/// If the session succeeded and the change is `compared`, compares the whole chip with the target. Returns the outcome
+/// of the session, or `NotCompared` with the error of the comparison.
 pub fn follow<'a, B: Progress>(
     bus: &mut B,
     outcome: Outcome,

@@ -31,13 +31,15 @@ use nor_probe::{ChipName, Found};
 use nor_session::Refusal;
 use std::alloc::{AllocError, Global};
 
-// Performs the job that the arguments ask for, with the contents of the files that it needs. `terminal` receives the
-// line that says what a session or restore will change. An error is a fault before the call to the engine, or in the
-// comparison after a write, an erase or a restore. The clauses hold on every bus.
+// Performs the job that the arguments ask for. `sources` has the contents of the files that the job reads. `terminal`
+// receives the line that says what a session or restore will change.
 //
-// Except for the task's own file, each file stays as it was, if files obey the contract of `Store`. A read, backup,
-// write or erase identifies the chip before this file is created or truncated, so the file is kept if there is no
-// chip.
+// The inner error is that of the job's call to the engine. The outer error is a fault before this call, or a fault of
+// the comparison after a write, an erase or a restore. The clauses hold on every bus.
+//
+// If the files obey the contract of `Store`, all files stay as they were, except the file that the task creates or
+// truncates. A read, backup, write or erase identifies the chip before that, so without a chip this file stays as it
+// was, too.
 fn perform<'a, R: Store, B: Progress>(
     rt: &mut R,
     bus: &mut B,
@@ -69,8 +71,8 @@ fn perform<'a, R: Store, B: Progress>(
     }
 }
 
-/// Performs a job, and returns its answer or its fault. With lawful files, only the file that the task creates or
-/// truncates changes.
+/// Performs a job, and returns its answer or its fault. If the files obey the contract of `Store`, all files stay as
+/// they were, except the file that the task creates or truncates.
 pub fn end_job<'a, R: Store, B: Progress>(
     files: &mut R,
     bus: &mut B,
@@ -90,7 +92,8 @@ pub fn end_job<'a, R: Store, B: Progress>(
     end_call(outcome)
 }
 
-// Returns the result of a call as a job reports it: an error of the call is a fault of the job.
+// Returns the result of the job's call to the engine as the result of the job. An error of the call becomes a fault of
+// the job.
 fn end_call<'a>(outcome: Outcome) -> Result<Answer, JobFault<'a>>
     ensures { IsEndedAs outcome result }
 {
@@ -147,7 +150,8 @@ fn verify_chip<B: Progress>(bus: &mut B, named: Option<ChipName>, sources: Sourc
     verify_image(bus, named, &bytes, included.as_ref())
 }
 
-// The target of a change of regions has the chip's own bytes outside them. A rehearsal is refused with a usage fault.
+// Performs a change with its session. If the change is compared, compares the chip with the target after the session,
+// and the target has the chip's own bytes outside the regions of the change. Returns usage fault 6 for a rehearsal.
 fn change_chip<'a, R: Store, B: Progress>(
     rt: &mut R,
     bus: &mut B,
@@ -195,7 +199,7 @@ fn copy_of(bytes: &[u8], alloc: Global) -> Result<Vec<u8>, AllocError>
     bytes.to_vec(alloc)
 }
 
-/// Returns whether a task may write the status; `saved` has the status bytes in the journal of a restore.
+/// Returns whether a task may write the status. `saved` has the status bytes in the journal, if the task is a restore.
 pub fn status_write_of(task: &Task<'_>, saved: Option<[u8; 2]>) -> StatusWrite {
     match task {
         Task::Change(change) if !changes_bytes(change.wanted) => StatusWrite::OnAnyChip,
@@ -208,7 +212,7 @@ pub fn status_write_of(task: &Task<'_>, saved: Option<[u8; 2]>) -> StatusWrite {
     }
 }
 
-// Returns the target of a write or an erase, after identifying the chip, or `bytes` for a change of protection.
+// For a write or an erase, identifies the chip and returns the target. For a change of protection, returns `bytes`.
 fn fill_buffer<'a, B: Progress>(
     bus: &mut B,
     named: Option<ChipName>,

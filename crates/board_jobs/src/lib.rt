@@ -1,4 +1,4 @@
-//! The jobs on a chip, over any bus that shows its progress, and what a run prints after them.
+//! The jobs on a chip, over any bus that shows their progress, and what a run prints after a job.
 #![tactic(auto)]
 
 mod backups;

@@ -1,4 +1,4 @@
-//! What a run of `--wp-enable` or `--wp-disable` prints.
+//! The lines that a run of `--wp-enable` or `--wp-disable` prints.
 ghost use Rattle.std.specs.Prelude.{◌≡◌, ◌≤◌, ◌++◌, ◌∷◌, [], OnOk};
 ghost use Rattle.std.specs.Io.KnownBytes.{Appends};
 ghost use Rattle.nor_console.specs.Lines.{line};

@@ -20,14 +20,19 @@ use nor_probe::{ChipName, Found};
 use nor_session::Refusal;
 use std::alloc::Global;
 
-/// Restores the chip from the bytes of a journal: every saved sector without reading it before or, with `--quick`, only
+/// Restores the chip from the bytes of a journal: every saved sector without reading it first or, with `--quick`, only
 /// those that differ. If `-c` is given, the chip must have that name. Status bits that the board changed may stay as
 /// they are (`restore_fitting`).
 ///
-/// Without `-N`, the other sectors are read before the restore, and after it if it succeeded or returned error 14. They
-/// must be the same. An error of the restore itself is in the `Outcome`. Other faults are error 15 if the bytes are no
-/// journal and, without `-N`, those of the identification, 16 (a chip of another type), 18 (out of memory), 12 (the bus
-/// stopped) and 14.
+/// Without `-N`, the sectors that the journal doesn't save are read before the restore. If the restore succeeds or
+/// returns error 14, they are read again, and must be the same.
+///
+/// The inner error is that of the restore itself. The outer error is one of these faults:
+///
+/// - Error 15: the bytes are no journal.
+/// - Without `-N`, before the restore: error 18 (out of memory), an error of the identification, 16 (the chip has
+///   another ID or size than the journal) or 12 (the bus stopped).
+/// - Without `-N`, after the restore: `RestNotCompared`.
 pub fn restore_chip<'a, B: Progress>(
     bus: &mut B,
     terminal: Terminal<'_>,

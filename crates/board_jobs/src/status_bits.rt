@@ -1,23 +1,26 @@
-//! Which of the bits 2 to 6 of status 1 protect sectors, by maker, and what to do if such a bit is set.
+//! Which of the bits 2 to 6 of status 1 protect sectors, for each maker, and what to do if such a bit is set.
 ghost use Rattle.std.specs.Prelude.{◌≡◌};
 ghost use Rattle.board_jobs.specs.Jobs.{protecting_bits};
 
-/// What bits 2 to 6 of status 1 mean on the chips of a maker.
+/// The meaning of bits 2 to 6 of status 1 on the chips of a maker.
 #[derive(Clone, Copy)]
 pub(crate) struct StatusBits {
-    /// The bits that protect sectors on one of these chips, or of which this program doesn't know that they don't.
+    /// The bits that protect sectors on at least one of these chips, or whose meaning this program doesn't know.
     pub may_protect: u8,
     pub meaning: &'static str,
-    /// What to do if one of the bits `may_protect` is set.
+    /// The advice for a chip on which one of the bits `may_protect` is set.
     pub advice: &'static str,
 }
 
-/// Returns what the bits mean on a chip with this ID and status 1, if its ID has no row in nor_probe and its SFDP says
-/// that it erases 4 KiB everywhere. A chip of any other maker is refused if one of its bits 2 to 6 is set.
+/// Returns what the bits mean on a chip with this ID and status 1. The chip's ID must have no row in nor_probe, and its
+/// SFDP must say that sectors of 4 KiB can be erased everywhere. For the makers without a constant here, each of the
+/// bits 2 to 6 may protect sectors.
 ///
-/// A bit is missing in `may_protect` only if it protects nothing on each chip of the maker that has SFDP: QE of
-/// Macronix and ISSI, and SEC of Microchip's SST26, which says that its one-time area is locked. The source of each row
-/// is the section Status Register of the datasheets that its comment names, from memory.
+/// `may_protect` lacks a bit only if this bit protects nothing on every chip of the maker that has SFDP. These bits are
+/// QE of Macronix and ISSI, and SEC of Microchip's SST26, which says that the one-time area is locked.
+///
+/// The comment of each constant lists bits 6 to 2 of status 1, in this order, for some chips of the maker. The sources
+/// are the sections Status Register of their datasheets, from memory.
 pub(crate) fn status_bits(id: [u8; 3], status1: u8) -> StatusBits
     ensures { result.may_protect ≡ protecting_bits id }
 {
@@ -50,7 +53,8 @@ const GIGADEVICE: StatusBits = StatusBits {
     advice: CLEAR,
 };
 
-// MX25L12835F, MX25U6435F, MX25R6435F: QE BP3 BP2 BP1 BP0. (MX25L6405D: CP, which shows continuous programming.)
+// MX25L12835F, MX25U6435F, MX25R6435F: QE BP3 BP2 BP1 BP0. (On the MX25L6405D bit 6 is CP, which shows continuous
+// programming.)
 const MACRONIX: StatusBits = StatusBits {
     may_protect: 0x3C,
     meaning: "On Macronix's chips its bits 2 to 5 (BP0 to BP3) protect sectors.",
@@ -64,7 +68,8 @@ const ISSI: StatusBits = StatusBits {
     advice: LIFT,
 };
 
-// N25Q064A, MT25QL128: BP3 TB BP2 BP1 BP0. XMC's chips have the same first byte: XM25QH64C: SEC TB BP2 BP1 BP0.
+// N25Q064A, MT25QL128: BP3 TB BP2 BP1 BP0. XMC's chips have the same first byte of the ID. XM25QH64C: SEC TB BP2 BP1
+// BP0.
 const MICRON: StatusBits = StatusBits {
     may_protect: 0x7C,
     meaning: "On the chips of Micron and XMC its bits 2 to 6 (BP, TB, SEC) protect sectors.",
@@ -78,14 +83,14 @@ const EON: StatusBits = StatusBits {
     advice: LIFT,
 };
 
-// S25FL128L, S25FL164K: SEC TB BP2 BP1 BP0. (S25FL128S, which is refused before: P_ERR E_ERR BP2 BP1 BP0.)
+// S25FL128L, S25FL164K: SEC TB BP2 BP1 BP0. (S25FL128S: P_ERR E_ERR BP2 BP1 BP0. This chip is refused earlier.)
 const SPANSION: StatusBits = StatusBits {
     may_protect: 0x7C,
     meaning: "On Spansion's chips its bits 2 to 6 (BP0 to BP2, TB, SEC) protect sectors.",
     advice: LIFT,
 };
 
-// AT25SF128A: SEC TB BP2 BP1 BP0. AT25DF321A: RES EPE WPP SWP SWP, where SWP says whether sectors are protected.
+// AT25SF128A: SEC TB BP2 BP1 BP0. AT25DF321A: RES EPE WPP SWP SWP. SWP shows whether sectors are protected.
 const ADESTO: StatusBits = StatusBits {
     may_protect: 0x7C,
     meaning: "On Adesto's chips its bits 2 to 6 protect sectors, or bits 2 and 3 say that some are protected.",
@@ -119,6 +124,6 @@ const OTHERS: StatusBits = StatusBits {
 const CLEAR: &str =
     "Clear these bits with another tool (flashrom --wp-disable, then flashrom --wp-range=0,0), and try again.";
 
-// flashrom lifts the protection of the chips that it knows before it writes or erases (its manual page, -w and -E).
+// Before a write or an erase, flashrom lifts the protection of the chips that it knows (its manual page, -w and -E).
 const LIFT: &str =
     "Write this chip with another tool that lifts its protection (flashrom -w), or clear these bits, and try again.";

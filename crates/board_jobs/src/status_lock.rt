@@ -13,24 +13,29 @@ use nor_model::{Bus, Status};
 use nor_probe::{ChipName, Found};
 use nor_session::Refusal;
 
-/// What a change of SRP0 did.
+/// The result of a change of SRP0.
 #[derive(Clone, Copy, Drop)]
 pub struct LockChange {
     /// The identified chip.
     pub found: Found,
     /// Status 1 and status 2 before the change.
     pub before: [u8; 2],
-    /// Status 1 and status 2 after the status write, or `None` if none was sent: SRP0 had the value already.
+    /// Status 1 and status 2 after the status write, or `None` if SRP0 had the value already, so none was sent.
     pub after: Option<[u8; 2]>,
 }
 
 /// Sets SRP0 (bit 7 of status 1) if `srp0` is true, and clears it otherwise. While SRP0 is set and WP# is low, a chip
 /// ignores status writes, so its protection stays. (W25Q64FV datasheet, Status Register Protect.)
 ///
-/// Identifies the chip, sends one status write if SRP0 has another value, and reads the registers back. No journal is
-/// written. Returns an error of the identification, error 6 for unknown block protection, error 9 if SRP1 is set (the
-/// chip then ignores status writes at least until its power is off), error 12 or 13, or `NotStored` if other bits are
-/// read back (WP# is probably low).
+/// Identifies the chip. If SRP0 has the other value, sends one status write and reads the status registers back. Writes
+/// no journal. Returns one of these errors:
+///
+/// - an error of the identification
+/// - 6: the block protection of the chip is unknown
+/// - 9: SRP1 is set, so the chip ignores status writes at least until its power is off
+/// - 12: the bus stopped
+/// - 13: the chip stayed busy
+/// - `NotStored`: a non-volatile bit was read back with another value than it was written (WP# is probably low)
 pub fn set_srp0<'a, B: Bus>(
     bus: &mut B,
     named: Option<ChipName>,
@@ -80,7 +85,7 @@ fn read_open<B: Bus>(bus: &mut B, found: &Found) -> Result<[u8; 2], Refusal>
     Ok(bytes)
 }
 
-/// Reads status 1, after a wait for a chip that is ready, and status 2.
+/// Waits until the chip is ready, and returns status 1 and status 2.
 pub(crate) fn read_status<B: Bus>(bus: &mut B) -> Result<[u8; 2], OperationError>
     ensures kept { KeepsSent (B.state bus.old) (B.state bus.new) }
     ensures ok { IfOk result (ReadsStatus (B.state bus.old) (B.state bus.new)) }

@@ -1,4 +1,4 @@
-//! The sectors that a run changed by accident: after a session that failed, and after a restore.
+//! The sectors that a run changed by accident: finds them after a session that failed, and after a restore.
 ghost use Rattle.std.specs.Prelude.{◌≡◌, ◌≤◌};
 ghost use Rattle.nor_console.specs.Printing.{Prints};
 ghost use Rattle.board_jobs.specs.Strays.{IsAsBefore};
@@ -21,10 +21,12 @@ use std::alloc::{AllocError, Global};
 use std::fmt;
 use std::io::Write;
 
-/// After a session that ended with error 14 or chip fault 4, reads each sector that the session read before its first
-/// modifying command and was not to change, and prints a line with those that differ. Prints nothing if none differs,
-/// or if the bus stops. After any other fault reads nothing, since the chip wasn't changed, can't be reached, or is
-/// busy.
+/// After a session that ended with error 14 or chip fault 4, reads again each sector that the session read before its
+/// first modifying command and was not to change. Prints a line with those whose bytes differ, if any. If the bus
+/// stops, prints no such line.
+///
+/// Reads nothing if the session ended with another fault, because then the chip wasn't changed, can't be reached or is
+/// busy. Reads nothing after another job.
 pub fn report_strays<'b, B: Bus + Drop, E: Write>(
     errors: &mut E,
     bus: &mut Shown<'b, B>,
@@ -118,8 +120,8 @@ impl fmt::Display for Places {
     }
 }
 
-/// For a write or an erase with a journal, or a restore that is compared, starts to note the sums of the sectors that
-/// it reads (`Notes`). Does nothing for other operations. Prints a line if memory runs out.
+/// Begins to note the sums of the sectors that are read (`Notes`), for a write or an erase with a journal, and for a
+/// restore that is compared. Does nothing for other operations. Prints a line if memory runs out.
 pub fn begin_notes<'b, B: Bus + Drop, E: Write>(
     errors: &mut E,
     bus: &mut Shown<'b, B>,
@@ -155,9 +157,11 @@ fn new_notes(operation: &Operation<'_>, alloc: Global) -> Result<Option<Notes>, 
 
 /// Ends a run that succeeded, and returns the exit status.
 ///
-/// If the sectors that a restore's journal doesn't save differ from those before the session, prints chip fault 5.
-/// Otherwise prints the answer, and after a restore without this comparison a line that says why. After a session or a
-/// backup, also prints file fault 2 if its journal was lost after it was sealed.
+/// After a restore, compares the sectors that its journal doesn't save with their sums before the session. If one
+/// differs, prints chip fault 5 and no answer. Otherwise prints the answer. If this comparison needs sums that can't be
+/// used (`Before::why_unknown`), also prints a line that says why.
+///
+/// After a session or a backup, also prints file fault 2 if its journal was lost after it was sealed.
 pub fn end_compared<'b, R: Store, B: Bus + Drop, O: Write, E: Write>(
     output: &mut O,
     errors: &mut E,
@@ -222,9 +226,9 @@ fn report_unknown<E: Write>(errors: &mut E, before: &Before, operation: &Operati
     }
 }
 
-/// Checks that the name of the journal that a session or a backup sealed still refers to its file, and that the file
-/// has its length. If not, prints file fault 2 with this name. Returns the exit status of the run: 1 if the fault was
-/// printed, and otherwise `status`.
+/// Checks that the name of the journal that a session or a backup sealed still refers to its file, and that this file
+/// still has the same length. If not, prints file fault 2 with this name. Returns the exit status of the run: 1 if the
+/// fault was printed, otherwise `status`.
 pub fn report_lost_journal<R: Store, E: Write>(
     errors: &mut E,
     files: &R,
@@ -249,7 +253,8 @@ const IS_LOST: &str =
     "After this run sealed the journal, another program removed, replaced or changed it: don't \
     restore from a file with this name.";
 
-/// Returns the name of the journal that a session or a backup creates. `prepare` checked that there was no such file.
+/// Returns the name of the journal that a session or a backup creates, or `None` for another operation. There was no
+/// file of this name when `prepare` checked it.
 pub fn new_journal_of<'a>(operation: &Operation<'a>) -> Option<&'a str> {
     let named = named_by(&operation.task);
     match &operation.task {
