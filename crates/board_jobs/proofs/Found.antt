@@ -1,4 +1,4 @@
--- Lemmas on the faults of a job: before its call to the engine and, for a change or restore, after the call.
+-- Lemmas on the faults of a job: before its call to the engine, and in the comparison after a change or restore.
 use Rattle.std.proofs.Common.{◌≡◌, ℕ, Bool, List, Option, Result, Ok, Err, IfErr, IfOk, false, inl, inr, refl, true}
 use Rattle.std.specs.Borrow.{Bor}
 use Rattle.std.specs.Prelude.{⊤}
@@ -42,7 +42,7 @@ module _ {T : Type 0} (P : T → Type 0) (Q : Refusal → Type 0) where
   passes_err (Ok found) result returned is = rw returned tt
   passes_err (Err refusal) result returned is = rw returned (refusal, is, refl)
 
--- Holds for the faults of making the target of a change.
+-- Holds for the faults that may occur while the target of a change is made.
 abbrev IsBefore : JobFault → Type 0
 IsBefore (ended.Fault fault) = ⊤
 IsBefore (ended.Protected byte id) = ⊤

@@ -1,4 +1,4 @@
--- What a job sends to the chip, derived from the promises of its call.
+-- Lemmas on what a job sends to the chip, derived from the promises of its call to the engine.
 use Rattle.std.proofs.Common.{◌≡◌, ◌⊎◌, ℕ, Bool, List, Option, None, Some, Result, Ok, Err, false, inl, inr, refl, subst, true}
 use Rattle.nor_model.specs.Bus.{BusState}
 use Rattle.nor_files.specs.Files.{FilesState, View, is_lawful}
@@ -36,7 +36,8 @@ use Rattle.board_jobs.specs.Sends.{KeepsSent, SendsChange, SendsJournalled, Send
 use Rattle.board_jobs.proofs.SentFitted.{job_restore_fails, of_journal, reads_on, restored_sends, same_keeps_sent}
 use Rattle.board_jobs.proofs.SentFitted.{sends_after, sends_before}
 
--- A session without a sealed journal sends no modifying command. With a sealed journal, what is sent fits this journal.
+-- If the journal of a session is not sealed, the session sends no modifying command. If it is sealed and the files obey
+-- their contract, what is sent fits the journal.
 module _ (request : Request) (image : List ℕ) (file : Text) (before : View) (after : FilesState)
     (old found new : BusState) (outcome : Result Answer Refusal)
     (ran : HasRunInFile request image file before after found new outcome) (same : KeepsSent old found) where

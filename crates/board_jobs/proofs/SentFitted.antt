@@ -1,4 +1,4 @@
--- Lemmas on what a restore sends to the chip: it fits the journal, or the journal fitted to a status of the chip.
+-- Lemmas on what a restore sends to the chip: it fits the journal, or the journal with other board bits (`IsFitted`).
 use Rattle.std.proofs.Common.{◌≡◌, ◌⊎◌, ◌∙◌, ℕ, Bool, List, Option, None, Some, Result, Ok, Err, ap, false, inl, inr, refl, subst, true}
 use Rattle.nor_model.specs.Bus.{BusState}
 use Rattle.nor_journal.specs.Text.{Content as Journal, IsContent, text}
@@ -71,7 +71,7 @@ named_sends quick named journal old new outcome (inl does) =
 named_sends quick None journal old new outcome (inr failed) = absurd failed.1
 named_sends quick (Some name) journal old new outcome (inr failed) = inl failed.1.always.only_reads.sent
 
--- Holds if only reads were sent, or what fits the journal with its own board bits or those of a chip.
+-- Holds if no modifying command was sent, or if what was sent fits the journal with its own or other board bits.
 abbrev pub SendsFitting : Journal → (old new : BusState) → Type 0
 SendsFitting journal old new = KeepsSent old new
     ⊎ ((fitted : Journal) × IsFitted journal fitted × SendsSaved (IsSavedCode fitted) 1 fitted old new)
@@ -93,7 +93,7 @@ fits_as : (journal fitted : Journal) (old new : BusState) → IsFitted journal f
 fits_as journal fitted old new is (inl kept) = inl kept
 fits_as journal fitted old new is (inr sends) = inr (fitted, is, sends)
 
--- Error 17 comes from the checks of a restore, before anything is modified.
+-- If a restore returned error 17, it sent no modifying command, because this error comes from its checks.
 refused_reads : (choice : Choice) (journal : Journal) (old new : BusState) (result : Result Report Refusal)
     → AlwaysBy choice journal old new result → AnswersCall ReportsDone result (Err StatusDiffers) → KeepsSent old new
 refused_reads choice journal old new (Ok report) always returned = absurd returned

@@ -1,4 +1,4 @@
--- What a run prints if its job succeeded.
+-- The lines that a run prints if its job succeeded.
 use Rattle.std.specs.Prelude.{◌≡◌, ◌++◌, ℕ, Bool, true, false, List}
 use Rattle.nor_args.specs.declared.job.Operation.{Operation}
 use Rattle.nor_console.specs.AnswerLines.{AreLines, name_line}
@@ -11,7 +11,9 @@ abbrev pub AreNameLines : Answer → List ℕ → Type 0
 AreNameLines (answer.Found found) text = text ≡ name_line found.name
 AreNameLines found text = AreLines found text
 
--- Holds if `text` has the lines of this answer, followed by `further`, or only the chip's name for `--flash-name`.
+-- Holds if `text` is what a run prints for this answer. Without `--flash-name` (`named` is false), these are the lines
+-- of the answer and then the line `further`. With `--flash-name`, it is the name of the chip that was found, or the
+-- lines of any other answer.
 abbrev pub AreLinesBy : (named : Bool) → Further → Answer → List ℕ → Type 0
 AreLinesBy true further found text = AreNameLines found text
 AreLinesBy false further found text = (lines : List ℕ) × AreLines found lines × (text ≡ lines ++ further_line further)

@@ -19,8 +19,8 @@ use Rattle.board_jobs.specs.declared.chip_faults.JobFault.TheVariants as ended
 
 -- ---- the target
 
--- Holds if `read_out` returned `result` as its contract says, with a new faithful vault in memory that then has
--- `bytes`.
+-- Holds if `read_out` returned `result` and kept its promises, with a new faithful vault in memory. `bytes` are the
+-- vault's bytes after the call.
 pub record HasReadToMemory (named : Option ChipName) (ranges : Option (List Span)) (old new : BusState)
     (bytes : List ℕ) (result : Result Report Refusal) : Type 0 where
   pub filled : VaultState
@@ -29,7 +29,8 @@ pub record HasReadToMemory (named : Option ChipName) (ranges : Option (List Span
   pub modelled : IsModelled old → ReadOutModelled named ranges old new (new_vault true) filled result
   pub holds : bytes ≡ filled.bytes
 
--- Holds if the whole chip was read, and `target` has its bytes with those of `image` at the addresses in `spans`.
+-- Holds if the whole chip was read, and `target` has the bytes of `image` at the addresses in `spans` and the chip's
+-- bytes elsewhere.
 pub record IsMerged (named : Option ChipName) (spans : List Span) (image : List ℕ) (old new : BusState)
     (target : List ℕ) : Type 0 where
   pub chip : List ℕ
@@ -40,14 +41,14 @@ pub record IsMerged (named : Option ChipName) (spans : List Span) (image : List 
   pub bytes : (a : ℕ) → a < length chip
       → slice_index target a ≡ merged_byte (contains spans) (slice_index image) (slice_index chip) a
 
--- Holds if `target` is the target of a change: without ranges `image`, and nothing was sent. With ranges `target` has
--- the bytes of `image` there and the chip's bytes elsewhere, for which the whole chip was read.
+-- Holds if `target` is the target of a change. Without ranges, it is `image`, and nothing was sent. With ranges, the
+-- whole chip was read, and `target` has the bytes of `image` in the ranges and the chip's bytes elsewhere.
 abbrev pub IsWholeTarget : Option ChipName → (ranges : Option (List Span)) → (image : List ℕ) → (old new : BusState)
     → (target : List ℕ) → Type 0
 IsWholeTarget named None image old new target = (new ≡ old) × (target ≡ image)
 IsWholeTarget named (Some spans) image old new target = IsMerged named spans image old new target
 
--- the ranges of a change that is compared, or `None` for any other change, before which the whole chip isn't read
+-- the ranges of a change if it is compared, otherwise `None`: then the whole chip isn't read before the change
 abbrev pub ranges_if : (compared : Bool) → Option (List Span) → Option (List Span)
 ranges_if true ranges = ranges
 ranges_if false ranges = None
@@ -57,13 +58,14 @@ IsUnfit size spans image (ImageSize chip len) = (chip ≡ size) × (len ≡ leng
 IsUnfit size spans image RegionOutside = ReachesPast (Some spans) size
 IsUnfit size spans image _ = ⊥
 
--- Error 19 becomes error 18, because the vault in memory refuses a piece only if memory runs out.
+-- Error 19 (the vault refused a piece) becomes error 18 (out of memory), because a vault in memory refuses a piece only
+-- if memory runs out.
 abbrev pub into_memory : Refusal → Refusal
 into_memory (Output written) = Memory
 into_memory refusal = refusal
 
--- Holds for error 4 if the chip that was read has another size than the image. Its size was checked before, so the chip
--- was exchanged meanwhile.
+-- Holds for error 4 if the chip that was read has another size than the image. An earlier identification returned the
+-- size of the image, so the chip was exchanged meanwhile, or the bus is faulty.
 pub record IsOtherRead (named : Option ChipName) (image : List ℕ) (old new : BusState)
     (refusal : Refusal) : Type 0 where
   pub bytes : List ℕ
@@ -85,8 +87,8 @@ FailsToMerge named size (Some spans) image old new refusal = ((new ≡ old) × I
 
 -- ---- the comparison
 
--- Holds if the comparison after a session found no difference. After a session that failed or isn't compared, nothing
--- was sent.
+-- Holds if the comparison after a session found no difference. If the session failed or isn't compared, there is no
+-- comparison, and nothing was sent.
 abbrev pub IsFollowed : (session : Result Answer Refusal) → (compared : Bool) → Option ChipName → (target : List ℕ)
     → (old new : BusState) → Type 0
 IsFollowed (Ok found) true named target old new =
@@ -94,7 +96,7 @@ IsFollowed (Ok found) true named target old new =
 IsFollowed (Ok found) false named target old new = new ≡ old
 IsFollowed (Err refusal) compared named target old new = new ≡ old
 
--- Holds if the comparison of the whole chip with the target failed with the error in this fault.
+-- Holds if the session succeeded, and the comparison of the whole chip with the target failed with this fault.
 abbrev pub FailsToFollow : (session : Result Answer Refusal) → (compared : Bool) → Option ChipName → (target : List ℕ)
     → (old new : BusState) → JobFault → Type 0
 FailsToFollow (Ok found) true named target old new (ended.NotCompared refusal) =

@@ -13,7 +13,8 @@ use Rattle.board_jobs.specs.declared.ending.Further.TheVariants as further
 abbrev pub unverified_line : List ℕ
 unverified_line = line (codes "Nothing was verified (-n)." ∷ [])
 
--- the words that say whether SRP0 (bit 7 of the first byte) and SRP1 (bit 0 of the second) are set
+-- the end of the line of `--wp-status`: whether SRP0 (bit 7 of the first byte) or SRP1 (bit 0 of the second byte) is
+-- set
 abbrev pub lock_words : (bytes : List ℕ) → List ℕ
 lock_words bytes = if slice_index bytes 0 / 128 == 1
     then (if slice_index bytes 1 % 2 == 1 then codes ", SRP0 and SRP1 are set" else codes ", SRP0 is set")
@@ -29,7 +30,7 @@ further_line further.Unverified = unverified_line
 further_line (further.Protected start len) = protected_line (Some (start, len))
 further_line (further.Status bytes) = status_bytes_line bytes
 
--- the line after a change: the range of `--wp-range`, or that `-n` left a write or an erase unverified
+-- the line after a change: the range of `--wp-range`, or for a write or an erase with `-n`, that nothing was verified
 abbrev pub further_of_change : Wanted → (verify : Bool) → Further
 further_of_change (wanted.Range start len) verify = further.Protected (if len == 0 then 0 else start) len
 further_of_change _ true = further.Nothing

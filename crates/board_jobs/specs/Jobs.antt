@@ -1,4 +1,5 @@
--- What a job does to the chip over any bus: its call to the engine, the result, and the faults before and after it.
+-- The effect of a job on the chip, over any bus: its call to the engine, the result of the call, and the faults before
+-- and after the call.
 use Rattle.std.specs.Prelude.{◌≡◌, ◌&&◌, ◌⊎◌, ℕ, Bool, true, false, List, Option, Result, Ok, Err}
 use Rattle.std.specs.Prelude.{◌==◌, ◌||◌, bit_and, if◌then◌else◌, nat_eq, not, slice_index}
 use Rattle.nor_model.specs.Bus.{BusState}
@@ -36,12 +37,12 @@ use Rattle.board_jobs.specs.declared.chip_faults.JobFault.TheVariants as ended
 
 -- ---- reading
 
--- Holds if creating or truncating this file failed, after the chip was identified and before anything else was sent.
+-- Holds if the chip was identified, and creating or truncating this file then failed. Nothing more was sent.
 abbrev pub FailsToMake : Option ChipName → Text → View → (old new : BusState) → Fault → Type 0
 FailsToMake named file view old new fault =
     (chip : Found) × HasIdentified named old new (Ok chip) × IsMaking view file fault
 
--- Holds if the chip was identified, and then read into the file with this outcome.
+-- Holds if the chip was identified, and then a call that reads it into the file had this outcome.
 pub record HasReadChip (named : Option ChipName) (file : Text) (ranges : Option (List Span)) (after : View)
     (old new : BusState) (outcome : Result Answer Refusal) : Type 0 where
   pub found : BusState
@@ -49,7 +50,7 @@ pub record HasReadChip (named : Option ChipName) (file : Text) (ranges : Option 
   pub identified : HasIdentified named old found (Ok chip)
   pub read : HasReadOut named file ranges found new after outcome
 
--- Holds if the chip was identified, and then saved in a journal in a new file with this outcome.
+-- Holds if the chip was identified, and then a call that saves it in a journal in a new file had this outcome.
 pub record HasBackedUpChip (named : Option ChipName) (file : Text) (before : View) (after : FilesState)
     (old new : BusState) (outcome : Result Answer Refusal) : Type 0 where
   pub found : BusState
@@ -57,7 +58,7 @@ pub record HasBackedUpChip (named : Option ChipName) (file : Text) (before : Vie
   pub identified : HasIdentified named old found (Ok chip)
   pub saved : HasBackedUpInFile named file before after found new outcome
 
--- Holds if a read or, if `backup` is true, a backup was performed.
+-- Holds if a read or, if `backup` is true, a backup was performed with this outcome.
 abbrev pub HasReadBy : (backup : Bool) → Option ChipName → (file : Text) → (ranges : Option (List Span))
     → (before : View) → (after : FilesState) → (old new : BusState) → Result Answer Refusal → Type 0
 HasReadBy true named file ranges before after old new outcome = HasBackedUpChip named file before after old new outcome
@@ -70,15 +71,15 @@ FailsToRead named file view old new fault =
 
 -- ---- chips that may be protected
 
--- The bits of status 1 that may protect sectors on a chip of an unknown type with this ID: bits 2 to 6, except bit 6 of
--- Macronix (C2h) and ISSI (9Dh), and bit 5 of Microchip's SST26 (BFh 26h).
+-- The bits of status 1 that may protect sectors on a chip with this ID and unknown block protection. They are bits 2 to
+-- 6, except bit 6 of Macronix (C2h) and ISSI (9Dh), and bit 5 of Microchip's SST26 (BFh 26h).
 abbrev pub protecting_bits : (id : List ℕ) → ℕ
 protecting_bits id =
     if slice_index id 0 == 0xC2 || slice_index id 0 == 0x9D then 0x3C
     else if slice_index id 0 == 0xBF && slice_index id 1 == 0x26 then 0x5C else 0x7C
 
--- true for a chip of an unknown type with a bit of status 1 set that may protect sectors. These would then ignore
--- erases and programs.
+-- true if the chip's block protection is unknown, and a bit of its status 1 that may protect sectors is set. Protected
+-- sectors would ignore erases and programs.
 abbrev pub may_be_protected : Found → Bool
 may_be_protected chip = not chip.scheme && not (nat_eq (bit_and chip.status1 (protecting_bits chip.id)) 0)
 
@@ -86,7 +87,7 @@ pub record IsChangeable (named : Option ChipName) (old new : BusState) (chip : F
   pub identified : HasIdentified named old new (Ok chip)
   pub unprotected : may_be_protected chip ≡ false
 
--- Holds if the chip was identified and may be protected, and `byte` and `id` are its status 1 and its ID.
+-- Holds if the chip was identified, and `may_be_protected` is true for it. `byte` is its status 1, `id` its ID.
 pub record IsProtected (named : Option ChipName) (old new : BusState) (byte : ℕ) (id : List ℕ) : Type 0 where
   pub chip : Found
   pub identified : HasIdentified named old new (Ok chip)
@@ -94,8 +95,8 @@ pub record IsProtected (named : Option ChipName) (old new : BusState) (byte : �
   pub shown : byte ≡ chip.status1
   pub names : id ≡ chip.id
 
--- Holds if a write or an erase failed before its target was made: the identification failed, or the chip may be
--- protected (chip fault 1).
+-- Holds if a write or an erase failed with this fault before its target was made: the identification failed, or the
+-- chip may be protected (chip fault 1).
 abbrev pub FailsToAdmit : Option ChipName → (old new : BusState) → JobFault → Type 0
 FailsToAdmit named old new (ended.Fault fault) = FailsToFind named old new fault
 FailsToAdmit named old new (ended.Protected status1 id) = IsProtected named old new status1 id
@@ -103,7 +104,7 @@ FailsToAdmit named old new _ = ⊥
 
 -- ---- changes
 
--- Holds if the chip was identified and isn't protected, and `image`, the target of a write or an erase, was made.
+-- Holds if the chip was identified without chip fault 1, and then `image`, the target of a write or an erase, was made.
 pub record HasTarget (named : Option ChipName) (target : Wanted) (ranges : Option (List Span)) (bytes : List ℕ)
     (old new : BusState) (image : List ℕ) : Type 0 where
   pub chip : Found
@@ -111,13 +112,14 @@ pub record HasTarget (named : Option ChipName) (target : Wanted) (ranges : Optio
   pub changeable : IsChangeable named old found chip
   pub is : IsWholeTarget named ranges (asked_bytes target chip.size bytes) found new image
 
--- Holds if `image` is in the session's buffer: the target, or `bytes` for a change of protection.
+-- Holds if `image` is what the session's buffer contains: the target of a write or an erase, or `bytes` for a change of
+-- protection.
 abbrev pub IsBufferOf : Option ChipName → Wanted → (ranges : Option (List Span)) → (bytes : List ℕ)
     → (old new : BusState) → (image : List ℕ) → Type 0
 IsBufferOf named (wanted.Range start len) ranges bytes old new image = (new ≡ old) × (image ≡ bytes)
 IsBufferOf named target ranges bytes old new image = HasTarget named target ranges bytes old new image
 
--- Holds if making the target failed with this error after the identification.
+-- Holds if the chip was identified without chip fault 1, and making the target then failed with this error.
 pub record HasNoTarget (named : Option ChipName) (target : Wanted) (ranges : Option (List Span)) (bytes : List ℕ)
     (old new : BusState) (refusal : Refusal) : Type 0 where
   pub chip : Found
@@ -137,11 +139,12 @@ abbrev pub FailsToFill : Option ChipName → Wanted → (ranges : Option (List S
 FailsToFill named (wanted.Range start len) ranges bytes old new fault = ⊥
 FailsToFill named target ranges bytes old new fault = FailsToTarget named target ranges bytes old new fault
 
--- the ranges of a change if it is compared; the chip is then read before, for its bytes outside these ranges
+-- the ranges of a change if it is compared, otherwise `None`; if there are ranges, the whole chip is read before the
+-- change
 abbrev pub ranges_of : Operation → Change → Option (List Span) → Option (List Span)
 ranges_of operation change ranges = ranges_if (is_compared operation change) ranges
 
--- Holds if the session was run with its journal in a new file, after its buffer was made.
+-- Holds if the session's buffer was made, and the session was then run with its journal in a new file.
 pub record HasRunChange (operation : Operation) (change : Change) (ranges : Option (List Span)) (bytes : List ℕ)
     (file : Text) (before : View) (after : FilesState) (old new : BusState)
     (outcome : Result Answer Refusal) : Type 0 where
@@ -150,7 +153,7 @@ pub record HasRunChange (operation : Operation) (change : Change) (ranges : Opti
   pub buffer : IsBufferOf operation.named change.wanted (ranges_of operation change ranges) bytes old found image
   pub ran : HasRunInFile (request_for change operation.named ranges) image file before after found new outcome
 
--- Holds if the session was run, and a comparison after it (if there was one) found no difference.
+-- Holds if the session was run with this outcome, and the comparison after it, if there was one, found no difference.
 pub record HasChangedAndCompared (operation : Operation) (change : Change) (ranges : Option (List Span))
     (bytes : List ℕ) (file : Text) (before : View) (after : FilesState) (old new : BusState)
     (outcome : Result Answer Refusal) : Type 0 where
@@ -158,14 +161,14 @@ pub record HasChangedAndCompared (operation : Operation) (change : Change) (rang
   pub session : HasRunChange operation change ranges bytes file before after old changed outcome
   pub followed : IsFollowed outcome (is_compared operation change) operation.named session.image changed new
 
--- Holds for a change with its journal in a file. This program performs no rehearsal.
+-- Holds if a change was performed with its journal in a file. This program performs no rehearsal.
 abbrev pub HasChangedBy : Operation → Change → Option (List Span) → (bytes : List ℕ) → JournalUse
     → (before : View) → (after : FilesState) → (old new : BusState) → Result Answer Refusal → Type 0
 HasChangedBy operation change ranges bytes (uses.Journal file) before after old new outcome =
     HasChangedAndCompared operation change ranges bytes file.now before after old new outcome
 HasChangedBy operation change ranges bytes (uses.Rehearse stops) before after old new outcome = ⊥
 
--- Holds if the session succeeded, and the comparison then failed with this error.
+-- Holds if the session succeeded, and the comparison after it then failed with this error.
 pub record HasNotCompared (operation : Operation) (change : Change) (ranges : Option (List Span)) (bytes : List ℕ)
     (file : Text) (before : View) (after : FilesState) (old new : BusState) (refusal : Refusal) : Type 0 where
   pub changed : BusState
@@ -174,14 +177,15 @@ pub record HasNotCompared (operation : Operation) (change : Change) (ranges : Op
   pub fails : FailsToFollow (Ok reported) (is_compared operation change) operation.named session.image changed new
       (ended.NotCompared refusal)
 
--- Holds if creating the journal failed, or memory ran out, after the session's buffer was made.
+-- Holds if the session's buffer was made, and then creating the journal failed or memory ran out.
 abbrev pub FailsToBeginChange : Operation → Change → Option (List Span) → (bytes : List ℕ) → Text → View
     → (old new : BusState) → Fault → Type 0
 FailsToBeginChange operation change ranges bytes file view old new fault = (image : List ℕ)
     × IsBufferOf operation.named change.wanted (ranges_of operation change ranges) bytes old new image
     × IsMaking view file fault
 
--- Holds if a change failed before its session, except with chip fault 1. A rehearsal fails with usage fault 6.
+-- Holds if a change failed with this fault before its session. Chip fault 1 isn't among these faults
+-- (`IsRefusedAsProtected`). A rehearsal fails with usage fault 6.
 abbrev pub FailsToChange : Operation → Change → Option (List Span) → (bytes : List ℕ) → JournalUse → View
     → (old new : BusState) → Fault → Type 0
 FailsToChange operation change ranges bytes (uses.Rehearse stops) view old new fault =
@@ -194,7 +198,8 @@ abbrev pub has_journal_file : JournalUse → Bool
 has_journal_file (uses.Journal file) = true
 has_journal_file (uses.Rehearse stops) = false
 
--- Holds if a change was refused with chip fault 1, with the chip's status 1 as `byte`, and its ID. No file was changed.
+-- Holds if a write or an erase was refused with chip fault 1. `byte` is the chip's status 1, `id` its ID. No file was
+-- changed.
 pub record IsRefusedAsProtected (named : Option ChipName) (target : Wanted) (kept : JournalUse) (before : View)
     (after : FilesState) (old new : BusState) (byte : ℕ) (id : List ℕ) : Type 0 where
   pub changes : changes_bytes target ≡ true
@@ -221,7 +226,7 @@ FailsChange operation change ranges bytes kept before after old new _ = ⊥
 
 -- ---- tasks
 
--- Holds if the task was performed with this outcome, for the ranges of its regions and the bytes of its image or
+-- Holds if the task was performed with this outcome. `ranges` are those of its regions, `bytes` those of its image or
 -- journal.
 abbrev pub DoesTask : Operation → Task → (ranges : Option (List Span)) → (bytes : List ℕ) → (before : View)
     → (after : FilesState) → (old new : BusState) → Result Answer Refusal → Type 0
@@ -246,7 +251,7 @@ abbrev pub FailsBefore : Option ChipName → Task → (bytes : List ℕ) → Vie
 FailsBefore named (task.Read file regions) bytes view old new fault = FailsToRead named file.now view old new fault
 FailsBefore named _ bytes view old new fault = ⊥
 
--- Holds if `perform` failed with this fault: before the call to the engine, or in the comparison after it.
+-- Holds if `perform` failed with this fault: before the job's call to the engine, or in the comparison after the call.
 abbrev pub FailsPerform : Operation → Task → (ranges : Option (List Span)) → (bytes : List ℕ) → (before : View)
     → (after : FilesState) → (old new : BusState) → JobFault → Type 0
 FailsPerform operation (task.Change change) ranges bytes before after old new fault =
@@ -257,7 +262,7 @@ FailsPerform operation job ranges bytes before after old new (ended.Fault fault)
     FailsBefore operation.named job bytes before old new fault
 FailsPerform operation job ranges bytes before after old new _ = ⊥
 
--- Holds if a job ended with this result of its call to the engine, or with a fault before or after the call.
+-- Holds if a job ended with this result: the result of its call to the engine, or a fault before or after the call.
 abbrev pub EndsJob : Operation → (ranges : Option (List Span)) → (bytes : List ℕ) → (before : View)
     → (after : FilesState) → (old new : BusState) → Result Answer JobFault → Type 0
 EndsJob operation ranges bytes before after old new (Ok found) =

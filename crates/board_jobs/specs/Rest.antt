@@ -1,5 +1,5 @@
--- The unsaved sectors, those that a restore's journal doesn't save: what the chip replied to their reads before and
--- after it.
+-- The unsaved sectors, which the journal of a restore doesn't save: the chip's replies to the reads of these sectors
+-- before and after the restore.
 use Rattle.std.specs.Prelude.{◌≡◌, ◌<◌, ◌/◌, ◌*◌, ◌++◌, ℕ, Bool, true, false, List, Some, Result, Ok, Err, length}
 use Rattle.std.specs.Prelude.{slice_index}
 use Rattle.std.specs.List.{All}
@@ -16,7 +16,7 @@ use Rattle.nor_console.specs.declared.answers.Answer.{Answer}
 use Rattle.board_jobs.specs.declared.chip_faults.JobFault.{JobFault}
 use Rattle.board_jobs.specs.declared.chip_faults.JobFault.TheVariants as ended
 
--- Holds for a read (03h) of a sector that the journal doesn't save, at which the bus didn't stop.
+-- Holds for a read (03h) of a sector that the journal doesn't save, if the chip replied to it.
 pub record IsRestRead (journal : Journal) (exchange : Exchange) : Type 0 where
   pub sector : ℕ
   pub bytes : List ℕ
@@ -24,13 +24,14 @@ pub record IsRestRead (journal : Journal) (exchange : Exchange) : Type 0 where
   pub reads : names 0x03 (4096 * sector) exchange.out ≡ true
   pub replied : exchange.reply ≡ Some bytes
 
--- Holds if `bytes` has one byte for each address of the chip, and FFh in each sector that the journal saves.
+-- Holds if `bytes` has one byte for each address below the journal's size, and FFh in each sector that the journal
+-- saves.
 pub record AreUnsaved (journal : Journal) (bytes : List ℕ) : Type 0 where
   pub long : length bytes ≡ journal.size
   pub saved : (a : ℕ) → a < journal.size → is_saved journal (a / 4096) ≡ true → slice_index bytes a ≡ 255
 
--- Holds if exactly the sectors that the journal doesn't save were read after `old`. `bytes` has the last reply for
--- each, and FFh elsewhere.
+-- Holds if each unsaved sector was read after `old`, and no other transaction was made. `bytes` has the last reply for
+-- each of these sectors, and FFh in all others.
 pub record HasReadRest (journal : Journal) (bytes : List ℕ) (old new : BusState) : Type 0 where
   pub only_reads : OnlyReads (journal.size / 4096) old new
   pub later : List Exchange
@@ -40,21 +41,23 @@ pub record HasReadRest (journal : Journal) (bytes : List ℕ) (old new : BusStat
       → IsWholeSector (slice_index bytes) s (last_reply (names 0x03 (4096 * s)) later)
   pub unsaved : AreUnsaved journal bytes
 
--- Holds if the bus stopped while the unsaved sectors were read, and nothing was sent after that.
+-- Holds if the bus stopped while the unsaved sectors were read. No modifying command was sent, and the stopped
+-- transaction is the last one.
 pub record HasStoppedInRest (journal : Journal) (old new : BusState) : Type 0 where
   pub only_reads : OnlyReads (journal.size / 4096) old new
   pub stopped : HasStopped (journal.size / 4096) old new
 
 -- ---- the comparison after a restore
 
--- True if the unsaved sectors are compared after a restore with this outcome. They aren't after error 12 (the bus
--- stopped) or 13 (a busy chip ignores reads), nor after an error that left the chip as it was.
+-- True if the unsaved sectors are compared after a restore with this outcome: after success and error 14. After error
+-- 12 the bus is stopped, after error 13 the chip is busy and ignores reads, and before any other error no modifying
+-- command was sent.
 abbrev pub is_followed : Result Answer Refusal → Bool
 is_followed (Ok answer) = true
 is_followed (Err (Mismatch address)) = true
 is_followed (Err refusal) = false
 
--- Holds if the unsaved sectors were read again, and were as before the restore (`rest`).
+-- Holds if the unsaved sectors were read again with the same bytes as before the restore (`rest`).
 pub record HasKeptRest (journal : Journal) (rest : List ℕ) (old new : BusState) : Type 0 where
   pub again : List ℕ
   pub read : HasReadRest journal again old new
@@ -64,14 +67,14 @@ abbrev pub FollowsRestore : (followed : Bool) → Journal → (rest : List ℕ) 
 FollowsRestore true journal rest old new = HasKeptRest journal rest old new
 FollowsRestore false journal rest old new = new ≡ old
 
--- Holds if the unsaved sectors were read again, and the byte at `address` is the first that differs.
+-- Holds if the unsaved sectors were read again, and the byte at `address` is the first that differs from `rest`.
 pub record HasLostRest (journal : Journal) (rest : List ℕ) (old new : BusState) (address : ℕ) : Type 0 where
   pub again : List ℕ
   pub read : HasReadRest journal again old new
   pub first : IsFirstDifference rest again address
   pub unsaved : is_saved journal (address / 4096) ≡ false
 
--- Holds if the comparison after a restore failed: with error 12 if the bus stopped, or 14 if a byte differs.
+-- Holds if the comparison after a restore failed with this error: 12 (the bus stopped) or 14 (a byte differs).
 abbrev pub FailsRest : Journal → (rest : List ℕ) → (old new : BusState) → Refusal → Type 0
 FailsRest journal rest old new Stopped = HasStoppedInRest journal old new
 FailsRest journal rest old new (Mismatch address) = HasLostRest journal rest old new address

@@ -1,4 +1,4 @@
--- A restore: its call to the engine, the reads before and after the call, and the faults.
+-- A restore: its call to the engine, the reads before and after the call, and the faults of the job.
 use Rattle.std.specs.Prelude.{◌≡◌, ◌⊎◌, ℕ, Bool, true, false, List, Option, None, Result, Ok}
 use Rattle.nor_model.specs.Bus.{BusState}
 use Rattle.nor_journal.specs.Text.{Content as Journal, IsContent, text}
@@ -18,7 +18,7 @@ use Rattle.board_jobs.specs.Rest.{FailsRest, FollowsRestore, HasReadRest, HasSto
 use Rattle.board_jobs.specs.declared.chip_faults.JobFault.{JobFault}
 use Rattle.board_jobs.specs.declared.chip_faults.JobFault.TheVariants as ended
 
--- Holds if the chip was identified and has the journal's ID and size, and `rest` was then read (`HasReadRest`).
+-- Holds if the chip was identified, it has the journal's ID and size, and then its unsaved sectors were read as `rest`.
 pub record HasReadBefore (named : Option ChipName) (journal : Journal) (rest : List ℕ)
     (old new : BusState) : Type 0 where
   pub chip : Found
@@ -27,8 +27,8 @@ pub record HasReadBefore (named : Option ChipName) (journal : Journal) (rest : L
   pub kind : IsOfTypeFound journal chip
   pub read : HasReadRest journal rest found new
 
--- Holds for a restore without `-N`: the sectors that the journal doesn't save were read before it and compared after
--- it.
+-- Holds after a restore without `-N`. The sectors that the journal doesn't save were read before the restore. If the
+-- restore succeeded or returned error 14, they were compared after it, without a difference.
 pub record HasRestoredAndCompared (operation : Operation) (journal : Journal) (old new : BusState)
     (outcome : Result Answer Refusal) : Type 0 where
   pub rest : List ℕ
@@ -38,7 +38,8 @@ pub record HasRestoredAndCompared (operation : Operation) (journal : Journal) (o
   pub ran : HasRestoredFitting operation.is_quick None journal found restored outcome
   pub followed : FollowsRestore (is_followed outcome) journal rest restored new
 
--- Holds if a restore from this journal was run, with the comparison or, with `-N`, after a check of the name.
+-- Holds after a restore from this journal. Without `-N` (`compared` is true) it includes the comparison, with `-N` only
+-- the restore and the check of the name.
 abbrev pub HasRestoredBy : (compared : Bool) → Operation → Journal → (old new : BusState) → Result Answer Refusal
     → Type 0
 HasRestoredBy true operation journal old new outcome = HasRestoredAndCompared operation journal old new outcome
@@ -52,7 +53,8 @@ pub record HasRestored (operation : Operation) (bytes : List ℕ) (old new : Bus
   pub read : bytes ≡ text journal
   pub restored : HasRestoredBy operation.verifies_all operation journal old new outcome
 
--- Holds if reading the rest failed: error 16 if the chip lacks the journal's ID or size, error 12 if the bus stopped.
+-- Holds if reading the unsaved sectors failed with this error: 16 (the chip has another ID or size than the journal) or
+-- 12 (the bus stopped).
 abbrev pub FailsRestOf : Journal → Found → (old new : BusState) → Refusal → Type 0
 FailsRestOf journal chip old new OtherChip = (new ≡ old) × (¬ IsOfTypeFound journal chip)
 FailsRestOf journal chip old new Stopped = HasStoppedInRest journal old new
@@ -69,7 +71,7 @@ abbrev pub FailsToReadRest : Option ChipName → Journal → (old new : BusState
 FailsToReadRest named journal old new fault = FailsToFind named old new fault
     ⊎ ((refusal : Refusal) × HasNotReadRest named journal old new refusal × (fault ≡ end.Refused refusal))
 
--- Holds if a restore without `-N` had this outcome, and the comparison after it failed with this error.
+-- Holds if a restore without `-N` had this outcome, and the comparison after it then failed with this error.
 pub record HasNotComparedRest (operation : Operation) (journal : Journal) (old new : BusState)
     (outcome : Result Answer Refusal) (refusal : Refusal) : Type 0 where
   pub rest : List ℕ
@@ -80,7 +82,8 @@ pub record HasNotComparedRest (operation : Operation) (journal : Journal) (old n
   pub followed : is_followed outcome ≡ true
   pub fails : FailsRest journal rest restored new refusal
 
--- Holds if a restore without `-N` failed with this fault: before its call to the engine, or in the comparison after it.
+-- Holds if a restore without `-N` failed with this fault: before its call to the engine, or in the comparison after the
+-- call.
 abbrev pub FailsCompared : Operation → Journal → (old new : BusState) → JobFault → Type 0
 FailsCompared operation journal old new (ended.Fault fault) = ((new ≡ old) × (fault ≡ end.Refused Memory))
     ⊎ FailsToReadRest operation.named journal old new fault
@@ -88,7 +91,8 @@ FailsCompared operation journal old new (ended.RestNotCompared outcome refusal) 
     HasNotComparedRest operation journal old new outcome refusal
 FailsCompared operation journal old new _ = ⊥
 
--- With `-N` there is no such fault, because an error of the check of the name is the outcome of the restore.
+-- Holds if a restore failed with this fault, before its call to the engine or in the comparison after the call. With
+-- `-N` there is no such fault, because even an error of the check of the name (`-c`) is the outcome of the call.
 abbrev pub FailsBy : (compared : Bool) → Operation → Journal → (old new : BusState) → JobFault → Type 0
 FailsBy true operation journal old new fault = FailsCompared operation journal old new fault
 FailsBy false operation journal old new fault = ⊥

@@ -29,28 +29,28 @@ use Rattle.board_jobs.specs.declared.status_lock.LockChange.{LockChange}
 abbrev pub shows_srp0 : (one : ℕ) → Bool
 shows_srp0 one = one / 128 == 1
 
--- status 1 as a status write sends it: `one` with this value of SRP0, and BUSY and WEL (bits 0 and 1) clear
+-- status 1 in a status write: `one` with this value of SRP0, and with BUSY and WEL (bits 0 and 1) clear
 abbrev pub one_with : (srp0 : Bool) → (one : ℕ) → ℕ
 one_with srp0 one = (if srp0 then 128 else 0) + one % 128 / 4 * 4
 
--- the two bytes of a status write that changes only SRP0, status 1 first; SUS (bit 7 of status 2) is clear
+-- the two bytes of a status write that changes only SRP0, status 1 first, with SUS (bit 7 of status 2) clear
 abbrev pub bytes_with : (srp0 : Bool) → (before : List ℕ) → List ℕ
 bytes_with srp0 before = one_with srp0 (slice_index before 0) ∷ slice_index before 1 % 128 ∷ []
 
--- true if a status write of these bytes changes only SRP0
+-- true if `one` and `two` are the bytes of a status write that changes only SRP0
 abbrev pub sets_srp0 : (srp0 : Bool) → (before : List ℕ) → (one two : ℕ) → Bool
 sets_srp0 srp0 before one two =
     one == one_with srp0 (slice_index before 0) && two == slice_index before 1 % 128
 
--- Holds if the status registers `after` have this value of SRP0, and the other non-volatile bits of `before`.
+-- Holds if the status bytes `after` have this value of SRP0, and otherwise the non-volatile bits of `before`.
 pub record HasOnlySrp0 (srp0 : Bool) (before after : List ℕ) : Type 0 where
   pub one : slice_index after 0 / 4 * 4 ≡ one_with srp0 (slice_index before 0)
   pub two : slice_index after 1 % 128 ≡ slice_index before 1 % 128
 
 -- ---- reading and writing
 
--- Holds if the status registers were read as `bytes`, after a wait until the chip was ready, and without a modifying
--- command.
+-- Holds if the chip was polled until it was ready, status 2 was then read, and `bytes` are the status 1 of the last
+-- poll and this status 2. No modifying command was sent.
 pub record ReadsStatus (old new : BusState) (bytes : List ℕ) : Type 0 where
   pub polled : BusState
   pub waited : Waited
@@ -61,21 +61,23 @@ pub record ReadsStatus (old new : BusState) (bytes : List ℕ) : Type 0 where
   pub two_replied : last_reply (begins_with 0x35) new.history ≡ slice_index bytes 1 ∷ []
   pub kept : KeepsSent old new
 
--- Holds if only one status write was sent, which changes only SRP0, and the status registers were then read as `after`.
+-- Holds if one status write was sent, which changes only SRP0, but no erase and no program, and the status registers
+-- were then read as `after`.
 pub record WritesSrp0 (srp0 : Bool) (before after : List ℕ) (old new : BusState) : Type 0 where
   pub wrote : BusState
   pub within : SendsWithin (writing (sets_srp0 srp0 before) 1) old wrote
   pub exactly : SendsExactly 0 0 1 old wrote
   pub read : ReadsStatus wrote new after
 
--- Holds if SRP0 has this value. Either it had the value already (`after` is `None`), or it was written, and the status
--- registers were then read with all other non-volatile bits as before.
+-- Holds if SRP0 was read with this value. If it had the value before, `after` is `None`, and nothing was sent.
+-- Otherwise SRP0 was written, and all other non-volatile bits were read as before.
 abbrev pub IsSet : (srp0 : Bool) → (before : List ℕ) → (after : Option (List ℕ)) → (old new : BusState) → Type 0
 IsSet srp0 before None old new = (shows_srp0 (slice_index before 0) ≡ srp0) × (new ≡ old)
 IsSet srp0 before (Some after) old new =
     (shows_srp0 (slice_index before 0) ≢ srp0) × WritesSrp0 srp0 before after old new × HasOnlySrp0 srp0 before after
 
--- Holds if the chip has known block protection, SRP1 (bit 0 of status 2) is clear, and SRP0 has this value afterwards.
+-- Holds if the chip has known block protection, SRP1 (bit 0 of status 2) was read as clear, and SRP0 has this value in
+-- the end (`IsSet`).
 pub record HasSetSrp0 (named : Option ChipName) (srp0 : Bool) (old new : BusState) (change : LockChange) : Type 0 where
   pub found : BusState
   pub read : BusState
@@ -85,7 +87,8 @@ pub record HasSetSrp0 (named : Option ChipName) (srp0 : Bool) (old new : BusStat
   pub open_to : slice_index change.before 1 % 2 ≡ 0
   pub set : IsSet srp0 change.before change.after read new
 
--- Holds if SRP1 was read as clear and SRP0 as different, and then at most one status write was sent, for SRP0 only.
+-- Holds if SRP1 was read as clear and SRP0 with the other value, and at most one status write was then sent, which
+-- changes only SRP0. No erase and no program was sent.
 pub record SendsSrp0 (srp0 : Bool) (old new : BusState) : Type 0 where
   pub read : BusState
   pub before : List ℕ
@@ -102,7 +105,7 @@ SendsLock srp0 old new = KeepsSent old new ⊎ SendsSrp0 srp0 old new
 -- ---- errors
 
 -- Holds for an error after the identification: 6 (unknown block protection), 9 (SRP1 is set), 12 (the bus stopped) or
--- 13 (the chip stayed busy). Before error 6 or 9, no status write was sent.
+-- 13 (the chip stayed busy). Before error 6 or 9, no modifying command was sent.
 abbrev pub FailsFound : Found → (old new : BusState) → Refusal → Type 0
 FailsFound chip old new NoProtection = (chip.scheme ≡ false) × (new ≡ old)
 FailsFound chip old new StatusLocked = (bytes : List ℕ) × ReadsStatus old new bytes × (slice_index bytes 1 % 2 ≡ 1)
@@ -116,8 +119,8 @@ pub record FailsToSet (named : Option ChipName) (old new : BusState) (refusal : 
   pub identified : HasIdentified named old found (Ok chip)
   pub fails : FailsFound chip found new refusal
 
--- Holds if `sent` was written, and the status registers were then read as `after`, in which a non-volatile bit differs
--- from `sent`.
+-- Holds if the bytes `sent` were written, the status registers were then read as `after`, and a non-volatile bit
+-- differs between them.
 pub record HasNotSet (named : Option ChipName) (srp0 : Bool) (old new : BusState) (sent after : List ℕ) : Type 0 where
   pub chip : Found
   pub found : BusState
@@ -129,7 +132,8 @@ pub record HasNotSet (named : Option ChipName) (srp0 : Bool) (old new : BusState
   pub sends : sent ≡ bytes_with srp0 before
   pub differs : HasOnlySrp0 srp0 before after → ⊥
 
--- Holds if a change of SRP0 failed. Chip fault 3: the chip did not store the status write.
+-- Holds if a change of SRP0 failed with this fault. `NotStored` is chip fault 3: the chip did not store the status
+-- write.
 abbrev pub FailsLock : Option ChipName → (srp0 : Bool) → (old new : BusState) → JobFault → Type 0
 FailsLock named srp0 old new (ended.Fault fault) = FailsToFind named old new fault
     ⊎ ((refusal : Refusal) × FailsToSet named old new refusal × (fault ≡ end.Refused refusal))
@@ -169,8 +173,8 @@ abbrev pub HasPrintedLock : (srp0 : Bool) → Result LockChange JobFault → (ou
 HasPrintedLock srp0 (Ok change) out out' = Prints (λ text. text ≡ lock_lines srp0 change) out out'
 HasPrintedLock srp0 (Err fault) out out' = ⊥
 
--- Holds for a run of `--wp-enable` or `--wp-disable`. The exit status is 0 only if SRP0 has this value and the lines
--- were printed.
+-- Holds after a run of `--wp-enable` or `--wp-disable`. If the exit status is 0, SRP0 was read with this value, and the
+-- lines were printed.
 pub record HasRunLock (named : Option ChipName) (srp0 : Bool) (old new : BusState) (out out' : Option (List ℕ))
     (status : ℕ) : Type 0 where
   pub outcome : Result LockChange JobFault
