@@ -1,4 +1,4 @@
--- Lemmas: a run ends early with the help or the version only if its arguments ask for that.
+-- Lemmas: a run ends with the help or the version before its job only if its arguments ask for that.
 use Rattle.std.proofs.Common.{◌≡◌, arith, Bool, false, List, Some, inl, inr, subst}
 use Rattle.clap.specs.Words.{IsAmong}
 use Rattle.clap.specs.declared.error.Error.{Error}

@@ -1,4 +1,4 @@
--- Lemmas on the run of the operation that the arguments ask for.
+-- Lemmas on a run that performs the operation given by its arguments.
 use Rattle.std.proofs.Common.{◌≡◌, ◌≤◌, ℕ, Bool, IfOk, IfSome, List, None, Ok, Option, Result, Some, is_some, subst, sym, true}
 use Rattle.std.specs.Prelude.{Err, IsErrAnd, IsSomeAnd}
 use Rattle.std.proofs.lemmas.Bool.{false≢true}
@@ -47,8 +47,9 @@ pub few_after : (operation : Operation) (files : List RegionFile) (ranges : Opti
 few_after operation files ranges bytes before after old new out out' status None run = run.few
 few_after operation files ranges bytes before after old new out out' status (Some srp0) run = run.0.few
 
--- If a run with these arguments succeeded, so did the run whose given arguments are these. (`rw` would unfold what the
--- arguments ask for, which has too many cases.)
+-- If `words` are the arguments in `given`, then what holds for the success of a run with `words` holds for the success
+-- of a run with `given`. (The proof uses `subst`, because `rw` would unfold what arguments may ask for, which has too
+-- many cases.)
 pub succeeded_given : {E : Type 0} (state : Connected → BusState) (files after : FilesState) (words : List Text)
     (given : Result (IntoIter (String Global) Global) E) (args : IntoIter (String Global) Global)
     (used : Option Connected) (out out' : Option (List ℕ)) (status : ℕ) → given ≡ Ok args → words ≡ arguments_of args

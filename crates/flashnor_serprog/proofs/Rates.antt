@@ -1,4 +1,4 @@
--- Lemmas on texts that end with a colon and a decimal number, as a device with a baud rate does.
+-- Lemmas on texts that end with a colon and a decimal number, such as a device with a baud rate.
 use Rattle.std.proofs.Common.{◌≡◌, ◌∙◌, ◌+◌, ◌-◌, ◌<◌, ◌≤◌, ℕ, true, false, ◌∷◌, ◌++◌, length, drop, get_or, nat_eq, nat_lt, [], sym, ap, arith, refl, append_assoc, inl, inr, true≢false}
 use Rattle.std.specs.Char.{is_digit}
 use Rattle.std.specs.Str.{NoCharPasses}

@@ -1,4 +1,4 @@
--- Lemmas on a read whose regions have files of their own: after these files were written, its promises still hold.
+-- Lemmas on a read whose regions have files of their own: its promises still hold after these files were written.
 use Rattle.std.proofs.Common.{◌≡◌, ◌∙◌, ℕ, Bool, List, Option, Result, Ok, false, true, refl, sym}
 use Rattle.std.proofs.lemmas.Bool.{false≢true}
 use Rattle.std.specs.Borrow.{Bor}

@@ -1,4 +1,4 @@
--- A layout on the chip itself (`--fmap`, `--ifd`): its bytes are read from the chip before the job.
+-- A layout on the chip itself (`--fmap`, `--ifd`), which is read from the chip before the job.
 use Rattle.std.specs.Prelude.{◌≡◌, ◌⊎◌, ℕ, List, [], ◌∷◌, Option, None, Some, Ok}
 use Rattle.std.specs.Borrow.{Bor}
 use Rattle.nor_model.specs.Bus.{BusState}
@@ -32,13 +32,14 @@ form_on_chip (Some regions) = form_of_shown regions regions.layout
 abbrev pub descriptor_span : Span
 descriptor_span = record { first = 0; last = 4095 }
 
--- Holds if `ranges` are read to find a layout of this form: the first 4 KiB, or all (`None`) for an FMAP.
+-- Holds if `ranges` are what is read to find a layout of this form: the first 4 KiB for a flash descriptor, the whole
+-- chip (`None`) for an FMAP.
 abbrev pub AreReadFor : LayoutForm → (ranges : Option (List Span)) → Type 0
 AreReadFor form.Descriptor None = ⊥
 AreReadFor form.Descriptor (Some spans) = IsSetOf (descriptor_span ∷ []) spans
 AreReadFor _ ranges = ranges ≡ None
 
--- Holds if the chip was identified. `found` is the bus after that, and `ranges` are what is read next.
+-- Holds if the chip was identified, `found` is the bus after that, and `ranges` are what is read next.
 pub record HasFoundFirst (named : Option ChipName) (layout : LayoutForm) (old : BusState) : Type 0 where
   pub found : BusState
   pub chip : Found
@@ -46,7 +47,7 @@ pub record HasFoundFirst (named : Option ChipName) (layout : LayoutForm) (old : 
   pub ranges : Option (List Span)
   pub for_layout : AreReadFor layout ranges
 
--- Holds if `bytes` are the copy of the chip that `read_out` made in memory for a layout of this form.
+-- Holds if `bytes` are the copy of the chip that `read_out` made in memory, for a layout of this form.
 pub record HasReadLayout (named : Option ChipName) (layout : LayoutForm) (old new : BusState) (bytes : List ℕ)
     : Type 0 where
   pub first : HasFoundFirst named layout old
@@ -63,8 +64,8 @@ pub record HasNoLayout (named : Option ChipName) (layout : LayoutForm) (old new 
 abbrev pub FailsToReadShown : Option ChipName → LayoutForm → (old new : BusState) → Fault → Type 0
 FailsToReadShown named layout old new fault = FailsToFind named old new fault ⊎ HasNoLayout named layout old new fault
 
--- Holds if `bytes` were read for a layout of this form over a bus of its own, from `start` to `last`. This bus expects
--- no image, so it reads all data twice, and no modifying command was sent over it.
+-- Holds if `bytes` were read for a layout of this form over a bus of its own, whose state was first that of `start` and
+-- then `last`. This bus expects no image, so it reads all data twice. No modifying command was sent over it.
 pub record IsReadFirst (state : Connected → BusState) (device : Text) (named : Option ChipName) (layout : LayoutForm)
     (bytes : List ℕ) : Type 0 where
   pub start : Connected
@@ -75,7 +76,8 @@ pub record IsReadFirst (state : Connected → BusState) (device : Text) (named :
   pub read : HasReadLayout named layout (state start) last bytes
   pub sends : KeepsSent (state start) last
 
--- Holds if `shown` are the bytes in place of a layout's file: `None` unless the layout is on the chip, in this form.
+-- Holds if `shown` is `None` because the layout isn't on the chip, or if `shown` are the bytes that were read from the
+-- chip for a layout of this form.
 abbrev pub IsShown : (state : Connected → BusState) → (device : Text) → Option ChipName → Option LayoutForm
     → (shown : Option (List ℕ)) → Type 0
 IsShown state device named None shown = shown ≡ None

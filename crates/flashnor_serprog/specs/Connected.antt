@@ -1,4 +1,4 @@
--- The bus of a run, as contracts see it: its device, and the image that it expects.
+-- The bus of a run, as contracts describe it: its device, the image that it expects, and whether it was used.
 use Rattle.std.specs.Prelude.{◌≡◌, ℕ, List, [], Option, option_map, string_bytes}
 use Rattle.nor_model.specs.Bus.{BusState}
 use Rattle.nor_buses.specs.Ahead.{ahead_of}
@@ -14,7 +14,7 @@ use Rattle.flashnor_serprog.specs.declared.connect.Connected.{Connected}
 abbrev pub device_of : Connected → Text
 device_of connected = string_bytes connected.device
 
--- the image that the bus expects, if any: data that equals it is read once, all other data twice (`EndsTwice`)
+-- the image that the bus expects, if any: data that equals this image is read once, all other data twice (`EndsTwice`)
 abbrev pub expected_by : Connected → Option (List ℕ)
 expected_by connected =
     option_map (λ image. image.items)

@@ -39,7 +39,7 @@ use Rattle.flashnor_serprog.specs.declared.trouble.Trouble.TheVariants as troubl
 abbrev pub program : Text
 program = codes "flashnor-serprog"
 
--- Holds if the arguments ask for this operation, and the value of `-p` names this device.
+-- Holds if the arguments ask for this operation, and `device` is the device in the value of their `-p`.
 pub record IsAskedFor (words : List Text) (device : Bor Text) (operation : Operation) : Type 0 where
   pub programmer : Bor Text
   pub asked : IsHardwareJob program words
@@ -51,8 +51,8 @@ IsAskedByArguments words asked.List = IsHardwareJob program words hardware.List
 IsAskedByArguments words (asked.Description file image) = IsHardwareJob program words (hardware.CheckJournal file image)
 IsAskedByArguments words (asked.Chip setting operation) = IsAskedFor words setting.device operation
 
--- Holds if a job is prepared, before the programmer is used for it: no file has two roles, and the ranges and bytes of
--- the job were read. `files` are the regions with a file of their own; `shown` are the bytes of a layout on the chip.
+-- Holds if a job was prepared before the programmer is used for it: no file has two roles, and the ranges and bytes of
+-- the job were read. `files` are the regions with a file of their own. `shown` are the bytes of a layout on the chip.
 pub record IsPrepared (state : Connected → BusState) (view : View) (device : Bor Text) (operation : Operation)
     (files : List RegionFile) (ranges : Option (List Span)) (bytes : List ℕ) : Type 0 where
   pub shown : Option (List ℕ)
@@ -68,13 +68,13 @@ abbrev pub HasPrintedAnswer : Operation → Result Answer JobFault → (out out'
 HasPrintedAnswer operation (Ok found) out out' = Prints (AreJobLines operation found) out out'
 HasPrintedAnswer operation (Err fault) out out' = ⊥
 
--- Holds if nothing was sent after an answer, and no modifying command after a fault.
+-- Holds if nothing was sent after a job that returned an answer, and no modifying command after a job that failed.
 abbrev pub LooksAfter : Result Answer JobFault → (ended new : BusState) → Type 0
 LooksAfter (Ok found) ended new = new ≡ ended
 LooksAfter (Err fault) ended new = KeepsSent ended new
 
--- Holds for a run of a job on a chip, which sent only what the job may send. `ended` is the bus when the job ended. The
--- exit status is 0 only if the answer was printed and a read copied the bytes of regions into their files.
+-- Holds for a run of a job on a chip that sent only what this job may send. `ended` is the bus when the job ended. If
+-- the exit status is 0, the answer was printed and, after a read, the bytes of regions were copied into their files.
 pub record HasRun (operation : Operation) (files : List RegionFile) (ranges : Option (List Span)) (bytes : List ℕ)
     (before : View) (after : FilesState) (old new : BusState) (out out' : Option (List ℕ)) (status : ℕ)
     : Type 0 where
@@ -87,7 +87,7 @@ pub record HasRun (operation : Operation) (files : List RegionFile) (ranges : Op
   pub printed : status ≡ 0 → HasPrintedAnswer operation outcome out out'
   pub copied : status ≡ 0 → AreCopied operation files after.view
 
--- Holds for a run of an operation on a chip. `--wp-enable` and `--wp-disable` change no file.
+-- Holds for a run of an operation on a chip. A run of `--wp-enable` or `--wp-disable` changed no file.
 abbrev pub HasRunBy : (srp0 : Option Bool) → Operation → List RegionFile → Option (List Span) → (bytes : List ℕ)
     → (before : View) → (after : FilesState) → (old new : BusState) → (out out' : Option (List ℕ)) → (status : ℕ)
     → Type 0
@@ -104,12 +104,13 @@ abbrev pub AsksForHelp : Trouble → Type 0
 AsksForHelp (trouble.Fault fault) = IsAnswered (Err fault) ⊎ AsksForVersion fault
 AsksForHelp _ = ⊥
 
--- Holds if a run that ends with the help or the version has arguments that ask for it.
+-- Holds if the arguments ask for the help or the version whenever `ended` contains one of them.
 abbrev pub IsHelpAskedBy : List Text → Trouble → Type 0
 IsHelpAskedBy words ended = AsksForHelp ended → ArgumentsAskForHelp words
 
--- Holds if an operation was run on a new bus to the device `name`, from `start` to `last`, after its log was created.
--- `made` are the files after that. The bus expects only an image that `MayExpectImage` allows.
+-- Holds if an operation was run on a new bus to the device `name`. The state of the bus was first that of `start` and
+-- then `last`. `made` are the files after the log was created. The bus expects only an image that `MayExpectImage`
+-- allows.
 pub record HasRunOperation (state : Connected → BusState) (files after : FilesState) (name : Bor Text)
     (operation : Operation) (device : Text) (last : BusState) (out out' : Option (List ℕ)) (status : ℕ)
     : Type 0 where
@@ -133,15 +134,15 @@ pub record HasRunJob (state : Connected → BusState) (files after : FilesState)
   pub asked : IsAskedFor words name operation
   pub run : HasRunOperation state files after name operation device last out out' status
 
--- Holds if the journal that `--check-journal` names is sealed and undamaged, and its image was written if asked for.
+-- Holds if the journal that `--check-journal` names is sealed and undamaged. If an image was requested, it was written.
 pub record HasChecked (before after : View) (words : List Text) : Type 0 where
   pub file : Bor Text
   pub image : Option (Bor Text)
   pub asked : IsHardwareJob program words (hardware.CheckJournal file image)
   pub described : HasDescribed before file.now after image
 
--- Holds if a run may end with exit status 0: for help, version or list, for a sealed and undamaged journal, or for a
--- job that ended with status 0 on the bus `used`.
+-- Holds in each case in which a run may end with exit status 0. The help, the version or the list was requested,
+-- `--check-journal` found a sealed and undamaged journal, or a job ended with status 0 on the bus `used`.
 abbrev pub HasSucceeded : (state : Connected → BusState) → (files after : FilesState) → List Text
     → (used : Option Connected) → (out out' : Option (List ℕ)) → Type 0
 HasSucceeded state files after words used out out' = (ArgumentsAskForHelp words

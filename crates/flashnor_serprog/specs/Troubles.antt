@@ -1,4 +1,4 @@
--- The reason why a run ends early, if a file of its job can't be used.
+-- The reason why a run ends before its job, if a file of the job can't be used.
 use Rattle.board_files.specs.declared.early_ends.EarlyEnd.{EarlyEnd}
 use Rattle.board_files.specs.declared.early_ends.EarlyEnd.TheVariants as early
 use Rattle.flashnor_serprog.specs.declared.trouble.Trouble.{Trouble}

@@ -1,4 +1,4 @@
-//! What the arguments of a run ask for.
+//! The job that the arguments of a run ask for.
 ghost use Rattle.std.specs.Prelude.{IfErr, IfOk, map, string_bytes};
 ghost use Rattle.flashnor_serprog.specs.Run.{IsAskedByArguments, IsHelpAskedBy};
 
@@ -8,12 +8,13 @@ use crate::trouble::Trouble;
 use nor_args::{HardwareJob, Operation, operation_of};
 use std::alloc::Global;
 
-/// What the arguments ask for.
+/// The job that the arguments ask for.
 #[derive(Drop)]
 pub enum Asked<'a> {
     /// The list of chips.
     List,
-    /// The description of the journal in the file of this name, and its image in the file `image` if there is a name.
+    /// A description of the journal in the file `file`. If `image` is given, the image in this journal is also written
+    /// to the file `image`.
     Description {
         file: &'a str,
         image: Option<&'a str>,
@@ -25,7 +26,8 @@ pub enum Asked<'a> {
     },
 }
 
-/// Returns what the arguments ask for, or their first fault. `names` receives the names of all `-i`.
+/// Returns what the arguments ask for, or their first fault. `names` receives the values of all `-i`, with commas
+/// between them.
 pub fn read_words<'a>(
     alloc: Global,
     words: &'a [String],

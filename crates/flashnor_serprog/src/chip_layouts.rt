@@ -1,4 +1,4 @@
-//! A layout on the chip itself (`--fmap`, `--ifd`): reads the bytes that contain it, before the job.
+//! A layout on the chip itself (`--fmap`, `--ifd`): reads the part of the chip that contains it, before the job.
 ghost use Rattle.std.specs.Prelude.{◌≡◌, IfErr, IfOk, option_map};
 ghost use Rattle.nor_journal.specs.MemVault.{held_by};
 ghost use Rattle.flashnor_serprog.specs.ChipLayouts.{AreReadFor, FailsToReadShown, HasReadLayout, IsReadFirst};
@@ -29,12 +29,13 @@ const DESCRIPTOR: Span = Span {
 
 const READING: &str = "Reading the layout from the chip.";
 
-/// If the layout of the task is on the chip, reads it over a connection that is closed afterwards: for a flash
-/// descriptor the first 4 KiB (FFh elsewhere), for an FMAP the whole chip. Otherwise returns `None`, and uses no
-/// programmer.
+/// If the layout of the task is on the chip, returns a copy of the part of the chip that contains it. This is the first
+/// 4 KiB for a flash descriptor (FFh elsewhere), and the whole chip for an FMAP. Reads it over a connection of its own,
+/// which is then closed. If the layout isn't on the chip, returns `None` and uses no programmer.
 ///
-/// No modifying command is sent, and all data is read twice. Returns the faults of `connect_by`. A fault of the chip or
-/// of the bus, or of a port that seems to change bytes, is printed with its cause (`Trouble::Printed`).
+/// No modifying command is sent, and all data is read twice. Returns the faults of `connect_by`. Any other fault is one
+/// of the chip, of the bus, or of a port that seems to change bytes. It is printed with its cause, and returned as
+/// `Trouble::Printed`.
 pub fn read_shown<'a, 'b, E: Write>(
     rt: &'b HostRuntime,
     terminal: Terminal<'b>,

@@ -3,8 +3,8 @@
 use std::io;
 use std::io::Write;
 
-// The name, the ID, the size and the supply of each chip, and below these the other names of chips with this ID that
-// `-c` accepts. Source: Winbond datasheets of these chips, operating ranges.
+// The name, the ID, the size and the supply of each chip. The lines below it list the other names that `-c` accepts for
+// chips with this ID. Source: Winbond datasheets of these chips, operating ranges.
 const CHIPS: &str = "\
 W25Q32FV    ef4016   4 MiB  2.7 to 3.6 V
     or W25Q32BV, W25Q32CV, W25Q32DV, W25Q32JV, W25Q32JV-Q, W25Q32.V

@@ -1,9 +1,9 @@
-//! How a chip is named in a printed line: by its name and its ID.
+//! How a printed line names a chip: by its name and its ID.
 
 use nor_probe::{ChipName, part_for};
 use std::fmt;
 
-/// The chip's name in the table of chips, or `SFDP` if the table has no row for this ID, and then the ID.
+/// The name and the ID of a chip. If the table of chips has no row for this ID, the name is `SFDP`.
 #[derive(Clone, Copy, Drop)]
 pub struct ChipText(pub [u8; 3]);
 
@@ -17,7 +17,7 @@ impl fmt::Display for ChipText {
     }
 }
 
-/// The sentence that says which chip is connected, and how to name it.
+/// The sentence that says which chip is connected. For a chip without a row, it also says which name `-c` needs.
 #[derive(Clone, Copy, Drop)]
 pub struct Connected(pub [u8; 3]);
 

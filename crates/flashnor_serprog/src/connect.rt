@@ -38,11 +38,11 @@ type MakersBus<'a> = OtherMakers<KeptQuad<KnownStatus2<TwiceBus<'a>>>>;
 /// The bus that reads IDs, SFDP and data twice, around the bus that checks the status registers.
 pub type TwiceBus<'a> = ReadTwice<CheckedStatus<PartsBus<'a>>>;
 
-// The inner layers of `ChipBus`: the bus that splits commands, around the bus that notices a lost chip, around the bus
-// that paces polls, around the bus that sends commands together.
+// The inner layers of `ChipBus`. From the outside to the inside, they split commands, notice a lost chip, pace polls,
+// and send commands together.
 type PartsBus<'a> = SplittingBus<Watched<Paced<BatchingBus<DevicePort>, &'a HostRuntime>>>;
 
-/// Returns the layer of a bus that reads IDs, SFDP and data twice.
+/// Returns the layer of this bus that reads IDs, SFDP and data twice.
 pub fn twice_in<'b, 'a>(bus: &'b ChipBus<'a>) -> &'b TwiceBus<'a> {
     bus.inner().inner().inner().inner().inner().inner()
 }
@@ -54,8 +54,8 @@ pub struct Connected<'a> {
     pub bus: ChipBus<'a>,
 }
 
-// The IDs of the chips that return status 2 for 35h: those of the rows of nor_probe. Source: their datasheets, Read
-// Status Register-2.
+// The IDs of the chips that return status 2 for 35h. They are the chips of all rows of nor_probe. Source: the
+// datasheets of these chips, Read Status Register-2.
 const WITH_STATUS2: [[u8; 3]; 9] = [
     [0xEF, 0x40, 0x16],
     [0xEF, 0x40, 0x17],
@@ -68,8 +68,12 @@ const WITH_STATUS2: [[u8; 3]; 9] = [
     [0xEF, 0x70, 0x18],
 ];
 
-/// Connects to the programmer that `-p` describes. Returns usage fault 10 if memory runs out, error 1 if no chip
-/// answers, error 2 for a device that has an ID but no status, or the fault of `connect` with the name of the device.
+/// Connects to the programmer that `-p` describes. Returns one of these faults:
+///
+/// - usage fault 10 if memory runs out
+/// - error 1 if no chip answers
+/// - error 2 if a device has an ID, but neither status 1 nor SFDP
+/// - a programmer fault of `connect`, with the name of the device
 pub fn connect_by<'a, 'b>(
     rt: &'b HostRuntime,
     terminal: Terminal<'b>,
@@ -125,7 +129,7 @@ enum Unconnected {
     NoStatus,
 }
 
-// The error for a device without status 1, whose SFDP has another signature.
+// The error for a device that has an ID, but neither status 1 nor SFDP.
 const NO_STATUS: Refusal = Refusal::UnknownChip(SfdpFault::Signature);
 
 impl From<ProgrammerFault> for Unconnected {
@@ -138,16 +142,19 @@ impl From<ProgrammerFault> for Unconnected {
     }
 }
 
-// Opens and locks the device, identifies the programmer, sets its clock if `spispeed=` is given, and sets its chip
-// select if `cs=` is given. Then wakes the chip; only if it doesn't answer, looks for it (`look_for_chip`). Sends no
-// other transaction. Before the first exchange, prints what to do if no reply ever arrives. Returns a programmer fault
-// from 1 to 12 if a step fails (12: the port changes bytes that are sent), and the errors of `expect_chip`.
+// Opens and locks the device, and identifies the programmer. Sets its clock if `spispeed=` is given, and its chip
+// select if `cs=` is given. Then wakes the chip; if the chip doesn't answer, looks for it (`look_for_chip`). Makes no
+// other transaction. Before the first exchange, logs and shows what to do if no reply ever arrives.
+//
+// Returns a programmer fault from 1 to 12 if a step fails (12: the port changes bytes that are sent), or an error of
+// `expect_chip`.
 //
 // The returned bus has carried out no transaction yet, and belongs to this device. The contract says nothing about the
 // frames that were sent before the bus existed.
 //
 // If `image` is given, data that equals `image` at the same address is read once, and all other data twice. `image`
-// must be that of a write whose result is compared, or of `-v`, so that no data that was read once gets into a journal.
+// must be that of `-v` or of a write whose result is compared. Data that was read only once must not get into a
+// journal.
 fn connect<'a>(
     rt: &'a HostRuntime,
     terminal: Terminal<'a>,
@@ -192,11 +199,11 @@ fn connect<'a>(
     })
 }
 
-// The length of a unique ID, which can't be read in parts.
+// The length in bytes of a unique ID, which must be read in one transaction.
 const UNIQUE_LEN: u32 = 8;
 
 // Identifies the programmer. Returns the fault of `AnyProgrammer::identify`, or `ReadLimit` if a transaction can't read
-// a unique ID.
+// the eight bytes of a unique ID.
 fn identify(
     link: &mut Link<DevicePort>,
     hertz: Option<u32>,
@@ -242,11 +249,11 @@ impl Rules {
 pub enum Checks {
     /// Status writes that would change other bits than the protection bits.
     Protection,
-    /// For a session: also the first modifying command, if the port seems to change bytes that are received, because a
-    /// journal of changed bytes would be wrong (`CheckedStatus::guarding`).
+    /// For a session: also the first modifying command, if the port seems to change bytes that are received. A journal
+    /// of such bytes would be wrong (`CheckedStatus::guarding`).
     Guarded,
-    /// For `--wp-enable` and `--wp-disable`: status writes that would change another bit than SRP0, also a protection
-    /// bit (`CheckedStatus::locking`).
+    /// For `--wp-enable` and `--wp-disable`: status writes that would change any bit except SRP0, even a protection bit
+    /// (`CheckedStatus::locking`).
     Lock,
 }
 
@@ -276,7 +283,8 @@ impl fmt::Display for HigherClock {
     }
 }
 
-// Returns whether a job may write the status, as far as `checks` says it.
+// Returns whether a job with these checks may write the status. `begin_job` replaces this value for all jobs except
+// changes of SRP0.
 fn status_write_by(checks: Checks) -> StatusWrite {
     match checks {
         Checks::Lock => StatusWrite::OnAnyChip,
@@ -296,7 +304,8 @@ fn checking<B: Bus + Drop>(bus: B, checks: Checks) -> CheckedStatus<B>
     }
 }
 
-// Returns a bus over `bus` that reads data twice. If `image` is given, data that equals `image` is read only once.
+// Returns a bus over `bus` that reads data twice. If `image` is given, data that equals `image` at the same address is
+// read only once.
 fn reading_twice<B: Bus + Drop>(bus: B, image: Option<Vec<u8>>) -> ReadTwice<B>
     ensures bus { twice_of result ≡ bus }
     ensures history { history_of result ≡ [] }
@@ -325,8 +334,8 @@ fn of_failure(failure: Failure<PortFault>) -> ProgrammerFault {
     ProgrammerFault::Handshake(HandshakeFault::Failure(failure))
 }
 
-// Opens the device, and locks it against a second run. Returns `NoDevice` and opens nothing if the file is no character
-// device, because the first bytes sent would overwrite a regular file.
+// Opens the device and locks it against a second run. If the file is no character device, opens nothing and returns
+// `NoDevice`, because the first bytes sent would overwrite a regular file.
 fn open_device(rt: &HostRuntime, name: &str) -> Result<File, ProgrammerFault> {
     match fs::metadata(rt, name) {
         Ok(metadata) if metadata.file_type().is_char_device() => {}

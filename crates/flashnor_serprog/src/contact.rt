@@ -1,15 +1,15 @@
-//! Finds out within two seconds whether a chip answers, and brings back a chip that was left in QPI mode.
+//! Finds out within two seconds whether a chip answers, and frees a chip that was left in QPI mode.
 
 use crate::port::{DevicePort, PortFault};
 use nor_serprog::{Command, Failure, Link};
 use std::thread;
 use std::time::Duration;
 
-// What is received while no chip drives the line, if a pull-up does.
+// The value of a received byte if no chip drives the line and a pull-up holds it high.
 const IDLE: u8 = 0xFF;
 
-// How often a chip that doesn't answer is asked before it counts as missing, and the pause after each time, in
-// milliseconds.
+// A chip that doesn't answer is asked `TIMES` times before it counts as missing, with a pause of `PAUSE` milliseconds
+// after each time.
 const TIMES: u32 = 10;
 
 const PAUSE: u64 = 150;
@@ -17,7 +17,7 @@ const PAUSE: u64 = 150;
 // The first bytes of an SFDP.
 const SIGNATURE: [u8; 4] = [b'S', b'F', b'D', b'P'];
 
-/// What answers at the programmer before the first transaction of a job.
+/// The device that replies at the programmer before the first transaction of a job.
 #[derive(Clone, Copy)]
 pub enum Contact {
     /// A chip, which may be busy.
@@ -29,13 +29,14 @@ pub enum Contact {
 }
 
 /// Returns what answers to 9Fh (Read ID) and to 05h (Read Status Register-1). If only FFh is received for 1.5 seconds,
-/// first tries to bring the chip back from another mode (`leave_modes`).
+/// first sends what may free a chip from another mode (`leave_modes`).
 ///
-/// A chip that is busy shows BUSY in status 1, but not all other bits (W25Q64FV datasheet, Status Registers), so it is
-/// present however long it is busy. A device that replies an ID, but only FFh as status 1 for 1.5 seconds, is present
-/// if it has SFDP.
+/// A busy chip shows BUSY in status 1 (W25Q64FV datasheet, Status Registers). It is present, unless all other bits of
+/// its status 1 are set too, and it stays busy for 1.5 seconds: then it can't be distinguished from a missing chip. A
+/// device that replies to a read of its ID, but whose status 1 is FFh for 1.5 seconds, is present if it has SFDP.
 ///
-/// `woken` is the reply to the transaction that wakes the chip. If a chip has answered it, nothing is sent.
+/// `woken` is the reply to the transaction that wakes the chip. If it has another byte than FFh, a chip is present, and
+/// nothing is sent.
 pub fn look_for_chip(
     rt: &HostRuntime,
     link: &mut Link<DevicePort>,
@@ -65,24 +66,26 @@ pub fn look_for_chip(
     }
 }
 
-/// Sends FFh and then FFh FFh, each as one transaction, to a chip that seems to be missing. What follows is from memory
-/// of the datasheets (instruction sets).
+/// Sends FFh and then FFh FFh, each as one transaction, to a chip that seems to be missing. The facts below are from
+/// memory of the datasheets (instruction sets).
 ///
-/// In QPI mode a chip takes a byte in two clocks from four lines. WP# and HOLD# are high, a pull-up holds the line on
-/// which the chip replies (it reads as FFh), and FFh holds the fourth line, so the chip receives FFh. By FFh chips of
-/// Winbond, GigaDevice, Eon and Microchip leave QPI mode. In a continuous read with two or four lines a chip takes an
-/// address and then mode bits; the ones of FFh FFh are mode bits that end it.
+/// In QPI mode a chip receives each byte over four lines in two clocks. Three of these lines are high: WP#, HOLD#, and
+/// the line for the chip's replies, which a pull-up holds (it reads as FFh). FFh keeps the fourth line high, so the
+/// chip receives FFh. This makes chips of Winbond, GigaDevice, Eon and Microchip leave QPI mode. In a continuous read
+/// with two or four lines, a chip receives an address and then mode bits. The ones of FFh FFh are mode bits that end
+/// the read.
 ///
-/// Macronix, ISSI and Micron chips leave QPI mode by F5h, and others by 66h and 99h. These bytes need WP# or HOLD# to
-/// be low, so one line can't send them in this mode, and they are never sent. In addition, a busy chip whose status 1
-/// has all bits set seems to be missing, too, and 66h and 99h would interrupt its erase.
+/// Chips of Macronix, ISSI and Micron leave QPI mode after F5h, and other chips after 66h and 99h. None of these bytes
+/// is ever sent. In QPI mode they need WP# or HOLD# to be low, so they can't be sent over one line. Besides, a busy
+/// chip whose status 1 has all bits set seems to be missing too, and 66h and 99h would interrupt its erase.
 ///
-/// FFh changes no chip that takes it from one line:
+/// FFh changes no contents of a chip that receives it over one line:
 ///
-/// - Winbond, GigaDevice, Puya, XMC, Boya, Adesto, Spansion, Macronix: it ends a continuous read.
-/// - Eon, Microchip: it ends quad mode. ISSI, Micron: it ends a continuous read or is no instruction.
-/// - A chip that is busy ignores all but reads of its status, suspends and resets by 66h and 99h.
-/// - SPI NAND: it is a reset. No operation takes longer than 10 ms, so after 1.5 seconds none is interrupted.
+/// - Winbond, GigaDevice, Puya, XMC, Boya, Adesto, Spansion, Macronix: FFh ends a continuous read.
+/// - Eon, Microchip: FFh ends quad mode.
+/// - ISSI, Micron: FFh ends a continuous read or is no instruction.
+/// - A busy chip ignores everything except reads of its status, suspends, and resets by 66h and 99h.
+/// - SPI NAND: FFh is a reset. No operation takes longer than 10 ms, so after 1.5 seconds none is interrupted.
 fn leave_modes(link: &mut Link<DevicePort>) -> Result<(), Failure<PortFault>> {
     send(link, &[0xFF])?;
     send(link, &[0xFF, 0xFF])
@@ -92,7 +95,7 @@ fn send(link: &mut Link<DevicePort>, out: &[u8]) -> Result<(), Failure<PortFault
     link.exchange(Command::Operate { out, replies: 0 }, &mut [])
 }
 
-// Returns whether the reply to 9Fh has another byte than FFh.
+// Returns whether the reply to 9Fh has a byte other than FFh.
 fn returns_id(link: &mut Link<DevicePort>) -> Result<bool, Failure<PortFault>> {
     let mut id = [0; 3];
     let read_id = Command::Operate {
@@ -103,7 +106,7 @@ fn returns_id(link: &mut Link<DevicePort>) -> Result<bool, Failure<PortFault>> {
     Ok(!is_idle(&id))
 }
 
-// Returns whether the reply to 05h is another byte than FFh.
+// Returns whether the reply to 05h is a byte other than FFh.
 fn returns_status(link: &mut Link<DevicePort>) -> Result<bool, Failure<PortFault>> {
     let mut status = [0; 1];
     let read_status = Command::Operate {

@@ -1,4 +1,4 @@
-//! The line after that of a fault: what to do, what was found and expected, or where the regions are.
+//! The line that follows the line of a fault: what to do, what was found and expected, or where the regions are.
 
 use crate::chip_names::{ChipText, Connected, Hex};
 use crate::saved::Saved;
@@ -39,7 +39,7 @@ impl Known<'_> {
     }
 }
 
-/// Prints the line that follows the line of a fault of an operation, if there is one.
+/// Prints the line that follows the line of an operation's fault, if there is one.
 pub fn print_operation_hint<E: Write>(
     errors: &mut E,
     fault: &Fault<'_>,
@@ -81,12 +81,12 @@ pub fn print_operation_hint<E: Write>(
     }
 }
 
-// True for `-r`, which truncates an existing file, except a journal.
+// Returns whether the operation is `-r`. It truncates an existing file, unless the file is a journal.
 fn reads(operation: &Operation<'_>) -> bool {
     matches!(operation.task, Task::Read { .. }) && !operation.is_backup
 }
 
-// Prints the line that names the file with the layout of a task, if the layout is in a file.
+// Prints the line that names the file with the layout of the task, if the layout is in a file.
 fn print_file<E: Write>(errors: &mut E, task: &Task<'_>) {
     if let Some(
         Regions {
@@ -99,7 +99,7 @@ fn print_file<E: Write>(errors: &mut E, task: &Task<'_>) {
     }
 }
 
-// Prints the line for a region that isn't on a chip of this size: it names the region with the greatest address.
+// If the region with the greatest address and the chip's size are known, prints where this region ends, and the size.
 fn print_outside<E: Write>(errors: &mut E, farthest: Option<Farthest<'_>>, size: Option<u32>) {
     if let (Some(Farthest { name, end }), Some(size)) = (farthest, size) {
         let name = Escaped(name);
@@ -182,7 +182,7 @@ fn found_and_expected<'a>(
 // Bits 2 to 6 of status 1, which protect sectors on nearly every chip.
 const PROTECTION: u8 = 0x7C;
 
-// Returns what the line after error 14 says before and after the command that restores the chip.
+// Returns two parts of the line after error 14: before and after the command that restores the chip.
 fn advice_on_difference(task: &Task<'_>) -> [&'static str; 2] {
     match task {
         Task::Restore { .. } => [".", IF_AGAIN],
@@ -207,10 +207,14 @@ const IF_AGAIN: &str =
     " If error 14 occurs again, disconnect all power from the chip, and restore with --quick, then from a backup \
     without --quick: its erases may be others.";
 
-// Returns what to do before another restore, if only SRP0 or only SRP1 of the journal and the chip, whose status is
-// `found`, differ. (A power cycle clears SRP1 if SRP0 is clear.) Other bits may differ, since a restore writes or keeps
-// them. Otherwise, and for a chip without a row, returns the advice to write an image. Returns an empty text if bits 2
-// to 5 of status 1 differ on a chip without a row, because these bits may protect sectors.
+// Returns the advice after error 17 for a chip with the status `found`.
+//
+// - Chip without a row: write an image. No advice if bits 2 to 5 of status 1 differ, because they may protect sectors.
+// - SRP0 differs, but not SRP1: set or clear SRP0 as in the journal.
+// - SRP1 differs, but not SRP0, and both are clear in the journal: disconnect the chip from power, which clears SRP1.
+// - Otherwise: write an image.
+//
+// Other bits may also differ, because a restore writes or keeps them.
 fn lock_advice(saved: &Saved, found: [u8; 2]) -> &'static str {
     if part_for(true, saved.id).is_none() {
         return match (saved.status[0] ^ found[0]) & 0x3C {
@@ -243,7 +247,7 @@ enum Line<'a> {
     Unknown {
         id: [u8; 3],
     },
-    // The device replied an ID before the first transaction of the job, but neither status 1 nor SFDP.
+    // Before the first transaction of the job, the device replied to 9Fh, but has neither status 1 nor SFDP.
     NoStatus,
     Uneven {
         id: [u8; 3],
@@ -300,8 +304,8 @@ impl fmt::Display for Line<'_> {
                 Hex(id)
             ),
             Line::NoStatus => f.write_str(
-                "It replies an ID, but only FFh for status 1, so it isn't SPI NOR flash (but SPI NAND or DataFlash), or \
-                a contact is bad.",
+                "It replies an ID, but only FFh for status 1, so it isn't SPI NOR flash (but SPI NAND or DataFlash), \
+                or a contact is bad.",
             ),
             Line::Uneven { id } => write!(
                 f,

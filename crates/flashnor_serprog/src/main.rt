@@ -1,5 +1,5 @@
-//! `flashnor_serprog` does the jobs of `flashnor`, except rehearsals, on a SPI NOR chip at a serial programmer (serprog
-//! protocol). It uses the engine of `flashnor`, and prints the same error numbers and mostly the same lines.
+//! `flashnor_serprog` performs the jobs of `flashnor`, except rehearsals, on a SPI NOR chip at a serial programmer
+//! (serprog protocol). It uses the same engine, and prints the same error numbers and mostly the same lines.
 #![tactic(auto)]
 
 mod asked;
@@ -33,7 +33,8 @@ fn main(rt: HostRuntime) -> ExitCode {
     ExitCode::from(run_logged(&rt, &screen, streams.is_ok()))
 }
 
-// If descriptors 0, 1 and 2 could not be kept open, opens no file, and prints a fault.
+// Runs the program with a log of what it prints. If descriptors 0, 1 and 2 could not be kept open (`has_descriptors` is
+// false), opens no file and prints a fault.
 fn run_logged<'b>(rt: &'b HostRuntime, screen: &'b Screen, has_descriptors: bool) -> u8 {
     let mut output = Logged::new(by_line(rt.alloc(), rt.stdout()), screen.log());
     let mut errors = Logged::new(by_line(rt.alloc(), rt.stderr()), screen.log());

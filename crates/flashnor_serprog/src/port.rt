@@ -1,4 +1,4 @@
-//! The serial port of a programmer: its device, such as /dev/ttyACM0, as a `Port` of nor_serprog.
+//! The serial port of a programmer as a `Port` of nor_serprog, over a device such as /dev/ttyACM0.
 ghost use Rattle.std.proofs.lemmas.Bool.{false≢true};
 ghost use Rattle.nor_serprog.specs.Device.{unknown_port};
 ghost use Rattle.nor_serprog.specs.Wire.{asked_on, received_on};
@@ -11,7 +11,7 @@ use std::{fmt, io};
 /// The reason why a port failed.
 #[derive(Debug, Drop)]
 pub enum PortFault {
-    /// A read returned no byte in the time that `stty` set.
+    /// A read returned no byte within the time that was set with `stty`.
     Silent,
     /// The system returned an error.
     System(io::Error),
@@ -26,8 +26,8 @@ impl fmt::Display for PortFault {
     }
 }
 
-/// A port over the device of a programmer. The contract assumes nothing about the device, and records what is sent and
-/// returned.
+/// A port over the device of a programmer. Its contract assumes nothing about the device, and records the bytes that
+/// are sent and received.
 #[derive(Drop)]
 pub struct DevicePort {
     file: File,

@@ -1,4 +1,4 @@
-//! What a run does before its job: it checks and reads the files, starts the log, and identifies the programmer.
+//! The preparation of a job: a run checks and reads the files, starts the log, and identifies the programmer.
 ghost use Rattle.std.specs.Prelude.{◌≡◌, IfOk, option_map};
 ghost use Rattle.nor_files.specs.Files.{AreUntouched};
 ghost use Rattle.nor_journal.specs.MemVault.{held_by};
@@ -27,7 +27,7 @@ use nor_model::Bus;
 use std::fs::File;
 use std::io::Write;
 
-/// The files of an operation, which were read, and its programmer, which was identified.
+/// The contents of an operation's files, and its programmer, which was identified.
 #[derive(Drop)]
 pub struct Prepared<'a, 'b> {
     pub regions: Vec<RegionFile<'a>>,
@@ -40,7 +40,7 @@ pub struct Prepared<'a, 'b> {
 /// Prepares the operation, and returns the first fault. `names` must be the names of the regions without files
 /// (`plain_names`). The steps:
 ///
-/// 1. Check that no file has two roles, that the file of a backup is new, and that the log may be overwritten.
+/// 1. Check that no file has two roles, that the log may be overwritten, and that the file of a backup is new.
 /// 2. If the layout is on the chip, check the image or the journal, and then read the layout (`read_shown`).
 /// 3. Find the included addresses, check the files of regions, and read and check the image or the journal.
 /// 4. Start the log, print what `--replaced-chip` does, and identify the programmer for the job.
@@ -102,11 +102,11 @@ fn checks_for(operation: &Operation<'_>) -> Checks {
     }
 }
 
-// Returns the rules of the bus for this operation. `bytes` has the journal of a restore.
+// Returns the rules of the bus for this operation. `bytes` has the journal, if it is a restore.
 //
-// A change and a backup, which make a journal, need a chip that erases sectors of 4 KiB everywhere, because a restore
-// erases such sectors. They save QE as 0 if QE is bit 6 of status 1, and a missing unique ID as zeros. A restore
-// follows its journal, because older versions of this program saved both as they were read.
+// A session and a backup make a journal. Their chip must erase sectors of 4 KiB everywhere, and have pages of at least
+// 256 bytes, because a restore needs both. They save 0 for QE if QE is bit 6 of status 1, and zeros for a missing
+// unique ID. Older versions of this program saved both as they were read, so a restore follows its journal.
 fn rules_for(operation: &Operation<'_>, bytes: &[u8]) -> Rules {
     let reading = Rules::reading();
     let checks = checks_for(operation);
@@ -131,8 +131,8 @@ fn rules_for(operation: &Operation<'_>, bytes: &[u8]) -> Rules {
     }
 }
 
-// Returns the ID of the journal's chip if the journal has a status 2 other than 00h. Then the chip is known to have the
-// opcode 35h: for any other chip, a session saves 00h.
+// Returns the ID in the journal if its status 2 isn't 00h. The session then has read status 2, so the chip has the
+// opcode 35h. (For a chip that isn't known to have this opcode, 00h is saved.)
 fn id_before(journal: &Journal<'_>) -> Option<[u8; 3]> {
     if journal.status()[1] != 0 {
         Some(journal.id())
@@ -141,7 +141,8 @@ fn id_before(journal: &Journal<'_>) -> Option<[u8; 3]> {
     }
 }
 
-// Returns each byte of a missing unique ID: FFh if this journal has only such bytes, and otherwise 0.
+// Returns the byte that replaces each byte of a missing unique ID: FFh if all bytes of this unique ID are FFh,
+// otherwise 0.
 fn missing_in(unique: Option<[u8; 8]>) -> u8 {
     let Some(bytes) = unique else {
         return 0;
@@ -149,15 +150,15 @@ fn missing_in(unique: Option<[u8; 8]>) -> u8 {
     if bytes == [0xFF; 8] { 0xFF } else { 0 }
 }
 
-// Bit 6 of status 1, which is QE on some chips.
+// Bit 6 of status 1, which is QE on some makers' chips.
 const BIT6: u8 = 0x40;
 
-// A restore keeps the log of the session that it undoes, which may be needed.
+// Returns whether the log is kept: a restore appends to the log of the session that it undoes, which may be needed.
 fn keeps_log(operation: &Operation<'_>) -> bool {
     matches!(operation.task, Task::Restore { .. })
 }
 
-// Finds a fault of the image or journal before a layout is read from the chip, which may take minutes.
+// Checks the image or the journal before a layout is read from the chip, because this may take minutes.
 fn try_sources<'a, R: Store>(files: &mut R, operation: &Operation<'a>) -> Result<(), Trouble<'a>>
     ensures { AreUntouched (R.state files.old) (R.state files.new) }
 {

@@ -1,5 +1,5 @@
-//! What a run prints after an operation failed: the line of the fault, its hint, the cause of error 12, the line for a
-//! port that changes bytes, and a note.
+//! The lines that a run prints after an operation failed: the line of the fault, its hint, the cause of error 12, the
+//! line for a port that changes bytes, and a note.
 ghost use Rattle.std.specs.Prelude.{◌≡◌, ◌≤◌, true};
 ghost use Rattle.flashnor_serprog.specs.declared.stop_line.Left.TheVariants.{Unchanged};
 
@@ -18,7 +18,7 @@ use nor_journal::Journal;
 use std::fs;
 use std::io::Write;
 
-/// Prints the lines of a fault that ended a run before its job began, if they weren't printed already.
+/// Prints the lines of a fault that ended a run before its job began, unless they were printed already.
 pub fn print_trouble<E: Write>(errors: &mut E, trouble: &Trouble<'_>, operation: &Operation<'_>) {
     let _ = match trouble {
         Trouble::Printed => return,
@@ -32,10 +32,14 @@ pub fn print_trouble<E: Write>(errors: &mut E, trouble: &Trouble<'_>, operation:
     }
 }
 
-/// Prints the line of the fault with which a job ended, and after it, if there are such lines: the fault's hint; after
-/// error 12 its cause, after any other fault the line for a port that changes bytes; and the fault's note. `saved` is
-/// what the journal of a restore says about its chip, `unwritten` why the journal or the output can't be written, and
-/// `farthest` the included region that has the greatest address.
+/// Prints the line of the fault with which a job ended, and then these lines, if there are any:
+///
+/// - the hint for the fault
+/// - after error 12 its cause, after any other fault the line for a port that changes bytes
+/// - the note of the fault
+///
+/// `saved` is what the journal of a restore says about its chip. `unwritten` is the reason why the journal or the
+/// output can't be written. `farthest` is the included region that has the greatest address.
 pub fn print_job_fault<E: Write>(
     errors: &mut E,
     fault: &JobFault<'_>,
@@ -68,8 +72,8 @@ pub fn print_job_fault<E: Write>(
     }
 }
 
-/// If a session or a backup that changed nothing ended with an error, removes the journal that the session created and
-/// did not seal. If a journal is left, prints that the next run needs another name for it.
+/// After a session or a backup that ended with an error and didn't change the chip, removes the journal that the
+/// session created, if it isn't complete. If a file of this name is left, prints that the next run needs another name.
 pub fn clear_journal<R: Store, E: Write>(
     errors: &mut E,
     files: &R,
@@ -96,8 +100,8 @@ pub fn clear_journal<R: Store, E: Write>(
     );
 }
 
-// Removes the journal of this name if this run created it for a session, and it isn't sealed. Returns whether it was
-// removed. A `Store` can't remove a file, so the system is asked.
+// Removes the journal of this name if a session of this run created it and its bytes are no complete journal. Returns
+// whether it was removed. A `Store` can't remove a file, so this function calls the system.
 fn has_removed<R: Store>(files: &R, terminal: Terminal<'_>, name: &str) -> bool {
     if !terminal.has_journal() {
         return false;
@@ -114,7 +118,7 @@ fn has_removed<R: Store>(files: &R, terminal: Terminal<'_>, name: &str) -> bool 
 const LONGEST_JOURNAL: u64 = 1 << 25;
 
 /// If the port seems to change bytes that are received, prints the line for this fault. Returns the exit status of the
-/// run: 1 if the line was printed, and otherwise `status`.
+/// run: 1 if the line was printed, otherwise `status`.
 pub fn report_changed_byte<E: Write>(errors: &mut E, bus: &ChipBus<'_>, status: u8) -> u8
     ensures few { status ≤ 1 → result ≤ 1 }
     ensures failed { result ≡ 0 → status ≡ 0 }
@@ -128,7 +132,7 @@ pub fn report_changed_byte<E: Write>(errors: &mut E, bus: &ChipBus<'_>, status: 
     }
 }
 
-// Prints the line that follows error 12: the cause, and what the job left.
+// Prints the line that follows the line of error 12: the cause, and what the job left.
 fn print_cause<E: Write>(errors: &mut E, bus: &ChipBus<'_>, left: Left<'_>) {
     let same = bus.inner().inner();
     let twice = twice_in(bus);
@@ -145,7 +149,7 @@ fn print_cause<E: Write>(errors: &mut E, bus: &ChipBus<'_>, left: Left<'_>) {
     let _ = writeln!(errors, "{line}");
 }
 
-// Returns in which state a job that ended with this fault left the chip.
+// Returns the state in which a job that ended with this fault left the chip.
 fn left_after<'a>(fault: &JobFault<'_>, bus: &ChipBus<'_>, operation: &Operation<'a>) -> Left<'a> {
     if fault.follows_completion() {
         return Left::Completed;
@@ -158,9 +162,9 @@ fn left_after<'a>(fault: &JobFault<'_>, bus: &ChipBus<'_>, operation: &Operation
     left_by(task, begun, unlocks(task) && protects(bus.replies().status))
 }
 
-// Returns in which state a task that failed left the chip. `begun` is true if a modifying command may have been sent,
-// and `is_lifted` if the task may have lifted protection of this chip (`--unlock`). After a restore the chip counts as
-// changed even if `begun` is false, because an earlier session or restore may have changed it.
+// Returns the state in which a task that failed left the chip. `begun` is true if a modifying command may have been
+// sent. `is_lifted` is true if the task may have lifted the protection of this chip (`--unlock`). After a restore the
+// chip counts as changed even if `begun` is false, because an earlier session or restore may have changed it.
 fn left_by<'a>(task: &Task<'a>, begun: bool, is_lifted: bool) -> Left<'a>
     ensures { begun ≡ true → result ≡ Unchanged → ⊥ }
 {

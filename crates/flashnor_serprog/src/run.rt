@@ -41,15 +41,15 @@ use std::io;
 use std::io::Write;
 
 /// Performs the job given by the program's arguments, prints results to `output` and faults to `errors`, and returns
-/// the exit status: 0, or 1 after any fault or if not all results could be printed.
+/// the exit status. It is 1 after any fault or if a result could not be printed, otherwise 0.
 ///
-/// The first of the arguments is the program's name, which is skipped. If the system could not provide the arguments,
-/// `given` is an error, which is printed as a fault too. The clauses assume nothing about the system's files;
-/// `run_over`, which performs the job, says more if the files obey their contract.
+/// The first argument is the name of the program, and is skipped. If the system could not provide the arguments,
+/// `given` is an error, which is printed as a fault. The clauses assume nothing about the system's files. `run_over`,
+/// which performs the job, says more if the files obey their contract.
 ///
-/// `used`, which must be `None`, receives the bus of the job, as it is after the run, if the programmer was identified
-/// for the job. The clauses `done` and `ran` are about this bus. A layout on the chip is read before the job, over
-/// another bus.
+/// `used` must be `None`. If the programmer was identified for the job, `used` receives the bus of the job in its state
+/// after the run, and the clauses `done` and `ran` are about this bus. A layout on the chip is read before the job,
+/// over another bus.
 pub fn run_words<'b, O: Write, E: Write>(
     rt: &'b HostRuntime,
     screen: &'b Screen,
@@ -88,16 +88,16 @@ pub fn run_words<'b, O: Write, E: Write>(
 }
 
 /// Ends a run that could not keep descriptors 0, 1 and 2 open. Opens no file, prints file fault 1, and returns the exit
-/// status, which is 1.
+/// status 1.
 pub fn end_without_descriptors<E: Write>(errors: &mut E) -> u8
     ensures { result ≡ 1 }
 {
     end_badly(errors, &unread(DIRECTORY))
 }
 
-/// Performs the job given by `words`, the arguments without the program's name, as `run_words` does, but over any store
-/// of files. If the files obey the contract of `Store` (`is_lawful`), the clauses also say what a change sent, what its
-/// journal contains, and what `--check-journal` found.
+/// Performs the job given by `words`, the arguments without the program's name, over any store of files. Otherwise it
+/// is like `run_words`. If the files obey the contract of `Store` (`is_lawful`), the clauses also say what a change
+/// sent, what its journal contains, and what `--check-journal` found.
 pub fn run_over<'b, R: Store<Log = LogFile<File>>, O: Write, E: Write>(
     rt: &'b HostRuntime,
     screen: &'b Screen,
@@ -186,8 +186,8 @@ fn run_on_chip<'a, 'b, R: Store<Log = LogFile<File>>, O: Write, E: Write>(
     }
 }
 
-// Ends a run whose arguments ask for no job. Prints the fault to `errors`; or the help or the version to `output`, if
-// the arguments ask for it. Returns the exit status.
+// Ends a run whose arguments ask for no job. If they ask for the help or the version, prints it to `output`. Otherwise
+// prints the fault to `errors`. Returns the exit status.
 fn end_early<O: Write, E: Write>(output: &mut O, errors: &mut E, trouble: &Trouble<'_>) -> u8
     ensures few { result ≤ 1 }
     ensures help { result ≡ 0 → AsksForHelp trouble.now }
@@ -199,7 +199,7 @@ fn end_early<O: Write, E: Write>(output: &mut O, errors: &mut E, trouble: &Troub
     1
 }
 
-// Returns the parser's error, which contains the help or the version, if the arguments ask for it.
+// If the arguments ask for the help or the version, returns the parser's error, which contains its text.
 fn asked_text<'a>(trouble: &'a Trouble<'_>) -> Option<&'a WordsError>
     ensures { IsSome result → AsksForHelp trouble.now }
 {
@@ -280,8 +280,8 @@ fn run_job<'b, R: Store, O: Write, E: Write>(
     }
 }
 
-/// Ends a run whose answer was printed with the exit status `printed`: reports a port that probably changes bytes, and
-/// a lost line of the log. Returns the exit status.
+/// Ends a run whose answer was printed with the exit status `printed`. Reports a port that seems to change bytes, and a
+/// line of the log that was lost. Returns the exit status.
 pub fn end_run<'b, E: Write>(
     errors: &mut E,
     bus: &ChipBus<'b>,
@@ -295,8 +295,8 @@ pub fn end_run<'b, E: Write>(
     end_log(errors, bus.terminal().log(), operation.log, status)
 }
 
-/// Ends a run whose exit status would be `status`. If a line of the log was lost, prints file fault 2 with the name of
-/// the log, and returns 1. Otherwise returns `status`.
+/// Ends a run with the exit status `status`, unless a line of the log was lost. In that case, prints file fault 2 with
+/// the name of the log, and returns 1.
 pub fn end_log<E: Write>(errors: &mut E, log: &RunLog, name: Option<&str>, status: u8) -> u8
     ensures few { status ≤ 1 → result ≤ 1 }
     ensures failed { result ≡ 0 → status ≡ 0 }
@@ -312,8 +312,8 @@ pub fn end_log<E: Write>(errors: &mut E, log: &RunLog, name: Option<&str>, statu
     }
 }
 
-// Writes the files of the regions after a read, then prints the answer. Prints the fault instead if a file can't be
-// written. Returns the exit status.
+// Writes the files of the regions after a read, and prints the answer. If a file can't be written, prints the fault
+// instead. Returns the exit status.
 fn end_with_files<R: Store, O: Write, E: Write>(
     files: &mut R,
     operation: &Operation<'_>,
@@ -339,7 +339,7 @@ fn end_with_files<R: Store, O: Write, E: Write>(
     }
 }
 
-// Returns what the journal of a restore says about its chip. Returns `None` if the file is no journal, or if the task
+// Returns what the journal of a restore says about its chip. Returns `None` if the bytes are no journal, or if the task
 // is no restore.
 fn saved_by(task: &Task<'_>, sources: &Sources) -> Option<Saved> {
     match task {
@@ -348,8 +348,8 @@ fn saved_by(task: &Task<'_>, sources: &Sources) -> Option<Saved> {
     }
 }
 
-// Records in the bus, for its progress lines, whether the task is a session, whose journal is sealed before the first
-// change, the name of the journal's file, and whether the task may write the status.
+// Records three facts in the bus, for the lines before the first modifying command: whether the task is a session, the
+// name of its journal's file, and whether the task may write the status.
 fn mark_job<'b>(bus: &mut ChipBus<'b>, task: &Task<'_>, saved: Option<Saved>, alloc: Global)
     ensures { ⟦<ChipBus<'b> as Bus>⟧.state bus.new ≡ ⟦<ChipBus<'b> as Bus>⟧.state bus.old }
 {

@@ -1,8 +1,8 @@
-//! What a journal says about its chip, for the lines after a fault.
+//! The facts about a chip that its journal contains, for the lines that follow a fault.
 
 use nor_journal::Journal;
 
-/// What a journal says about its chip.
+/// The facts about a chip that its journal contains.
 #[derive(Clone, Copy)]
 pub struct Saved {
     pub id: [u8; 3],

@@ -25,7 +25,8 @@ pub struct Setting<'a> {
 pub enum WrongSetting<'a> {
     /// The key `ip=` names a programmer in the network, which this program does not support.
     Network,
-    /// The device is followed by a colon and a baud rate, which `stty` sets.
+    /// The device ends with a colon and a number: a baud rate. flashrom accepts this form; here `stty` sets the baud
+    /// rate.
     BaudRate { device: &'a str, rate: &'a str },
     /// The value doesn't begin with `serprog:`.
     NoPrefix,
@@ -36,11 +37,13 @@ pub enum WrongSetting<'a> {
 }
 
 impl<'a> Setting<'a> {
-    /// Parses the value of `-p`. A `KEY=VALUE` pair ends at the next comma, and its key at the first `=`.
+    /// Parses the value of `-p`. A `KEY=VALUE` pair ends at the next comma, and its key at the first `=`. Returns the
+    /// first of these faults:
     ///
-    /// Returns `NoPrefix` without `serprog:`; for the first setting with a flaw `Network` (key `ip`) or `Flawed`;
-    /// `NoDevice` without `dev=`; or `BaudRate` if the device ends with a colon and a decimal number (at most 20
-    /// digits, below 2^64).
+    /// - `NoPrefix`: the value doesn't begin with `serprog:`.
+    /// - For the first pair that has a flaw: `Network` if its key is `ip`, otherwise `Flawed`.
+    /// - `NoDevice`: `dev=` is missing.
+    /// - `BaudRate`: the device ends with a colon and a decimal number (at most 20 digits, below 2^64).
     pub fn read(text: &'a str) -> Result<Setting<'a>, WrongSetting<'a>>
         ensures { MatchResult result (IsSetting text.now) (IsWrongSetting text.now) }
     {
@@ -109,7 +112,7 @@ fn has_serprog_key(setting: &str) -> bool
     matches!(key, "dev" | "spispeed" | "cs")
 }
 
-// In flashrom, `ip=..` names a programmer in the network.
+// In flashrom, `ip=` names a programmer in the network.
 fn names_network(setting: &str) -> bool
     ensures { result ≡ names_network setting.now }
 {
@@ -123,7 +126,7 @@ fn read_select(value: &str) -> Option<u8>
     u8::try_from(read_number(value)?).ok()
 }
 
-// flashrom's syntax is `dev=DEVICE:BAUD`.
+// Returns `BaudRate` if the device ends with a colon and a number. (flashrom's syntax is `dev=DEVICE:BAUD`.)
 fn refuse_rate(device: &str) -> Result<(), WrongSetting<'_>>
     ensures { MatchResult result (λ _. HasNoRate device.now) (EndsWithRate device.now) }
 {

@@ -1,4 +1,4 @@
-//! The line that follows the line of error 12: the cause, what to do, and what a job that failed left.
+//! The line that follows the line of error 12: the cause, what to do, and the state in which the job left the chip.
 
 use crate::port::PortFault;
 use crate::trouble::FailureText;
@@ -12,36 +12,36 @@ use std::fmt;
 /// The line that follows the line of error 12.
 #[derive(Drop)]
 pub struct StopLine<'a> {
-    /// The two unique IDs, if another chip replied before the first modifying command.
+    /// The two unique IDs, if the chip was another one before the first modifying command.
     pub other: Option<OtherChip>,
     /// The reason why a transaction failed, if one did.
     pub failure: Option<&'a Failure<PortFault>>,
-    /// Why the replies of the chip are not believed, or what was wrong with a status write, if something was.
+    /// The fault that the layer `CheckedStatus` found, if any.
     pub status: Option<CheckFault>,
-    /// True if the chip has lost its contact or its supply while the job waited for it.
+    /// True if the chip lost its contact or its supply while the job waited for it.
     pub is_lost: bool,
     /// True if two reads of the same bytes differed.
     pub differed: bool,
-    /// What the job left.
+    /// The state in which the job left the chip.
     pub left: Left<'a>,
 }
 
-/// What a job that failed left, displayed as one or two sentences, each after a space, or as nothing.
+/// The state in which a job that failed left the chip. It is displayed as at most two sentences, each after a space.
 #[derive(Clone, Copy, Drop)]
 pub enum Left<'a> {
     /// The job changes no chip.
     Reading,
     /// A session that sent no modifying command.
     Unchanged,
-    /// A session that may have sent a modifying command, or a restore: this journal can restore the chip.
+    /// A session that may have sent a modifying command, or a restore. `journal` can restore the chip.
     Changed {
         journal: Option<&'a str>,
         /// True for a session with `--unlock` that may have lifted the chip's protection.
         may_be_unprotected: bool,
     },
-    /// A session or a restore that was completed; only the comparison after it failed.
+    /// A session or a restore that succeeded. Only the comparison after it failed.
     Completed,
-    /// A change of SRP0 that may have sent its status write: SRP0 may have either value.
+    /// A change of SRP0 that may have sent its status write, so SRP0 may have either value.
     EitherLock,
 }
 

@@ -1,4 +1,5 @@
-//! The reasons why a run ends early, the advice for each programmer fault, and the lines that are printed for these.
+//! The reasons why a run ends before its job, the advice for each programmer fault, and the lines that are printed for
+//! them.
 ghost use Rattle.std.specs.Prelude.{◌≡◌};
 
 use crate::port::PortFault;
@@ -12,7 +13,7 @@ use std::fmt;
 /// The reason why a run ends before its job begins.
 #[derive(Drop)]
 pub enum Trouble<'a> {
-    /// A fault that `flashnor` reports too, or a request for the help or the version.
+    /// A fault of the type that `flashnor` uses too, or a request for the help or the version.
     Fault(Fault<'a>),
     /// The value of `-p` describes no programmer.
     Setting(WrongSetting<'a>),
@@ -23,7 +24,8 @@ pub enum Trouble<'a> {
         fault: ProgrammerFault,
         device: &'a str,
     },
-    /// The layout can't be read from the chip. The fault was printed while the bus was there, which knows its cause.
+    /// The layout can't be read from the chip. The fault was printed already, because its cause is known only to the
+    /// bus, which is closed by now.
     Printed,
 }
 
@@ -107,7 +109,7 @@ impl fmt::Display for Trouble<'_> {
     }
 }
 
-// The line before usage fault 7 if `-i` is given without a layout. In `flashnor` this line names only `-l`.
+// The line before usage fault 7 if `-i` is given without a layout. `flashnor` names only `-l` here.
 const NO_LAYOUT: &str = "error: -i needs -l, --fmap, --fmap-file, --ifd or --ifd-file";
 
 impl fmt::Display for WrongSetting<'_> {
@@ -153,16 +155,17 @@ fn choices_for(setting: &str, flaw: Flaw) -> &'static str {
 // The arguments with which `stty` sets up a serial port for this program.
 const MODES: &str = "raw -echo clocal -hupcl min 0 time 50";
 
-/// The reason why the programmer can't be used. At most the transaction that wakes the chip (ABh) was sent to the chip.
+/// The reason why the programmer can't be used. By then, at most the transactions of `wake` and `look_for_chip` were
+/// sent to the chip.
 #[derive(Drop)]
 pub enum ProgrammerFault {
-    /// 1: the device is missing, or the system can't open or lock it.
+    /// 1: the device is missing, or the system could not open or lock it.
     NotOpened(SystemReason),
     /// 2: the file of this name is no character device.
     NoDevice,
     /// 3: another process has locked the device.
     InUse,
-    /// 4 to 11: the port fails, or the programmer replies wrongly, or lacks something that is needed.
+    /// 4 to 11: the port failed, or the programmer replied wrongly or lacks something that this program needs.
     Handshake(HandshakeFault<PortFault>),
     /// 12: the port changes bytes that are sent.
     ChangesBytes,
@@ -188,7 +191,7 @@ impl ProgrammerFault {
         }
     }
 
-    // The text for `Handshake` is never printed, since these faults have texts of their own.
+    // The text for `Handshake` is never printed, because `HandshakeFault` has its own texts.
     fn reason(&self) -> &'static str {
         match self {
             ProgrammerFault::NotOpened(SystemReason::Missing) => {
@@ -264,7 +267,8 @@ fn help_for(fault: &HandshakeFault<PortFault>) -> Remedy {
     }
 }
 
-// A port that echoes, or a programmer that still waits for the rest of a command, may cause such replies, too.
+// The firmware need not be at fault: a port that echoes, or a programmer that waits for the rest of a command, may
+// cause the same replies.
 const AGAIN: &str =
     "Disconnect the programmer from power for a second, connect it again, set up the port, and repeat the run; \
     install other firmware only if the same line appears again. To set up the port:";
@@ -284,7 +288,7 @@ impl fmt::Display for Advice<'_> {
     }
 }
 
-// The command that sets up this device as a serial port, or a text if the device's name can't be copied.
+// The command that sets up this device as a serial port. If the device's name can't be copied, advice to rename it.
 #[derive(Clone, Copy, Drop)]
 struct SetUp<'a>(&'a str);
 
@@ -301,7 +305,7 @@ impl fmt::Display for SetUp<'_> {
     }
 }
 
-/// The printed text of a failed exchange. For a silent programmer this text replaces that of nor_serprog.
+/// The printed text of a failed exchange: that of nor_serprog, except for a silent programmer.
 #[derive(Drop)]
 pub struct FailureText<'a>(pub &'a Failure<PortFault>);
 

@@ -4,9 +4,9 @@ use crate::port::{DevicePort, PortFault};
 use crate::trouble::ProgrammerFault;
 use nor_serprog::{AnyProgrammer, Command, Failure, HandshakeFault, Link};
 
-// The transaction that wakes the chip and shows whether the port changes bytes that are sent: ABh, and 12 bytes that
-// the chip ignores. If the port changes the length 0Dh in the frame to 0Ah, the programmer takes the last three of
-// these bytes as commands; 10h is SYNCNOP, to which it only replies NAK and ACK.
+// The bytes of the transaction that wakes the chip and checks the port: ABh, and 12 bytes that the chip ignores. Their
+// number, 0Dh, is in the frame. If the port changes this 0Dh to 0Ah, the programmer takes the last three bytes as
+// commands. They are harmless, because 10h is SYNCNOP, to which the programmer only replies NAK and ACK.
 const WAKE: [u8; 13] = [
     0xAB, 0x10, 0x10, 0x10, 0x10, 0x10, 0x10, 0x10, 0x10, 0x10, 0x10, 0x10, 0x10,
 ];
@@ -14,16 +14,19 @@ const WAKE: [u8; 13] = [
 // The number of reply bytes that `WAKE` requests.
 const WAKE_REPLIES: u32 = 10;
 
-/// Sends ABh, which wakes a chip from deep power-down; a chip that is not in deep power-down returns its device ID. The
-/// chip is awake after 3 microseconds, before the next frame can reach it (W25Q64FV datasheet, Release Power-down).
+/// Wakes the chip, and checks whether the port changes bytes that are sent. Returns the reply of the chip.
 ///
-/// The frame contains 0Dh, the length of its data, and 0Ah, the length of the reply, so it shows whether the port
-/// changes one of these bytes (stty(1), output settings). If the port sends 0Ah in place of 0Dh (`ocrnl`), the
-/// programmer takes the last three data bytes as commands. If the port sends 0Dh before 0Ah (`onlcr`), the programmer
-/// returns more bytes. In both cases the version that is queried next is read wrongly. If the programmer's limits are
-/// too low for this frame, only ABh is sent, and the port isn't checked.
+/// ABh wakes a chip from deep power-down; any other chip returns its device ID. The chip is awake after 3 microseconds,
+/// before the next frame can reach it (W25Q64FV datasheet, Release Power-down).
 ///
-/// Returns the reply of the chip, which is FFh in all bytes if the programmer's limits are too low.
+/// The frame contains 0Dh, the length of its data, and 0Ah, the length of the reply. The output settings of a port may
+/// change these bytes (stty(1)):
+///
+/// - `ocrnl` sends 0Ah in place of 0Dh. The programmer then takes the last three data bytes as commands.
+/// - `onlcr` sends 0Dh before 0Ah. The programmer then returns more bytes.
+///
+/// In both cases the version that is queried next is read wrongly. If the programmer's limits are too low for this
+/// frame, only ABh is sent, the port isn't checked, and each byte of the result is FFh.
 pub fn wake(
     link: &mut Link<DevicePort>,
     programmer: &AnyProgrammer,
@@ -59,8 +62,8 @@ fn exchange(
         .map_err(HandshakeFault::Failure)
 }
 
-// Returns the fault for an exchange of `wake` that failed: a failure of the port itself, or otherwise `ChangesBytes`,
-// since the programmer understood all commands before.
+// Returns the fault for an exchange of `wake` that failed. A failure of the port is returned as it is. Any other
+// failure is `ChangesBytes`, because the programmer understood all commands before.
 fn of_changed(fault: HandshakeFault<PortFault>) -> ProgrammerFault {
     match fault {
         HandshakeFault::Failure(Failure::Port(_)) => ProgrammerFault::Handshake(fault),
