@@ -13,4 +13,5 @@ pub mod HeldData
 pub mod SomeChips
 pub mod Judged
 pub mod Plain
+pub mod Adapted
 pub mod Fitting

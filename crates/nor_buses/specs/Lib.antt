@@ -17,6 +17,7 @@ pub mod Listed
 pub mod Bit6
 pub mod KnownStatus2
 pub mod Watched
+pub mod Adapted
 pub mod OtherMakers
 pub mod KeptQuad
 pub mod Layers

@@ -1,20 +1,26 @@
 -- A bus that changes two replies of other makers' chips, as contracts see it.
-use Rattle.std.specs.Prelude.{◌≡◌, ◌==◌, ◌&&◌, ◌||◌, ◌%◌, ℕ, Bool, List, ◌∷◌, length, not, replicate, slice_index}
-use Rattle.std.specs.Prelude.{bytes_eq, slice_set, if◌then◌else◌, ◌/◌, true, false, nat_lt, take}
-use Rattle.nor_model.specs.Bus.{BusState, unknown_bus}
+use Rattle.std.specs.Prelude.{◌≡◌, ◌&&◌, ℕ, Bool, true, false, List, [], ◌∷◌, length, replicate, if◌then◌else◌, bytes_eq}
+use Rattle.nor_model.specs.Bus.{BusState}
 use Rattle.nor_model.specs.Exchange.{Exchange}
-use Rattle.nor_model.specs.History.{begins_with, replied}
+use Rattle.nor_model.specs.History.{replied}
+use Rattle.nor_buses.specs.Adapted.{has_no_row, is_missing, is_uneven, judged_table, keeps_replies, shown_table, unanswered}
+use Rattle.nor_buses.specs.ReadsAs.{beside}
+use Rattle.nor_buses.specs.SomeChips.{only_if}
 use Rattle.nor_buses.specs.declared.other_makers.OtherMakers.{OtherMakers}
 
 -- The bus inside, which carries out the transactions of an `OtherMakers`.
 abbrev pub adapted_by : {B : Type 0} → OtherMakers B → B
 adapted_by other = other.bus
 
+-- The IDs of the chips that have a row.
+abbrev pub rows_of : {B : Type 0} → OtherMakers B → List (List ℕ)
+rows_of other = other.rows.now
+
 -- Each byte of a unique ID that the chip doesn't have.
 abbrev pub missing_as : {B : Type 0} → OtherMakers B → ℕ
 missing_as other = other.missing
 
--- True if the chip must erase sectors of 4 KiB everywhere.
+-- True if a chip without a row must erase sectors of 4 KiB everywhere, and have pages of at least 256 bytes.
 abbrev pub refuses_uneven : {B : Type 0} → OtherMakers B → Bool
 refuses_uneven other = other.refuses_uneven
 
@@ -30,77 +36,55 @@ has_small_pages other = other.has_small_pages
 abbrev pub history_of : {B : Type 0} → OtherMakers B → List Exchange
 history_of other = other.history.exchanges
 
--- The state of the bus: the chip of the bus inside, with the history of this bus. The bus is not well-behaved, because
--- it returns other bytes than the chip.
+-- The state of the bus inside, which counts as well-behaved only if it is and if no reply of its chip is changed.
+abbrev pub inside_adapted : {B : Type 0} → (inside : B → BusState) → OtherMakers B → BusState
+inside_adapted inside other =
+    only_if (keeps_replies (rows_of other) (inside (adapted_by other)).chip.config) (inside (adapted_by other))
+
+-- The state of the bus. It is well-behaved if the bus inside is and no reply of its chip is changed. It is not punctual,
+-- because it may send a second transaction.
 abbrev pub other_makers_state : {B : Type 0} → (inside : B → BusState) → OtherMakers B → BusState
-other_makers_state inside other = record (unknown_bus (history_of other)) {
-  chip = (inside (adapted_by other)).chip;
-  further = (inside (adapted_by other)).further;
-}
+other_makers_state inside other = beside (inside_adapted inside other) (history_of other)
 
--- True if a transaction begins with the opcode of a read of the unique ID.
-abbrev pub is_unique_read : (out : List ℕ) → Bool
-is_unique_read out = begins_with 0x4B out
+-- True if the bus reads 44 bytes in place of a table's 36: a chip without a row must have sectors of 4 KiB everywhere
+-- and pages of at least 256 bytes, and the header of its table gives a double word 11.
+abbrev pub looks_further : {B : Type 0} → OtherMakers B → Bool
+looks_further other = refuses_uneven other && has_word_11 other
 
--- True if a reply is eight bytes FFh, or eight bytes 00h.
-abbrev pub is_missing : (reply : List ℕ) → Bool
-is_missing reply = length reply == 8 && (bytes_eq reply (replicate 8 255) || bytes_eq reply (replicate 8 0))
+-- Holds if a read of the unique ID was passed on and returned none, and then the ID was read. `reply` is unchanged if
+-- the chip didn't answer, and otherwise has only bytes `missing`.
+pub record ReplacesUnique (missing : ℕ) (out raw reply : List ℕ) (old new : List Exchange) : Type 0 where
+  pub id : List ℕ
+  pub history : new ≡ replied (0x9F ∷ []) id ∷ replied out raw ∷ old
+  pub shown : reply ≡ (if bytes_eq id unanswered then raw else replicate (length raw) missing)
 
--- True if a transaction reads an SFDP table: 5Ah with 36 reply bytes.
-abbrev pub is_table_read : (out reply : List ℕ) → Bool
-is_table_read out reply = begins_with 0x5A out && length reply == 36
+-- Holds if a read of the unique ID was passed on and returned `raw`. `reply` is the same, unless that is no unique ID.
+pub record ShowsUnique (missing : ℕ) (out reply : List ℕ) (old new : List Exchange) : Type 0 where
+  pub raw : List ℕ
+  pub history : is_missing raw ≡ false → new ≡ replied out raw ∷ old
+  pub same : is_missing raw ≡ false → reply ≡ raw
+  pub none : is_missing raw ≡ true → ReplacesUnique missing out raw reply old new
 
--- True if bits 1 and 0 of double word 1 of an SFDP table aren't 01b.
-abbrev pub is_uneven : (table : List ℕ) → Bool
-is_uneven table = not (slice_index table 0 % 4 == 1)
+-- Holds if 44 bytes of an SFDP table were read, and `reply` is what `judged_table` makes of them.
+pub record ShowsJudged (out reply : List ℕ) (old new : List Exchange) : Type 0 where
+  pub raw : List ℕ
+  pub len : length raw ≡ 44
+  pub history : new ≡ replied out raw ∷ old
+  pub judged : reply ≡ judged_table raw
 
--- True if an opcode is one of three others.
-abbrev pub shares : (opcode one two three : ℕ) → Bool
-shares opcode one two three = opcode == one || opcode == two || opcode == three
-
--- A table with the byte at `at` as 00h, if `is` is true.
-abbrev pub cleared : (is : Bool) → (at : ℕ) → (table : List ℕ) → List ℕ
-cleared is at table = if is then slice_set table at 0 else table
-
--- An SFDP table whose erase types have these opcodes, with 00h as the opcode of each erase type that shares its opcode
--- or, if `all` is true, of each of the four.
-abbrev pub without_shared : (all : Bool) → (one two three four : ℕ) → (table : List ℕ) → List ℕ
-without_shared all one two three four table =
-    cleared (all || shares four one two three) 35
-    (cleared (all || shares three one two four) 33
-    (cleared (all || shares two one three four) 31
-    (cleared (all || shares one two three four) 29 table)))
-
--- What the bus returns if the chip returned this SFDP table. The opcodes of the erase types are in double words 8
--- and 9.
-abbrev pub shown_table : (all : Bool) → (table : List ℕ) → List ℕ
-shown_table all table =
-    without_shared all (slice_index table 29) (slice_index table 31) (slice_index table 33) (slice_index table 35) table
-
--- What the bus returns if the chip returned `reply`.
-abbrev pub adapted_reply : (missing : ℕ) → (refuses : Bool) → (out reply : List ℕ) → List ℕ
-adapted_reply missing refuses out reply =
-    if is_unique_read out && is_missing reply then replicate (length reply) missing
-    else (if is_table_read out reply then shown_table (refuses && is_uneven reply) reply else reply)
-
--- True if double word 11 of these 44 bytes of an SFDP table says that a page has fewer than 2^8 bytes.
-abbrev pub is_small_page : (table : List ℕ) → Bool
-is_small_page table = nat_lt (slice_index table 40 / 16) 8
-
--- True if the bus reads 44 bytes in place of a table's 36: the chip must have sectors of 4 KiB everywhere and pages of
--- 256 bytes, and its header gives a double word 11.
-abbrev pub looks_further : {B : Type 0} → OtherMakers B → (out reply : List ℕ) → Bool
-looks_further other out reply = refuses_uneven other && has_word_11 other && is_table_read out reply
-
--- What the bus returns if the chip returned these 44 bytes of an SFDP table.
-abbrev pub judged_table : (table : List ℕ) → List ℕ
-judged_table table = shown_table (is_uneven table || is_small_page table) (take 36 table)
-
--- Holds if the transaction was passed on unchanged, and `reply` is what `adapted_reply` makes of its reply. If `looks`
--- is true, 44 bytes were read instead, and `reply` is what `judged_table` makes of them.
-pub record ShowsReply (missing : ℕ) (refuses looks : Bool) (out reply : List ℕ) (old new : List Exchange) : Type 0 where
+-- Holds if 36 bytes of an SFDP table were read, and `reply` has them without the opcodes that mustn't be used.
+pub record ShowsShared (refuses : Bool) (out reply : List ℕ) (old new : List Exchange) : Type 0 where
   pub raw : List ℕ
   pub history : new ≡ replied out raw ∷ old
-  pub shown : looks ≡ false → reply ≡ adapted_reply missing refuses out raw
-  pub len : looks ≡ true → length raw ≡ 44
-  pub judged : looks ≡ true → reply ≡ judged_table raw
+  pub shown : reply ≡ shown_table (refuses && is_uneven raw) raw
+
+-- Holds if the ID was read, and then the SFDP table, which is changed only if the chip has no row. If `looks` is true,
+-- 44 bytes of it were read then.
+pub record ShowsTable (rows : List (List ℕ)) (refuses looks : Bool) (out reply : List ℕ) (old new : List Exchange)
+    : Type 0 where
+  pub id : List ℕ
+  pub row : has_no_row rows id ≡ false → new ≡ replied out reply ∷ replied (0x9F ∷ []) id ∷ old
+  pub judged : has_no_row rows id ≡ true → looks ≡ true
+      → ShowsJudged out reply (replied (0x9F ∷ []) id ∷ old) new
+  pub shared : has_no_row rows id ≡ true → looks ≡ false
+      → ShowsShared refuses out reply (replied (0x9F ∷ []) id ∷ old) new

@@ -5,6 +5,7 @@ ghost use Rattle.nor_buses.specs.Checked.{bus_of};
 ghost use Rattle.nor_buses.specs.KeptQuad.{kept_by, rows_of, hides_of};
 ghost use Rattle.nor_buses.specs.KnownStatus2.{known_by, ids_of, before_of};
 ghost use Rattle.nor_buses.specs.Layers.{FitsLayers};
+ghost use Rattle.nor_buses.specs.OtherMakers.{adapted_by, rows_of as listed_by};
 ghost use Rattle.nor_buses.specs.Paced.{paced_of};
 ghost use Rattle.nor_buses.specs.SameChip.{checked_by};
 ghost use Rattle.nor_buses.specs.Splitting.{split_of, sends_most, receives_most};
@@ -12,34 +13,38 @@ ghost use Rattle.nor_buses.specs.Twice.{twice_of};
 ghost use Rattle.nor_buses.specs.Watched.{watched_by};
 
 use crate::{
-    CheckedStatus, KeptQuad, KnownStatus2, Paced, ReadAhead, ReadTwice, SameChip, SplittingBus,
-    Watched,
+    CheckedStatus, KeptQuad, KnownStatus2, OtherMakers, Paced, ReadAhead, ReadTwice, SameChip,
+    SplittingBus, Watched,
 };
 use nor_model::Bus;
 use std::time::Clock;
 
-/// Nine layers of this crate around a bus to a programmer, in the order of `flashnor-serprog`. The program has one more
-/// layer between `SameChip` and `KeptQuad` (`OtherMakers`), of which this law says nothing.
-pub type Layered<B, C> = ReadAhead<SameChip<KeptQuad<KnownStatus2<CheckedTwice<B, C>>>>>;
+/// The layers of `flashnor-serprog` around a bus to a programmer, in the program's order.
+pub type Layered<B, C> = ReadAhead<
+    SameChip<OtherMakers<KeptQuad<KnownStatus2<CheckedTwice<B, C>>>>>,
+>;
 
 /// The inner layers of `Layered`, up to the one that reads twice.
 pub type CheckedTwice<B, C> = ReadTwice<CheckedStatus<SplittingBus<Watched<Paced<B, C>>>>>;
 
 /// States that the layers are together a well-behaved bus if the bus to the programmer is, and its limits and its chip
-/// fit them (`FitsLayers`), whatever the layers were told (`guarding`, `locking`, `expecting`). The chip is that of the
+/// fit them (`FitsLayers`), for any settings of the layers (`guarding`, `locking`, `expecting`). The chip is that of the
 /// bus to the programmer.
 ///
-/// The chip must have an ID that `KnownStatus2` knows and, if `KeptQuad` hides QE, one of its `rows`. For example, the
-/// emulated W25Q64FV fits each list that contains `EF 40 17`.
+/// The chip must have an ID that `KnownStatus2` knows, an ID of the `rows` of `OtherMakers` and, if `KeptQuad` hides
+/// QE, one of its `rows`. Its unique ID must not be eight bytes FFh or 00h. For example, the emulated W25Q64FV with
+/// another unique ID fits all lists that contain `EF 40 17`.
 #[tactic(auto, using(crate::proofs::Fitting::layers_fit))]
 pub fn layers_are_well_behaved<B: Bus + Drop, C: Clock + Drop>(bus: &Layered<B, C>)
-    ensures honest { let kept = checked_by (ahead_of bus.now) in
+    ensures honest { let other = checked_by (ahead_of bus.now) in
+        let kept = adapted_by other in
         let known = kept_by kept in
         let splitting = bus_of (twice_of (known_by known)) in
         FitsLayers (longest_of bus.now) (sends_most splitting) (receives_most splitting) (ids_of known)
-        (before_of known) (rows_of kept) (hides_of kept) (B.state (paced_of (watched_by (split_of splitting))))
+        (before_of known) (rows_of kept) (hides_of kept) (listed_by other)
+        (B.state (paced_of (watched_by (split_of splitting))))
         → (⟦<Layered<B, C> as Bus>⟧.state bus.now).honest ≡ true }
-    ensures chip { let known = kept_by (checked_by (ahead_of bus.now)) in
+    ensures chip { let known = kept_by (adapted_by (checked_by (ahead_of bus.now))) in
         let splitting = bus_of (twice_of (known_by known)) in
         (⟦<Layered<B, C> as Bus>⟧.state bus.now).chip
         ≡ (B.state (paced_of (watched_by (split_of splitting)))).chip }

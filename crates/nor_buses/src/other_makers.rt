@@ -1,15 +1,22 @@
 //! A bus that shows a chip without a unique ID, or with erases that depend on the address, as the engine expects it.
-ghost use Rattle.std.specs.Prelude.{◌≡◌, ◌<◌, ◌∷◌, [], true, false, length, OnOk, OnErr};
-ghost use Rattle.std.proofs.lemmas.Bool.{false≢true};
-ghost use Rattle.nor_model.specs.Bus.{Transfers};
-ghost use Rattle.nor_model.specs.History.{begins_with, stopped};
-ghost use Rattle.nor_buses.specs.OtherMakers.{adapted_by, missing_as, refuses_uneven, history_of, other_makers_state};
-ghost use Rattle.nor_buses.specs.OtherMakers.{cleared, is_missing, is_table_read, is_unique_read, is_uneven, adapted_reply};
-ghost use Rattle.nor_buses.specs.OtherMakers.{ShowsReply, shown_table, shares};
-ghost use Rattle.nor_buses.specs.OtherMakers.{has_word_11, has_small_pages, is_small_page, judged_table, looks_further};
+ghost use Rattle.std.specs.Prelude.{◌≡◌, ◌<◌, ◌∷◌, [], true, false, length, IfOk, OnOk, OnErr};
+ghost use Rattle.std.proofs.lemmas.Bool.{and_parts};
+ghost use Rattle.nor_model.specs.Bus.{IsHonestFor, SameNature, AtStop, Transfers};
+ghost use Rattle.nor_model.specs.History.{replied};
+ghost use Rattle.nor_buses.specs.Keeps.{KeepsAll, StopsUnread, MakesStep};
+ghost use Rattle.nor_buses.specs.OtherMakers.{adapted_by, rows_of, missing_as, refuses_uneven, history_of};
+ghost use Rattle.nor_buses.specs.OtherMakers.{has_word_11, has_small_pages, looks_further};
+ghost use Rattle.nor_buses.specs.OtherMakers.{inside_adapted, other_makers_state};
+ghost use Rattle.nor_buses.specs.OtherMakers.{ShowsUnique, ShowsTable, ShowsJudged};
+ghost use Rattle.nor_buses.specs.Adapted.{has_no_row, is_missing, is_table_read, is_unique_read, is_uneven};
+ghost use Rattle.nor_buses.specs.Adapted.{IsIdOf, cleared, is_small_page, shares, shown_table, judged_table};
 
-use nor_model::opcodes::{READ_SFDP, READ_UNIQUE};
+use crate::known_status2::is_id_listed;
+use nor_model::opcodes::{READ_ID, READ_SFDP, READ_UNIQUE};
 use nor_model::{Bus, History, Stopped};
+
+// The reply to 9Fh of a busy chip, and of none.
+const UNANSWERED: [u8; 3] = [0xFF; 3];
 
 // The number of bytes of the SFDP table that identify a chip: double words 1 to 9.
 const TABLE: usize = 36;
@@ -20,12 +27,12 @@ const LONGER_TABLE: usize = 44;
 // The number of double words that the table must have to contain the size of a page.
 const WORDS: u8 = 11;
 
-/// A bus that changes two replies of other makers' chips. It passes each transaction on unchanged, except that it may
-/// read more bytes of an SFDP table.
+/// A bus that changes two replies of other makers' chips. Before it does so, it reads the ID (9Fh). It passes each
+/// transaction on unchanged, except that it may read more bytes of an SFDP table.
 ///
 /// - A unique ID (4Bh with eight reply bytes) that is FFh or 00h in all bytes is no unique ID: the chip ignores 4Bh,
-///   and the line keeps the level to which it is pulled, which another clip may change. In place of either, each byte
-///   of the reply is `missing`.
+///   and the line keeps the level to which it is pulled, which another clip may change. Then each byte of the reply is
+///   `missing`. But if the ID is FFFFFFh, the chip is busy or has no contact, and the reply isn't changed.
 /// - If `refuses_uneven` is true, the chip must erase sectors of 4 KiB everywhere. If bits 1 and 0 of double word 1 of
 ///   the SFDP table (5Ah with 36 reply bytes) aren't 01b, it doesn't: 01b means that the erase of 4 KiB is available
 ///   everywhere, and 11b that it isn't (JESD216, double word 1). Then the four opcodes of the table's erase types are
@@ -39,11 +46,17 @@ const WORDS: u8 = 11;
 /// - If several erase types of the table have the same opcode, the size of the erase depends on the address: D8h of
 ///   Microchip SST26VF064B erases 8, 32 or 64 KiB. Then these opcodes are returned as 00h, so that they aren't used.
 ///
+/// The table of a chip with an ID of `rows` is returned unchanged, and so is one if the ID is FFFFFFh.
+///
+/// This bus is well-behaved if the bus inside is, and if the chip has an ID of `rows` and a unique ID, so that no reply
+/// is changed. It is never punctual, because it may send a second transaction.
+///
 /// The history lists each transaction over this bus with its reply. In contracts, the chip is that of the bus inside.
-/// This bus is not well-behaved, because it returns other bytes than the chip.
 #[derive(Drop)]
 pub struct OtherMakers<B> {
     bus: B,
+    // The IDs of the chips that have a row.
+    rows: &'static [[u8; 3]],
     missing: u8,
     refuses_uneven: bool,
     // True if the last header of the table that was read gives a double word 11.
@@ -53,10 +66,12 @@ pub struct OtherMakers<B> {
 }
 
 impl<B: Bus + Drop> OtherMakers<B> {
-    /// Returns a bus over `bus`. `missing` is each byte of a unique ID that the chip doesn't have. `refuses`
-    /// says whether a chip must erase sectors of 4 KiB everywhere, and have pages of at least 256 bytes.
-    pub fn new(bus: B, missing: u8, refuses: bool) -> OtherMakers<B>
+    /// Returns a bus over `bus`. `rows` are the IDs of the chips that have a row, and `missing` is each byte of a
+    /// unique ID that the chip doesn't have. `refuses` says whether a chip without a row must erase sectors of 4 KiB
+    /// everywhere, and have pages of at least 256 bytes.
+    pub fn new(bus: B, rows: &'static [[u8; 3]], missing: u8, refuses: bool) -> OtherMakers<B>
         ensures bus { adapted_by result ≡ bus }
+        ensures rows { rows_of result ≡ rows.now }
         ensures missing { missing_as result ≡ missing }
         ensures uneven { refuses_uneven result ≡ refuses }
         ensures word_11 { has_word_11 result ≡ false }
@@ -65,6 +80,7 @@ impl<B: Bus + Drop> OtherMakers<B> {
     {
         OtherMakers {
             bus,
+            rows,
             missing,
             refuses_uneven: refuses,
             has_word_11: false,
@@ -80,8 +96,8 @@ impl<B: Bus + Drop> OtherMakers<B> {
         &self.bus
     }
 
-    /// Returns whether the last SFDP table that was read for a chip that must not have them says that its pages have
-    /// fewer than 256 bytes.
+    /// Returns whether the last SFDP table that was read with its double word 11 says that a page has fewer than 256
+    /// bytes.
     pub fn has_small_pages(&self) -> bool
         ensures { result ≡ has_small_pages self.now }
     {
@@ -93,31 +109,115 @@ impl<B: Bus> OtherMakers<B> {
     // Makes one transaction, and does not add it to the history.
     fn carry(&mut self, out: &[u8], reply: &mut [u8]) -> Result<(), Stopped>
         ensures history { history_of self.new ≡ history_of self.old }
+        ensures rows { rows_of self.new ≡ rows_of self.old }
         ensures missing { missing_as self.new ≡ missing_as self.old }
         ensures uneven { refuses_uneven self.new ≡ refuses_uneven self.old }
-        ensures passes { begins_with 0x4B out.now ≡ false → begins_with 0x5A out.now ≡ false
+        ensures passes { is_unique_read out.now ≡ false → is_table_read out.now reply.old ≡ false
             → Transfers out.now reply.old reply.new result
             (B.state (adapted_by self.old)) (B.state (adapted_by self.new)) }
-        ensures len { length reply.new ≡ length reply.old }
-        ensures ok { OnOk result (ShowsReply (missing_as self.old) (refuses_uneven self.old)
-            (looks_further self.old out.now reply.old) out.now reply.new
+        ensures unique { is_unique_read out.now ≡ true → OnOk result (ShowsUnique (missing_as self.old)
+            out.now reply.new
             (B.state (adapted_by self.old)).history (B.state (adapted_by self.new)).history) }
-        ensures stops { OnErr result ((B.state (adapted_by self.new)).history
-            ≡ stopped out.now ∷ (B.state (adapted_by self.old)).history) }
+        ensures table { is_table_read out.now reply.old ≡ true → OnOk result (ShowsTable (rows_of self.old)
+            (refuses_uneven self.old) (looks_further self.old) out.now reply.new
+            (B.state (adapted_by self.old)).history (B.state (adapted_by self.new)).history) }
+        ensures nature { SameNature (B.state (adapted_by self.old)) (B.state (adapted_by self.new)) }
+        ensures steps { IsHonestFor out.now (length reply.old) (inside_adapted B.state self.old) → OnOk result
+            (MakesStep out.now reply.new (B.state (adapted_by self.old)) (B.state (adapted_by self.new))) }
+        ensures stops { IsHonestFor out.now (length reply.old) (inside_adapted B.state self.old) → OnErr result
+            (AtStop out.now (B.state (adapted_by self.old)) (B.state (adapted_by self.new))) }
     {
-        if self.refuses_uneven && self.has_word_11 && is_table_read(out, reply) {
-            return self.judge(out, reply);
+        if is_table_read(out, reply) {
+            return self.read_table(out, reply);
+        }
+        if is_unique_read(out) {
+            return self.read_unique(out, reply);
         }
         self.bus.transfer(out, reply)?;
         self.remember(out, reply);
-        show(self.missing, self.refuses_uneven, out, reply);
         Ok(())
+    }
+
+    // Reads a unique ID. If it is none and the chip answers 9Fh, fills `reply` with `missing`.
+    fn read_unique(&mut self, out: &[u8], reply: &mut [u8]) -> Result<(), Stopped>
+        requires { is_unique_read out.now ≡ true }
+        ensures history { history_of self.new ≡ history_of self.old }
+        ensures rows { rows_of self.new ≡ rows_of self.old }
+        ensures missing { missing_as self.new ≡ missing_as self.old }
+        ensures uneven { refuses_uneven self.new ≡ refuses_uneven self.old }
+        ensures shown { OnOk result (ShowsUnique (missing_as self.old) out.now reply.new
+            (B.state (adapted_by self.old)).history (B.state (adapted_by self.new)).history) }
+        ensures nature { SameNature (B.state (adapted_by self.old)) (B.state (adapted_by self.new)) }
+        ensures steps { IsHonestFor out.now (length reply.old) (inside_adapted B.state self.old) → OnOk result
+            (MakesStep out.now reply.new (B.state (adapted_by self.old)) (B.state (adapted_by self.new))) }
+        ensures stops { IsHonestFor out.now (length reply.old) (inside_adapted B.state self.old) → OnErr result
+            (AtStop out.now (B.state (adapted_by self.old)) (B.state (adapted_by self.new))) }
+    {
+        self.bus.transfer(out, reply)?;
+        if !is_missing(reply) {
+            return Ok(());
+        }
+        if self.read_id()? != UNANSWERED {
+            reply.fill(self.missing);
+        }
+        Ok(())
+    }
+
+    // Reads an SFDP table. If the chip has no row, changes the table as `new` was told to.
+    fn read_table(&mut self, out: &[u8], reply: &mut [u8]) -> Result<(), Stopped>
+        requires { length reply.old ≡ 36 }
+        ensures history { history_of self.new ≡ history_of self.old }
+        ensures rows { rows_of self.new ≡ rows_of self.old }
+        ensures missing { missing_as self.new ≡ missing_as self.old }
+        ensures uneven { refuses_uneven self.new ≡ refuses_uneven self.old }
+        ensures shown { OnOk result (ShowsTable (rows_of self.old) (refuses_uneven self.old) (looks_further self.old)
+            out.now reply.new
+            (B.state (adapted_by self.old)).history (B.state (adapted_by self.new)).history) }
+        ensures nature { SameNature (B.state (adapted_by self.old)) (B.state (adapted_by self.new)) }
+        ensures steps { IsHonestFor out.now (length reply.old) (inside_adapted B.state self.old) → OnOk result
+            (MakesStep out.now reply.new (B.state (adapted_by self.old)) (B.state (adapted_by self.new))) }
+        ensures stops { IsHonestFor out.now (length reply.old) (inside_adapted B.state self.old) → OnErr result
+            (AtStop out.now (B.state (adapted_by self.old)) (B.state (adapted_by self.new))) }
+    {
+        let id = self.read_id()?;
+        if !has_no_row(self.rows, id) {
+            return self.bus.transfer(out, reply);
+        }
+        if self.refuses_uneven && self.has_word_11 {
+            return self.judge(out, reply);
+        }
+        self.bus.transfer(out, reply)?;
+        let is_refused = self.refuses_uneven && is_uneven(reply);
+        show_table(is_refused, reply);
+        Ok(())
+    }
+
+    // Reads the ID.
+    fn read_id(&mut self) -> Result<[u8; 3], Stopped>
+        ensures history { history_of self.new ≡ history_of self.old }
+        ensures rows { rows_of self.new ≡ rows_of self.old }
+        ensures missing { missing_as self.new ≡ missing_as self.old }
+        ensures uneven { refuses_uneven self.new ≡ refuses_uneven self.old }
+        ensures word_11 { has_word_11 self.new ≡ has_word_11 self.old }
+        ensures read { IfOk result (λ id. (B.state (adapted_by self.new)).history
+            ≡ replied (0x9F ∷ []) id ∷ (B.state (adapted_by self.old)).history) }
+        ensures id { IfOk result (λ id. IsIdOf id (B.state (adapted_by self.old))) }
+        ensures nature { SameNature (B.state (adapted_by self.old)) (B.state (adapted_by self.new)) }
+        ensures keeps { (B.state (adapted_by self.old)).honest ≡ true
+            → OnOk result (KeepsAll (B.state (adapted_by self.old)) (B.state (adapted_by self.new))) }
+        ensures stops { (B.state (adapted_by self.old)).honest ≡ true
+            → OnErr result (StopsUnread (B.state (adapted_by self.old)) (B.state (adapted_by self.new))) }
+    {
+        let mut id = [0; 3];
+        self.bus.transfer(&[READ_ID], &mut id)?;
+        Ok(id)
     }
 
     // Records what the reply to a transaction says about the table.
     fn remember(&mut self, out: &[u8], reply: &[u8])
         ensures bus { adapted_by self.new ≡ adapted_by self.old }
         ensures history { history_of self.new ≡ history_of self.old }
+        ensures rows { rows_of self.new ≡ rows_of self.old }
         ensures missing { missing_as self.new ≡ missing_as self.old }
         ensures uneven { refuses_uneven self.new ≡ refuses_uneven self.old }
     {
@@ -130,13 +230,12 @@ impl<B: Bus> OtherMakers<B> {
     fn judge(&mut self, out: &[u8], reply: &mut [u8]) -> Result<(), Stopped>
         requires { length reply.old ≡ 36 }
         ensures history { history_of self.new ≡ history_of self.old }
+        ensures rows { rows_of self.new ≡ rows_of self.old }
         ensures missing { missing_as self.new ≡ missing_as self.old }
         ensures uneven { refuses_uneven self.new ≡ refuses_uneven self.old }
-        ensures len { length reply.new ≡ length reply.old }
-        ensures ok { OnOk result (ShowsReply (missing_as self.old) (refuses_uneven self.old) true out.now reply.new
+        ensures nature { SameNature (B.state (adapted_by self.old)) (B.state (adapted_by self.new)) }
+        ensures shown { OnOk result (ShowsJudged out.now reply.new
             (B.state (adapted_by self.old)).history (B.state (adapted_by self.new)).history) }
-        ensures stops { OnErr result ((B.state (adapted_by self.new)).history
-            ≡ stopped out.now ∷ (B.state (adapted_by self.old)).history) }
     {
         let mut longer = [0; LONGER_TABLE];
         self.bus.transfer(out, &mut longer)?;
@@ -149,25 +248,34 @@ impl<B: Bus> OtherMakers<B> {
 impl<B: Bus> Bus for OtherMakers<B> {
     ghost state = { other_makers_state B.state };
 
-    ghost reaches = { λ other honest. absurd (false≢true honest) };
+    ghost reaches = { λ other honest. B.reaches other.bus (and_parts _ _ honest).0 };
 
     fn transfer(&mut self, out: &[u8], reply: &mut [u8]) -> Result<(), Stopped>
         ensures law { Transfers out.now reply.old reply.new result
             (other_makers_state B.state self.old) (other_makers_state B.state self.new) }
+        ensures rows { rows_of self.new ≡ rows_of self.old }
         ensures missing { missing_as self.new ≡ missing_as self.old }
         ensures uneven { refuses_uneven self.new ≡ refuses_uneven self.old }
-        ensures passes { begins_with 0x4B out.now ≡ false → begins_with 0x5A out.now ≡ false
+        ensures passes { is_unique_read out.now ≡ false → is_table_read out.now reply.old ≡ false
             → Transfers out.now reply.old reply.new result
             (B.state (adapted_by self.old)) (B.state (adapted_by self.new)) }
-        ensures ok { OnOk result (ShowsReply (missing_as self.old) (refuses_uneven self.old)
-            (looks_further self.old out.now reply.old) out.now reply.new
+        ensures unique { is_unique_read out.now ≡ true → OnOk result (ShowsUnique (missing_as self.old)
+            out.now reply.new
             (B.state (adapted_by self.old)).history (B.state (adapted_by self.new)).history) }
-        ensures stops { OnErr result ((B.state (adapted_by self.new)).history
-            ≡ stopped out.now ∷ (B.state (adapted_by self.old)).history) }
+        ensures table { is_table_read out.now reply.old ≡ true → OnOk result (ShowsTable (rows_of self.old)
+            (refuses_uneven self.old) (looks_further self.old) out.now reply.new
+            (B.state (adapted_by self.old)).history (B.state (adapted_by self.new)).history) }
     {
-        let outcome = self.carry(out, reply);
-        self.history = self.history.ended(out, reply, outcome);
-        outcome
+        match self.carry(out, reply) {
+            Ok(()) => {
+                self.history = self.history.replied(out, reply);
+                Ok(())
+            }
+            Err(Stopped) => {
+                self.history = self.history.stopped(out);
+                Err(Stopped)
+            }
+        }
     }
 
     fn has_further_types(&self) -> bool {
@@ -175,15 +283,11 @@ impl<B: Bus> Bus for OtherMakers<B> {
     }
 }
 
-// Makes of the reply to a transaction what this bus returns.
-fn show(missing: u8, refuses_uneven: bool, out: &[u8], reply: &mut [u8])
-    ensures { reply.new ≡ adapted_reply missing refuses_uneven out.now reply.old }
+// Returns whether a chip has an ID, which is none of `rows`.
+fn has_no_row(rows: &[[u8; 3]], id: [u8; 3]) -> bool
+    ensures { result ≡ has_no_row rows.now id }
 {
-    if is_unique_read(out) && is_missing(reply) {
-        reply.fill(missing);
-    } else if is_table_read(out, reply) {
-        show_table(refuses_uneven && is_uneven(reply), reply);
-    }
+    id != UNANSWERED && !is_id_listed(rows, id)
 }
 
 // Fills `reply` with what this bus returns of an SFDP table that it read with its double word 11.
@@ -235,11 +339,11 @@ fn is_table_read(out: &[u8], reply: &[u8]) -> bool
     matches!(out, [READ_SFDP, ..]) && reply.len() == TABLE
 }
 
-// Returns whether a transaction begins with the opcode of a read of the unique ID.
+// Returns whether a transaction reads the unique ID.
 fn is_unique_read(out: &[u8]) -> bool
     ensures { result ≡ is_unique_read out.now }
 {
-    matches!(out, [READ_UNIQUE, ..])
+    matches!(out, [READ_UNIQUE, _, _, _, _])
 }
 
 // Returns whether a reply is eight bytes FFh, or eight bytes 00h.
