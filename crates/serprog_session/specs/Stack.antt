@@ -3,6 +3,7 @@ use Rattle.std.specs.Prelude.{◌≡◌, ◌≤◌, ◌+◌, Bool, true, false}
 use Rattle.nor_model.specs.declared.bus.Bus.{Ghosts}
 use Rattle.nor_buses.specs.declared.ahead.ReadAhead.{ReadAhead}
 use Rattle.nor_buses.specs.declared.kept_quad.KeptQuad.{KeptQuad}
+use Rattle.nor_buses.specs.declared.other_makers.OtherMakers.{OtherMakers}
 use Rattle.nor_buses.specs.declared.known_status2.KnownStatus2.{KnownStatus2}
 use Rattle.nor_buses.specs.declared.same_chip.SameChip.{SameChip}
 use Rattle.nor_buses.specs.declared.twice.ReadTwice.{ReadTwice}
@@ -11,11 +12,13 @@ use Rattle.nor_buses.specs.declared.splitting.SplittingBus.{SplittingBus}
 use Rattle.nor_buses.specs.declared.watched.Watched.{Watched}
 use Rattle.nor_buses.specs.declared.paced.Paced.{Paced}
 use Rattle.nor_buses.specs.Ahead.{ahead_of, longest_of}
+use Rattle.nor_buses.specs.Adapted.{keeps_replies}
 use Rattle.nor_buses.specs.Bit6.{keeps_bit6}
 use Rattle.nor_buses.specs.Checked.{bus_of}
 use Rattle.nor_buses.specs.KeptQuad.{kept_by, rows_of, hides_of}
 use Rattle.nor_buses.specs.KnownStatus2.{known_by, ids_of, before_of}
 use Rattle.nor_buses.specs.Listed.{is_listed_chip}
+use Rattle.nor_buses.specs.OtherMakers.{adapted_by, rows_of as listed_by}
 use Rattle.nor_buses.specs.Paced.{paced_of}
 use Rattle.nor_buses.specs.SameChip.{checked_by}
 use Rattle.nor_buses.specs.Splitting.{split_of, sends_most, receives_most, reads_longer, takes_whole}
@@ -29,28 +32,37 @@ use Rattle.nor_serprog.specs.Batching.{port_in, waits_of, has_further}
 abbrev pub Known : (S : Type 0) (over : Ghosts S) → Ghosts (ReadTwice (CheckedStatus S over)) → Type 0
 Known S over twice = KnownStatus2 (ReadTwice (CheckedStatus S over)) twice
 
--- The layer that hides QE, below the layers that read ahead and compare the ID.
-abbrev pub kept_below : {B : Type 0} {below : Ghosts B} {ahead : Ghosts (SameChip (KeptQuad B below))}
-    → ReadAhead (SameChip (KeptQuad B below)) ahead → KeptQuad B below
-kept_below stack = checked_by (ahead_of stack)
+-- The layers `OtherMakers` and `KeptQuad`, over the layers from `KnownStatus2` down.
+abbrev pub Adapted : (B : Type 0) → Ghosts B → Type 0
+Adapted B below = OtherMakers (KeptQuad B below)
+
+-- The layer that changes replies of other makers' chips, below those that read ahead and compare the unique ID.
+abbrev pub other_below : {B : Type 0} {below : Ghosts B} {ahead : Ghosts (SameChip (Adapted B below))}
+    → ReadAhead (SameChip (Adapted B below)) ahead → Adapted B below
+other_below stack = checked_by (ahead_of stack)
+
+-- The layer that hides QE.
+abbrev pub kept_below : {B : Type 0} {below : Ghosts B} {ahead : Ghosts (SameChip (Adapted B below))}
+    → ReadAhead (SameChip (Adapted B below)) ahead → KeptQuad B below
+kept_below stack = adapted_by (other_below stack)
 
 -- The layer that reads status 2 only from a chip that has this register.
-abbrev pub known_in : {B : Type 0} {below : Ghosts B} {ahead : Ghosts (SameChip (KeptQuad B below))}
-    → ReadAhead (SameChip (KeptQuad B below)) ahead → B
+abbrev pub known_in : {B : Type 0} {below : Ghosts B} {ahead : Ghosts (SameChip (Adapted B below))}
+    → ReadAhead (SameChip (Adapted B below)) ahead → B
 known_in stack = kept_by (kept_below stack)
 
 -- The layer that splits transactions, below the layers that check them.
 abbrev pub splitting_in : {S : Type 0} {over : Ghosts S} {twice : Ghosts (ReadTwice (CheckedStatus S over))}
-    {below : Ghosts (Known S over twice)} {ahead : Ghosts (SameChip (KeptQuad (Known S over twice) below))}
-    → ReadAhead (SameChip (KeptQuad (Known S over twice) below)) ahead → S
+    {below : Ghosts (Known S over twice)} {ahead : Ghosts (SameChip (Adapted (Known S over twice) below))}
+    → ReadAhead (SameChip (Adapted (Known S over twice) below)) ahead → S
 splitting_in stack = bus_of (twice_of (known_by (known_in stack)))
 
 -- The bus to the programmer, below all layers.
 abbrev pub batching_below : {B C : Type 0} {over : Ghosts (SplittingBus (Watched (Paced B C)))}
     {twice : Ghosts (ReadTwice (CheckedStatus (SplittingBus (Watched (Paced B C))) over))}
     {below : Ghosts (Known (SplittingBus (Watched (Paced B C))) over twice)}
-    {ahead : Ghosts (SameChip (KeptQuad (Known (SplittingBus (Watched (Paced B C))) over twice) below))}
-    → ReadAhead (SameChip (KeptQuad (Known (SplittingBus (Watched (Paced B C))) over twice) below)) ahead → B
+    {ahead : Ghosts (SameChip (Adapted (Known (SplittingBus (Watched (Paced B C))) over twice) below))}
+    → ReadAhead (SameChip (Adapted (Known (SplittingBus (Watched (Paced B C))) over twice) below)) ahead → B
 batching_below stack = paced_of (watched_by (split_of (splitting_in stack)))
 
 -- The layers over the port `P`, down to the one that splits transactions.
@@ -61,18 +73,19 @@ Split P X C port = SplittingBus (Watched (Paced (BatchingBus P X port) C))
 abbrev pub port_below : {P X C : Type 0} {port : PortGhosts P X} {over : Ghosts (Split P X C port)}
     {twice : Ghosts (ReadTwice (CheckedStatus (Split P X C port) over))}
     {below : Ghosts (Known (Split P X C port) over twice)}
-    {ahead : Ghosts (SameChip (KeptQuad (Known (Split P X C port) over twice) below))}
-    → ReadAhead (SameChip (KeptQuad (Known (Split P X C port) over twice) below)) ahead → P
+    {ahead : Ghosts (SameChip (Adapted (Known (Split P X C port) over twice) below))}
+    → ReadAhead (SameChip (Adapted (Known (Split P X C port) over twice) below)) ahead → P
 port_below stack = port_in (batching_below stack)
 
 -- Holds if the layers over a well-behaved port are a well-behaved bus to the programmer's chip: the `BatchingBus` is
 -- one that `BatchingBus::emulated` returned, the programmer takes a page program and reads a sector and the longest
--- block, the layers know the chip's ID, and no write enable waits.
+-- block, the layers know the chip's ID and don't hide bit 6 of its status 1, the chip has a unique ID, and no write
+-- enable waits.
 pub record IsFit {P X C : Type 0} {port : PortGhosts P X} {over : Ghosts (Split P X C port)}
     {twice : Ghosts (ReadTwice (CheckedStatus (Split P X C port) over))}
     {below : Ghosts (Known (Split P X C port) over twice)}
-    {ahead : Ghosts (SameChip (KeptQuad (Known (Split P X C port) over twice) below))}
-    (stack : ReadAhead (SameChip (KeptQuad (Known (Split P X C port) over twice) below)) ahead) : Type 0 where
+    {ahead : Ghosts (SameChip (Adapted (Known (Split P X C port) over twice) below))}
+    (stack : ReadAhead (SameChip (Adapted (Known (Split P X C port) over twice) below)) ahead) : Type 0 where
   pub emulated : has_further (batching_below stack) ≡ false
   pub whole : takes_whole (sends_most (splitting_in stack)) (receives_most (splitting_in stack)) ≡ true
   pub blocks : longest_of stack ≤ 4096 + reads_longer (receives_most (splitting_in stack)) true 0
@@ -82,4 +95,6 @@ pub record IsFit {P X C : Type 0} {port : PortGhosts P X} {over : Ghosts (Split 
   -- bit 6 of status 1 is returned as the chip returns it
   pub bit6 : keeps_bit6 (rows_of (kept_below stack)) (hides_of (kept_below stack))
       (port.state (port_below stack)).device.chip.config ≡ true
+  -- no reply of the chip is changed
+  pub replies : keeps_replies (listed_by (other_below stack)) (port.state (port_below stack)).device.chip.config ≡ true
   pub empty : waits_of (batching_below stack) ≡ false

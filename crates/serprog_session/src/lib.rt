@@ -30,7 +30,7 @@
 //! - `calls.rt`: a session, a restore, a rewrite and a backup over a `SerprogBus`
 //! - `laws.rt`: laws (theorems) about what happens between a session and its restores
 //! - `sim_port.rt`: a simulated port to a simulated programmer with a simulated chip
-//! - `stack.rt`: nine layers of nor_buses over a `BatchingBus`, and when they are together a well-behaved bus
+//! - `stack.rt`: the layers of nor_buses over a `BatchingBus`, and when they are together a well-behaved bus
 //! - `stacked.rt`: the calls of `calls.rt` over these layers
 //!
 //! `specs/Headline.antt` contains the promises of these calls.

@@ -1,30 +1,32 @@
 //! The layers of `flashnor-serprog` over a port, and that they are together a well-behaved bus.
 ghost use Rattle.std.specs.Prelude.{◌≡◌, ◌≤◌, ◌+◌, true, false};
 ghost use Rattle.nor_buses.specs.Ahead.{longest_of};
+ghost use Rattle.nor_buses.specs.Adapted.{keeps_replies};
 ghost use Rattle.nor_buses.specs.Bit6.{keeps_bit6};
 ghost use Rattle.nor_buses.specs.KeptQuad.{rows_of, hides_of};
 ghost use Rattle.nor_buses.specs.KnownStatus2.{ids_of, before_of};
 ghost use Rattle.nor_buses.specs.Listed.{is_listed_chip};
+ghost use Rattle.nor_buses.specs.OtherMakers.{rows_of as listed_by};
 ghost use Rattle.nor_buses.specs.Splitting.{sends_most, receives_most, reads_longer, takes_whole};
 ghost use Rattle.nor_serprog.specs.Batching.{waits_of, has_further};
 ghost use Rattle.nor_serprog.specs.Enabled.{enabled};
-ghost use Rattle.serprog_session.specs.Stack.{kept_below, known_in, splitting_in, batching_below, port_below};
+ghost use Rattle.serprog_session.specs.Stack.{other_below, kept_below, known_in, splitting_in, batching_below, port_below};
 
 use nor_buses::{Layered, layers_are_well_behaved};
 use nor_model::Bus;
 use nor_serprog::{BatchingBus, Port};
 use std::time::Clock;
 
-/// The nine layers of `Layered` over a `BatchingBus`, in the order of `flashnor-serprog`. The program has one more
-/// layer between them (`OtherMakers`), of which this law says nothing.
+/// The layers of `flashnor-serprog` over a `BatchingBus`, in the program's order.
 pub type Stack<P, C> = Layered<BatchingBus<P>, C>;
 
 /// States that the layers are together a well-behaved bus if the port is well-behaved, the `BatchingBus` is one that
 /// `BatchingBus::emulated` returned, and the programmer and its chip fit them.
 ///
 /// The programmer must take a page program, the read of a sector and that of the longest block. The chip must have an
-/// ID that `KnownStatus2` knows and, if `KeptQuad` hides QE, one of its `rows`. The chip of the bus is the
-/// programmer's, with the write enable latch set while a write enable waits.
+/// ID that `KnownStatus2` knows, an ID of the `rows` of `OtherMakers` and, if `KeptQuad` hides QE, one of its `rows`.
+/// Its unique ID must not be eight bytes FFh or 00h. The chip of the bus is the programmer's, with the write enable
+/// latch set while a write enable waits.
 pub fn stack_is_well_behaved<P: Port + Drop, C: Clock + Drop>(bus: &Stack<P, C>)
     ensures honest { let port = P.state (port_below bus.now) in
         let splitting = splitting_in bus.now in
@@ -34,6 +36,7 @@ pub fn stack_is_well_behaved<P: Port + Drop, C: Clock + Drop>(bus: &Stack<P, C>)
         → longest_of bus.now ≤ 4096 + reads_longer (receives_most splitting) true 0
         → is_listed_chip (ids_of known) (before_of known) port.device.chip.config ≡ true
         → keeps_bit6 (rows_of (kept_below bus.now)) (hides_of (kept_below bus.now)) port.device.chip.config ≡ true
+        → keeps_replies (listed_by (other_below bus.now)) port.device.chip.config ≡ true
         → (⟦<Stack<P, C> as Bus>⟧.state bus.now).honest ≡ true }
     ensures chip { (⟦<Stack<P, C> as Bus>⟧.state bus.now).chip
         ≡ enabled (waits_of (batching_below bus.now)) (P.state (port_below bus.now)).device.chip }

@@ -22,9 +22,9 @@ use std::time::Clock;
 ///
 /// The promises about the programmer's chip hold if the stack fits the programmer (`IsFit`): the `BatchingBus` is one
 /// that `BatchingBus::emulated` returned, the programmer takes a page program and the reads of a sector and of the
-/// longest block, the layers know the chip's ID and don't hide bit 6 of its status 1, and no write enable waits at the
-/// start. The layers may send several transactions for one, so they may stop at any transaction, and error 12 does not
-/// show that the port had few calls left (`uncounted`).
+/// longest block, the layers know the chip's ID and don't hide bit 6 of its status 1, the chip has a unique ID, and no
+/// write enable waits at the start. The layers may send several transactions for one, so they may stop at any
+/// transaction, and error 12 does not show that the port had few calls left (`uncounted`).
 ///
 /// On every port, no modifying command is sent to the layers before the vault is sealed.
 pub fn session_over_layers<P: Port + Drop, C: Clock + Drop, V: Vault>(

@@ -6,10 +6,12 @@ both : (honest further : Bool) → honest ≡ true → further ≡ false → (ho
 both honest further is known = ap (λ (b : Bool). b && not further) is ∙ ap (λ (b : Bool). not b) known
 
 pub returns-clause-honest : goal.returns-clause-honest
-returns-clause-honest g c honest emulated whole short known bit6 = c.layers_are_well_behaved.ensures.honest (record {
-  honest = both _ _ honest emulated;
-  whole = whole;
-  block = short;
-  known = known;
-  bit6 = bit6;
-})
+returns-clause-honest g c honest emulated whole short known bit6 replies =
+    c.layers_are_well_behaved.ensures.honest (record {
+      honest = both _ _ honest emulated;
+      whole = whole;
+      block = short;
+      known = known;
+      bit6 = bit6;
+      replies = replies;
+    })

@@ -11,7 +11,7 @@ returns-clause-restores_original g c = λ fit reaches.
     unpunctual (g.P.Port.state (port_below c.args.bus.now)) (g.P.Port.state (port_below c.restore.new.bus))
     (waits_of (batching_below c.args.bus.now)) (waits_of (batching_below c.restore.new.bus)) (ahead_state c.args.bus.now)
     (ahead_state c.restore.new.bus) fit.empty
-    (λ honest. c.stack_is_well_behaved.ensures.honest honest fit.emulated fit.whole fit.blocks fit.known fit.bit6)
+    (λ honest. c.stack_is_well_behaved.ensures.honest honest fit.emulated fit.whole fit.blocks fit.known fit.bit6 fit.replies)
     refl in
     restores _ _ _ _ _ _ _ _ over (c.restore.ensures.restores_original (modelled _ _ _ _ _ _ over (still_reaches _ reaches)))
     (c.restore.ensures.honest (over.honest reaches.honest))
