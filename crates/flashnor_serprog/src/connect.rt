@@ -54,9 +54,9 @@ pub struct Connected<'a> {
     pub bus: ChipBus<'a>,
 }
 
-// The IDs of the chips that return status 2 for 35h. They are the chips of all rows of nor_probe. Source: the
-// datasheets of these chips, Read Status Register-2.
-const WITH_STATUS2: [[u8; 3]; 9] = [
+// The IDs of the chips that have a row in nor_probe. These chips return status 2 for 35h (their datasheets, Read Status
+// Register-2).
+const WITH_ROW: [[u8; 3]; 9] = [
     [0xEF, 0x40, 0x16],
     [0xEF, 0x40, 0x17],
     [0xEF, 0x40, 0x18],
@@ -185,9 +185,9 @@ fn connect<'a>(
     let watched = Watched::new(paced);
     let splitting = SplittingBus::new(watched, programmer.longest_part(), longest_read);
     let twice = reading_twice(checking(splitting, rules.checks), image);
-    let known = KnownStatus2::new(twice, &WITH_STATUS2, rules.before);
-    let kept = KeptQuad::new(known, &WITH_STATUS2, rules.hides_quad);
-    let other = OtherMakers::new(kept, rules.missing_unique, rules.refuses_uneven);
+    let known = KnownStatus2::new(twice, &WITH_ROW, rules.before);
+    let kept = KeptQuad::new(known, &WITH_ROW, rules.hides_quad);
+    let other = OtherMakers::new(kept, &WITH_ROW, rules.missing_unique, rules.refuses_uneven);
     let bus = SameChip::new(other);
     Ok(Connected {
         device,
