@@ -21,6 +21,8 @@ QUERY_VERSION = b"\x01"
 STATUS_TWICE = (b"\x05", 2)
 TWICE = (READ_ID, READ_SFDP, READ_UNIQUE, 0x35)
 CONFIRM = (bytes([READ_ID]), 3)
+# The bytes of an SFDP table that identify a chip.
+TABLE_LEN = 36
 WRITE_ENABLE = (b"\x06", 0)
 PROTECTION_1 = 0x7C
 # The greatest length of a block that is read ahead, and the opcodes that modify a chip.
@@ -242,7 +244,8 @@ def carried(plan, longest=BLOCK, chip=None, image=None):
     other transaction. It is read twice. Before the first modifying command the unique ID is read again, if it was read.
     If an image is expected, only the sectors that differ from it are read again; `chip` is a model of the
     chip before the plan, which is changed. Other replies are compared as `compared` says. After each of these reads the
-    ID is read. Status 2 isn't read from a chip that is identified by its SFDP, whose table has nine double words.
+    ID is read. Status 2 isn't read from a chip that is identified by its SFDP, whose table has nine double words. Before
+    this table the ID is read, too.
     """
     found, begin, end, step, last = [WAKES], 0, 0, 0, 0
     has_row = all(out[0] != READ_SFDP for out, _ in plan)
@@ -252,6 +255,8 @@ def carried(plan, longest=BLOCK, chip=None, image=None):
             end = begin
             if out[0] in CHANGING and not last and UNIQUE in plan:
                 found += compared(*UNIQUE, last)
+            if out[0] == READ_SFDP and replies == TABLE_LEN:
+                found += compared(command(READ_ID), 3, last)
             if has_row or item != READ_STATUS_2:
                 found += compared(out, replies, last)
             last = out[0] if out[0] in CHANGING else 0x05 if last else 0
@@ -346,7 +351,7 @@ def probe(part):
     """Returns the plan of a probe. A part that the table doesn't have is identified by its SFDP."""
     plan = [POLL, (command(READ_ID), 3)]
     if not PARTS[part].has_row:
-        plan += [(command(READ_SFDP, at, 1), length) for at, length in ((0, 8), (8, 8), (16, 36))]
+        plan += [(command(READ_SFDP, at, 1), length) for at, length in ((0, 8), (8, 8), (16, TABLE_LEN))]
     return plan
 
 
