@@ -19,6 +19,8 @@ ALLOWED = {
     *"cause_of is_ready link_of polled_ready_of port_in sent_of serprog_state".split(),
     # the history of each kind of bus
     "history_of",
+    # the IDs of the rows that two buses of nor_buses were given: each reads them from its own field
+    "rows_of",
     # the errors of a restore, by a choice: of the bench program, and of a call over a port
     "FailsBy",
 }
