@@ -5,12 +5,14 @@ use crate::row::{Row, Start};
 use crate::runs::Runs;
 
 // Each row has the first allowance, and the number of runs up to the session's length. On the W25Q64FV the first
-// allowance is three below the seal, because the transactions before that only read the chip.
-const ROWS: [(Row, u64, u64); 4] = [
+// allowance is three below the seal, because the transactions before that only read the chip, or two below the length.
+const ROWS: [(Row, u64, u64); 6] = [
     (Row::ABitFalls, 0, 29),
     (Row::NineSectorsAreErased, 0, 39),
     (Row::TheChipIsErased, 0, 43),
     (Row::AByteBelowTheGuardIsProgrammed, 2049, 9),
+    (Row::ABitOf64BytesRises, 0, 16),
+    (Row::AGuardedByteOfASectorIsProgrammed, 14, 3),
 ];
 
 #[test]

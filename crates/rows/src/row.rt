@@ -105,6 +105,10 @@ pub enum Row {
     EachPageIsProgrammed,
     /// Erases sectors 8 to 39 of a chip of 256 KiB, with three erases of 32, 64 and 32 KiB.
     ThirtyTwoSectorsAreErased,
+    /// Changes a bit of each of the first 64 bytes from 0 to 1, in the only included sector: an erase and a program.
+    ABitOf64BytesRises,
+    /// Like `AGuardedByteIsProgrammed`, but only the sector of the byte is included.
+    AGuardedByteOfASectorIsProgrammed,
 }
 
 #[derive(Clone, Copy)]
@@ -254,6 +258,8 @@ impl Row {
             Row::AGuardedByteIsProgrammed => on_w25q64fv(run(0x7E_0000, &[0x00]), true, 2063, 3),
             Row::EachPageIsProgrammed => each_page_is_programmed(),
             Row::ThirtyTwoSectorsAreErased => thirty_two_sectors_are_erased(),
+            Row::ABitOf64BytesRises => a_bit_of_64_bytes_rises(),
+            Row::AGuardedByteOfASectorIsProgrammed => a_guarded_byte_of_a_sector_is_programmed(),
         }
     }
 }
@@ -297,6 +303,24 @@ fn the_rest_of_a_sector_stays() -> Written {
         part: Some(b"0x800:0x8ff part"),
         sealed: 8,
         ..on_tiny64(first(4096, 0x00), ERASED, 57, 16)
+    }
+}
+
+// The scan reads one sector of 16.
+fn a_bit_of_64_bytes_rises() -> Written {
+    Written {
+        part: Some(b"0x0:0xfff part"),
+        sealed: 8,
+        ..on_tiny64(first(64, 0x00), first(64, 0x01), 15, 2)
+    }
+}
+
+// The scan reads one sector of 2,048.
+fn a_guarded_byte_of_a_sector_is_programmed() -> Written {
+    Written {
+        part: Some(b"0x7e0000:0x7e0fff part"),
+        sealed: 5,
+        ..on_w25q64fv(run(0x7E_0000, &[0x00]), true, 16, 3)
     }
 }
 
