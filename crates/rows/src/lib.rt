@@ -53,6 +53,10 @@ mod serprog_handshakes;
 #[cfg(test)]
 mod serprog_layers;
 #[cfg(test)]
+mod serprog_layers_restores;
+#[cfg(test)]
+mod serprog_layers_stops;
+#[cfg(test)]
 mod serprog_model;
 #[cfg(test)]
 mod serprog_narrow;

@@ -1,19 +1,22 @@
-//! Sessions and restores over nine layers of nor_buses around a serprog bus, in the order of `flashnor-serprog`. The
-//! port fails at each of its calls in turn.
+//! A bench of the ten layers of `flashnor-serprog` over a simulated port, which stops at a given call. The tests are in
+//! `serprog_layers_stops.rt` and `serprog_layers_restores.rt`.
+ghost use Rattle.nor_journal.specs.Vault.{IsFresh};
 
-use crate::held::{assert_held, assert_that};
+use crate::held::assert_held;
 use crate::row::{Row, Start};
-use crate::runs::{Runs, keep};
 use crate::serprog_wrappers::Timer;
 use nor_buses::{
-    CheckedStatus, KeptQuad, KnownStatus2, Layered, Paced, ReadAhead, ReadTwice, SameChip,
+    CheckedStatus, KeptQuad, KnownStatus2, OtherMakers, Paced, ReadAhead, ReadTwice, SameChip,
     SplittingBus, Watched,
 };
 use nor_chip::{Config, SimBus};
-use nor_journal::{Journal, MemVault};
-use nor_serprog::{Link, Programmer, SerprogBus};
-use nor_session::{Refusal, restore};
-use serprog_session::SimPort;
+use nor_journal::{Journal, MemVault, Vault};
+use nor_serprog::{AnyProgrammer, BatchingBus, Failure, Link};
+use nor_session::{Refusal, Report};
+use serprog_session::{
+    SimFailure, SimPort, Stack, backup_over_layers, restore_over_layers, rewrite_over_layers,
+    session_over_layers,
+};
 use std::alloc::Global;
 use std::cell::Cell;
 use std::process::Abort;
@@ -22,161 +25,260 @@ const LONGEST_WRITE: u32 = 260;
 
 const LONGEST_READ: u32 = 4096;
 
-// The ID of TINY64, which has status 2, and SEC as bit 6 of status 1.
-const IDS: [[u8; 3]; 1] = [[0xFE, 0x10, 0x10]];
+// The size of the serial buffer of the simulated programmer.
+const SERIAL_BUFFER: u16 = 512;
 
-// More calls than a handshake and any session or restore takes.
+// The IDs of TINY64 and W25Q64FV, which have status 2, and SEC as bit 6 of status 1.
+const IDS: [[u8; 3]; 2] = [[0xFE, 0x10, 0x10], [0xEF, 0x40, 0x17]];
+
+// The unique ID of the chip. `OtherMakers` replaces one that is FFh or 00h in all bytes.
+const UNIQUE: [u8; 8] = [0xD1, 0x62, 0x10, 0xFF, 0x00, 0x5A, 0xA5, 0x08];
+
+// More calls than a handshake and any run over the layers takes.
 const AMPLE: u64 = 100_000;
 
-type Bench<'a> = Layered<SerprogBus<SimPort>, Timer<'a>>;
+/// More calls than any run over the layers takes after the handshake.
+pub const MOST_CALLS: u64 = 5000;
 
-fn open<'a>(rt: &impl Abort, now: &'a Cell<u64>, port: SimPort) -> Bench<'a> {
-    let mut link = Link::new(port);
-    let programmer = Programmer::identify(&mut link, None)
-        .ok()
-        .expect(rt, "a programmer");
-    // `SerprogBus::new` requires this.
-    assert!(rt; link.port().is_idle());
-    let clock = Timer { now, fails: false };
-    let paced = Paced::new(SerprogBus::new(link, programmer), clock);
-    let splitting = SplittingBus::new(Watched::new(paced), LONGEST_WRITE, LONGEST_READ);
-    let twice = ReadTwice::new(CheckedStatus::new(splitting));
-    let kept = KeptQuad::new(KnownStatus2::new(twice, &IDS, None), &IDS, true);
-    ReadAhead::new(SameChip::new(kept), LONGEST_READ)
+type Layers<'a> = Stack<SimPort, Timer<'a>>;
+
+/// The call of the port that fails: the number of calls after the handshake that succeed before. If the call sends a
+/// frame, the chip receives the first `cut` bytes of the frame's transaction.
+#[derive(Clone, Copy)]
+pub struct Stop {
+    pub calls: u64,
+    pub cut: u32,
 }
 
-fn port_of<'a>(bus: &'a Bench<'_>) -> &'a SimPort {
-    let twice = bus.inner().inner().inner().inner();
-    let splitting = twice.inner().inner();
-    splitting.inner().inner().inner().port()
+impl Stop {
+    /// No call fails.
+    pub const NEVER: Stop = Stop {
+        calls: AMPLE,
+        cut: 0,
+    };
+}
+
+/// Returns the stops at a call that sends a frame. Of the frame's transaction the chip receives no byte, the opcode and
+/// the address, or all bytes.
+pub fn stops_at(calls: u64) -> [Stop; 3] {
+    [
+        Stop { calls, cut: 0 },
+        Stop { calls, cut: 4 },
+        Stop {
+            calls,
+            cut: u32::MAX,
+        },
+    ]
+}
+
+/// The chip that a run over the layers left.
+#[derive(Drop)]
+pub struct Left {
+    pub chip: SimBus,
+    /// True if the run succeeded.
+    pub ended: bool,
+    /// True if the call that failed sends a frame, so that `cut` says what the chip received.
+    pub tears: bool,
+}
+
+/// How a journal is written back to the chip.
+#[derive(Clone, Copy)]
+pub enum Undo {
+    Restore,
+    Rewrite,
+}
+
+/// A row whose chip has a unique ID, over the layers.
+#[derive(Drop)]
+pub struct Bench {
+    alloc: Global,
+    row: Row,
+    before: Vec<u8>,
+    wanted: Vec<u8>,
+    // The number of calls of the port before the first transaction.
+    handshake: u64,
+}
+
+impl Bench {
+    /// Returns the bench of a row whose chip is a TINY64 or a W25Q64FV.
+    pub fn new(rt: &impl Abort, alloc: Global, row: Row) -> Bench {
+        Bench {
+            alloc,
+            row,
+            before: row.before(rt, alloc),
+            wanted: row.wanted(rt, alloc),
+            handshake: handshake(rt, alloc),
+        }
+    }
+
+    /// Returns the chip before the session.
+    pub fn chip(&self, rt: &impl Abort) -> SimBus {
+        let bytes = self.before.clone().expect(rt, "memory");
+        chip_of(rt, self.config(), bytes, self.row.status())
+    }
+
+    /// Returns a chip with the same contents and status, and the same unique ID.
+    pub fn copy(&self, rt: &impl Abort, chip: &SimBus) -> SimBus {
+        let bytes = Vec::from_slice(self.alloc, chip.bytes()).expect(rt, "memory");
+        chip_of(rt, self.config(), bytes, chip.status())
+    }
+
+    /// Runs the row's session. Asserts that its error, if any, is 12 (stopped).
+    pub fn change<V: Vault>(&self, rt: &impl Abort, chip: SimBus, vault: &mut V, stop: Stop) -> Left
+        requires { IsFresh (V.state vault.old) }
+    {
+        let now = Cell::new(0);
+        let mut bus = open(rt, &now, self.port(chip, stop), Job::Change);
+        let mut image = self.wanted.clone().expect(rt, "memory");
+        let request = self.row.request(rt, self.alloc);
+        let answer = session_over_layers(&mut bus, vault, &mut image, &request);
+        self.left(rt, &bus, answer, stop)
+    }
+
+    /// Saves the chip to `vault`. Asserts that the error, if any, is 12 (stopped).
+    pub fn back_up<V: Vault>(
+        &self,
+        rt: &impl Abort,
+        chip: SimBus,
+        vault: &mut V,
+        stop: Stop,
+    ) -> Left
+        requires { IsFresh (V.state vault.old) }
+    {
+        let now = Cell::new(0);
+        let mut bus = open(rt, &now, self.port(chip, stop), Job::Backup);
+        let answer = backup_over_layers(&mut bus, vault, None);
+        self.left(rt, &bus, answer, stop)
+    }
+
+    /// Writes the journal of `vault` back to the chip. Asserts that the error, if any, is 12 (stopped).
+    pub fn undo(
+        &self,
+        rt: &impl Abort,
+        chip: SimBus,
+        vault: &MemVault,
+        undo: Undo,
+        stop: Stop,
+    ) -> Left {
+        let now = Cell::new(0);
+        let mut bus = open(rt, &now, self.port(chip, stop), Job::Undo);
+        let journal = Journal::read(vault.bytes()).expect(rt, "a journal");
+        let answer = match undo {
+            Undo::Restore => restore_over_layers(&mut bus, &journal),
+            Undo::Rewrite => rewrite_over_layers(&mut bus, &journal),
+        };
+        self.left(rt, &bus, answer, stop)
+    }
+
+    /// Restores without a stop if the vault is sealed. Asserts that the chip is as before the session then. `number`
+    /// identifies the run.
+    pub fn assert_restored(&self, rt: &impl Abort, chip: SimBus, vault: &MemVault, number: u64) {
+        if !vault.is_sealed() {
+            self.assert_as_before(rt, &chip, number);
+            return;
+        }
+        let left = self.undo(rt, chip, vault, Undo::Restore, Stop::NEVER);
+        assert_held(rt, left.ended, number);
+        self.assert_as_before(rt, &left.chip, number);
+    }
+
+    /// Asserts that the chip has the same contents and non-volatile status bits as before the session. `number`
+    /// identifies the run.
+    pub fn assert_as_before(&self, rt: &impl Abort, chip: &SimBus, number: u64) {
+        let [one, two] = chip.status();
+        assert_held(rt, chip.bytes() == self.before.as_slice(), number);
+        assert_held(rt, [one & 0xFC, two & 0x7F] == self.row.status(), number);
+    }
+
+    fn config(&self) -> Config {
+        config_of(self.row)
+    }
+
+    fn port(&self, mut chip: SimBus, stop: Stop) -> SimPort {
+        chip.tear(Some(stop.cut));
+        SimPort::new(chip, stop.calls.saturating_add(self.handshake))
+    }
+
+    fn left(
+        &self,
+        rt: &impl Abort,
+        bus: &Layers<'_>,
+        answer: Result<Report, Refusal>,
+        stop: Stop,
+    ) -> Left {
+        let refusal = answer.err();
+        assert_held(
+            rt,
+            matches!(refusal, None | Some(Refusal::Stopped)),
+            stop.calls,
+        );
+        Left {
+            chip: self.copy(rt, batching_of(bus).port().chip()),
+            ended: refusal.is_none(),
+            tears: matches!(
+                batching_of(bus).cause(),
+                Some(Failure::Port(SimFailure::Cut))
+            ),
+        }
+    }
+}
+
+fn config_of(row: Row) -> Config {
+    let config = if row.sectors() == 16 {
+        Config::tiny64()
+    } else {
+        Config::w25q64fv()
+    };
+    config.with_unique(UNIQUE)
+}
+
+fn chip_of(rt: &impl Abort, config: Config, bytes: Vec<u8>, status: [u8; 2]) -> SimBus {
+    SimBus::new(config, bytes, status, Start::IDLE.delays).expect(rt, "a size")
+}
+
+// What the layers are opened for. The program gives them other rules for each.
+#[derive(Clone, Copy)]
+enum Job {
+    Change,
+    Backup,
+    Undo,
+}
+
+// Opens the layers with the rules that `flashnor-serprog` uses for this job.
+fn open<'a>(rt: &impl Abort, now: &'a Cell<u64>, port: SimPort, job: Job) -> Layers<'a> {
+    let clock = Timer { now, fails: false };
+    let paced = Paced::new(connected(rt, port), clock);
+    let splitting = SplittingBus::new(Watched::new(paced), LONGEST_WRITE, LONGEST_READ);
+    let checked = match job {
+        Job::Change => CheckedStatus::guarding(splitting),
+        Job::Backup | Job::Undo => CheckedStatus::new(splitting),
+    };
+    let known = KnownStatus2::new(ReadTwice::new(checked), &IDS, None);
+    let kept = KeptQuad::new(known, &IDS, true);
+    let refuses = matches!(job, Job::Change | Job::Backup);
+    let other = OtherMakers::new(kept, &IDS, 0x00, refuses);
+    ReadAhead::new(SameChip::new(other), LONGEST_READ)
+}
+
+fn connected(rt: &impl Abort, port: SimPort) -> BatchingBus<SimPort> {
+    let mut link = Link::new(port);
+    let programmer = AnyProgrammer::identify(&mut link, None)
+        .ok()
+        .expect(rt, "a programmer");
+    // `BatchingBus::emulated` requires these.
+    assert!(rt; link.port().is_idle());
+    assert!(rt; programmer.serial_buffer() <= SERIAL_BUFFER);
+    BatchingBus::emulated(link, programmer)
+}
+
+fn batching_of<'a>(bus: &'a Layers<'_>) -> &'a BatchingBus<SimPort> {
+    let kept = bus.inner().inner().inner();
+    let splitting = kept.inner().inner().inner().inner();
+    splitting.inner().inner().inner()
 }
 
 fn handshake(rt: &impl Abort, alloc: Global) -> u64 {
-    let now = Cell::new(0);
     let chip = Row::AByteIsProgrammed.bus(rt, alloc, Start::IDLE);
-    let bus = open(rt, &now, SimPort::new(chip, AMPLE));
-    AMPLE.saturating_sub(port_of(&bus).left())
-}
-
-// After the handshake, `calls` calls succeed. Of a frame that fails the chip receives the first `cut` bytes.
-fn port_to(mut chip: SimBus, handshake: u64, calls: u64, cut: u32) -> SimPort {
-    chip.tear(Some(cut));
-    SimPort::new(chip, calls.saturating_add(handshake))
-}
-
-fn copy_of(rt: &impl Abort, alloc: Global, chip: &SimBus) -> SimBus {
-    let bytes = Vec::from_slice(alloc, chip.bytes()).expect(rt, "memory");
-    SimBus::new(Config::tiny64(), bytes, chip.status(), Start::IDLE.delays).expect(rt, "a size")
-}
-
-#[derive(Drop)]
-struct Left {
-    chip: SimBus,
-    vault: MemVault,
-    ended: bool,
-}
-
-// Runs a session, and asserts that its error, if any, is 12 (stopped).
-fn stop_session(
-    rt: &impl Abort,
-    alloc: Global,
-    row: Row,
-    handshake: u64,
-    (calls, cut): (u64, u32),
-) -> Left {
-    let now = Cell::new(0);
-    let port = port_to(row.bus(rt, alloc, Start::IDLE), handshake, calls, cut);
-    let mut bus = open(rt, &now, port);
-    let mut vault = MemVault::new(alloc);
-    let refusal = keep(rt, alloc, row, &mut bus, &mut vault).err();
-    assert_held(rt, matches!(refusal, None | Some(Refusal::Stopped)), calls);
-    Left {
-        chip: copy_of(rt, alloc, port_of(&bus).chip()),
-        vault,
-        ended: refusal.is_none(),
-    }
-}
-
-// Runs a restore, and asserts that its error, if any, is 12 (stopped).
-fn stop_restore(
-    rt: &impl Abort,
-    alloc: Global,
-    left: Left,
-    handshake: u64,
-    (calls, cut): (u64, u32),
-) -> Left {
-    let Left {
-        chip,
-        vault,
-        ended: _,
-    } = left;
-    let now = Cell::new(0);
-    let mut bus = open(rt, &now, port_to(chip, handshake, calls, cut));
-    let journal = Journal::read(vault.bytes()).expect(rt, "a journal");
-    let refusal = restore(&mut bus, &journal).err();
-    assert_held(rt, matches!(refusal, None | Some(Refusal::Stopped)), calls);
-    Left {
-        chip: copy_of(rt, alloc, port_of(&bus).chip()),
-        vault,
-        ended: refusal.is_none(),
-    }
-}
-
-fn assert_restored(rt: &impl Abort, alloc: Global, row: Row, left: Left, handshake: u64) {
-    let left = if left.vault.is_sealed() {
-        stop_restore(rt, alloc, left, handshake, (AMPLE, 0))
-    } else {
-        left
-    };
-    Runs::new(rt, alloc, row, Start::IDLE).assert_as_before(rt, &left.chip);
-}
-
-// How many bytes of a transaction the chip receives at a cut: none, the opcode and the address, or all.
-const CUTS: [u32; 3] = [0, 4, u32::MAX];
-
-// A transaction takes three calls, which get the same value.
-fn cut_at(calls: u64) -> u32 {
-    match calls / 3 % 3 {
-        0 => CUTS[0],
-        1 => CUTS[1],
-        _ => CUTS[2],
-    }
-}
-
-// More calls than a session or a restore takes.
-const MOST_CALLS: u64 = 2000;
-
-#[test]
-fn each_call_of_the_port_fails_in_a_session_over_all_layers(rt: HostRuntime) {
-    let alloc = rt.alloc();
-    let row = Row::ABitRises;
-    let handshake = handshake(&rt, alloc);
-    for calls in 0..MOST_CALLS {
-        let left = stop_session(&rt, alloc, row, handshake, (calls, cut_at(calls)));
-        let has_ended = left.ended;
-        assert_held(&rt, !has_ended || left.vault.is_sealed(), calls);
-        assert_restored(&rt, alloc, row, left, handshake);
-        if has_ended {
-            return;
-        }
-    }
-    assert_that!(&rt; false);
-}
-
-#[test]
-fn each_call_of_the_port_fails_in_a_restore_over_all_layers(rt: HostRuntime) {
-    let alloc = rt.alloc();
-    let row = Row::ABitRises;
-    let handshake = handshake(&rt, alloc);
-    for calls in 0..MOST_CALLS {
-        let changed = stop_session(&rt, alloc, row, handshake, (AMPLE, 0));
-        assert_held(&rt, changed.ended, calls);
-        let left = stop_restore(&rt, alloc, changed, handshake, (calls, cut_at(calls)));
-        let has_ended = left.ended;
-        assert_restored(&rt, alloc, row, left, handshake);
-        if has_ended {
-            return;
-        }
-    }
-    assert_that!(&rt; false);
+    let batching = connected(rt, SimPort::new(chip, AMPLE));
+    AMPLE.saturating_sub(batching.port().left())
 }
