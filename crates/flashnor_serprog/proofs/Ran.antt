@@ -1,5 +1,5 @@
 -- Lemmas on a run that performs the operation given by its arguments.
-use Rattle.std.proofs.Common.{◌≡◌, ◌≤◌, ℕ, Bool, IfOk, IfSome, List, None, Ok, Option, Result, Some, is_some, subst, sym, true}
+use Rattle.std.proofs.Common.{◌≡◌, ◌≤◌, ℕ, Bool, IfOk, IfSome, List, None, Ok, Option, Result, Some, arith, is_some, subst, sym, true}
 use Rattle.std.specs.Prelude.{Err, IsErrAnd, IsSomeAnd}
 use Rattle.std.proofs.lemmas.Bool.{false≢true}
 use Rattle.std.specs.Borrow.{Bor}
@@ -32,10 +32,17 @@ pub is_used : (P : Connected → Type 0) (used : Option Connected) → is_some u
 is_used P None none holds = absurd (false≢true none)
 is_used P (Some connected) some holds = holds
 
-pub none_connected : {E : Type 0} (P : Connected → Type 0) (Q : E → Type 0) (result : Result Connected E)
-    → IsErrAnd result Q → IfOk result P
-none_connected P Q (Ok connected) failed = absurd failed
-none_connected P Q (Err error) failed = tt
+-- A result that is an error says nothing about a value. (In a goal about a whole bus, the search doesn't find this.)
+pub none_ok : {T E : Type 0} (P : T → Type 0) (Q : E → Type 0) (result : Result T E) → IsErrAnd result Q
+    → IfOk result P
+none_ok P Q (Ok value) failed = absurd failed
+none_ok P Q (Err error) failed = tt
+
+-- A run that returns 1 has not succeeded.
+pub never_zero : {T E : Type 0} (P : T → Type 0) (given : Result T E) (status : ℕ) → status ≡ 1
+    → IfOk given (λ value. status ≡ 0 → P value)
+never_zero P (Ok value) status one = λ zero. absurd (omega (arith, one, zero))
+never_zero P (Err error) status one = tt
 
 pub unused : (P : Connected → Type 0) (used : Option Connected) → used ≡ None → IfSome used P
 unused P used none = rw none tt
@@ -59,3 +66,17 @@ succeeded_given {E = E} state files after words given args used out out' status 
     subst (λ (given : Result (IntoIter (String Global) Global) E). IfOk given (λ args. status ≡ 0
     → HasSucceeded state files after (arguments_of args) used out out')) (sym is)
     (λ zero. subst (λ (words : List Text). HasSucceeded state files after words used out out') same (succeeded zero))
+
+-- The same for what holds after a run, whether it succeeds or not.
+pub ran_given : {E : Type 0} (state : Connected → BusState) (files after : FilesState) (words : List Text)
+    (given : Result (IntoIter (String Global) Global) E) (args : IntoIter (String Global) Global)
+    (used : Option Connected) (out out' : Option (List ℕ)) (status : ℕ) → given ≡ Ok args → words ≡ arguments_of args
+    → IfSome used (λ connected. HasRunJob state files after words (device_of connected) (state connected) out out' status)
+    → IfOk given (λ args. IfSome used (λ connected. HasRunJob state files after (arguments_of args)
+    (device_of connected) (state connected) out out' status))
+ran_given {E = E} state files after words given args used out out' status is same ran =
+    subst (λ (given : Result (IntoIter (String Global) Global) E). IfOk given (λ args. IfSome used
+    (λ connected. HasRunJob state files after (arguments_of args) (device_of connected) (state connected) out out'
+    status))) (sym is)
+    (subst (λ (words : List Text). IfSome used (λ connected. HasRunJob state files after words (device_of connected)
+    (state connected) out out' status)) same ran)

@@ -1,15 +1,17 @@
 -- Lemmas on the bytes that are read from the chip for a layout.
-use Rattle.std.proofs.Common.{◌≡◌, ◌∙◌, ◌∷◌, [], ℕ, List, MatchOption, None, Ok, Option, Some, arith, false, inl, inr, refl, true}
+use Rattle.std.proofs.Common.{◌≡◌, ◌∙◌, ◌∷◌, [], ℕ, List, MatchOption, None, Ok, Option, Some, arith, false, inl, inr, refl, subst, sym, true}
 use Rattle.std.proofs.lemmas.Bool.{false≢true}
 use Rattle.nor_model.specs.Bus.{BusState}
 use Rattle.nor_layout.specs.Ranges.{IsSetOf, MakeNoSet, has_backwards}
 use Rattle.nor_layout.specs.declared.ranges.Span.{Span}
 use Rattle.nor_probe.specs.declared.probes.Found.{Found}
 use Rattle.nor_probe.specs.declared.table.ChipName.{ChipName}
+use Rattle.nor_args.specs.Text.{Text}
 use Rattle.nor_args.specs.declared.job.LayoutForm.{LayoutForm}
 use Rattle.nor_args.specs.declared.job.LayoutForm.TheVariants as form
 use Rattle.nor_jobs.specs.Finding.{HasIdentified}
-use Rattle.flashnor_serprog.specs.ChipLayouts.{AreReadFor, HasFoundFirst, HasReadLayout, descriptor_span}
+use Rattle.flashnor_serprog.specs.ChipLayouts.{AreReadFor, HasFoundFirst, HasReadLayout, IsReadFirst, IsShown, descriptor_span}
+use Rattle.flashnor_serprog.specs.declared.connect.Connected.{Connected}
 use Rattle.board_jobs.specs.Sends.{KeepsSent}
 
 is_set : IsSetOf (descriptor_span ∷ []) (descriptor_span ∷ [])
@@ -41,3 +43,14 @@ pub layout_reads : (named : Option ChipName) (layout : LayoutForm) (old new : Bu
     → HasReadLayout named layout old new bytes → KeepsSent old new
 layout_reads named layout old new bytes read =
     read.read.always.only_reads.sent ∙ read.first.identified.always.only_reads.sent
+
+pub shown_read : (state : Connected → BusState) (device : Text) (named : Option ChipName) (found : Option LayoutForm)
+    (layout : LayoutForm) (bytes : List ℕ) → found ≡ Some layout → IsReadFirst state device named layout bytes
+    → IsShown state device named found (Some bytes)
+shown_read state device named found layout bytes is read =
+    subst (λ (found : Option LayoutForm). IsShown state device named found (Some bytes)) (sym is) read
+
+pub shown_none : (state : Connected → BusState) (device : Text) (named : Option ChipName) (found : Option LayoutForm)
+    → found ≡ None → IsShown state device named found None
+shown_none state device named found is =
+    subst (λ (found : Option LayoutForm). IsShown state device named found None) (sym is) refl

@@ -1,4 +1,5 @@
 use Rattle.std.proofs.lemmas.Result.{IfOk-weaker}
+use Rattle.flashnor_serprog.proofs.Ran.{none_ok}
 use Rattle.flashnor_serprog.proofs.ReadLayouts.{layout_reads}
 use Rattle.flashnor_serprog.proofs.chip_layouts.read_first.Goals as goal
 
@@ -12,3 +13,6 @@ returns g c = IfOk-weaker c.read_and_report.result _ _ (λ chip read. record {
   read = read;
   sends = layout_reads _ _ _ _ _ read;
 }) c.read_and_report.ensures
+
+pub returns-in_err-connected : goal.returns-in_err-connected
+returns-in_err-connected g c = none_ok _ _ c.from_residual.result c.from_residual.ensures.1

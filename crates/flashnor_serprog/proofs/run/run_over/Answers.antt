@@ -1,4 +1,4 @@
-use Rattle.std.proofs.Common.{inr}
+use Rattle.std.proofs.Common.{arith, inl, inr}
 use Rattle.flashnor_serprog.proofs.Ran.{is_used, job_ran, unused}
 use Rattle.flashnor_serprog.proofs.run.run_over.Goals as goal
 
@@ -23,3 +23,9 @@ returns-in-Ok-Chip-clause-ran g c = unused _ c.args.used.now c.requires
 
 pub returns-clause-ran : goal.returns-clause-ran
 returns-clause-ran g c = unused _ c.args.used.now c.requires
+
+pub returns-in-Ok-Chip-clause-done : goal.returns-in-Ok-Chip-clause-done
+returns-in-Ok-Chip-clause-done g c = λ zero. absurd (omega (arith, c.end_badly.ensures, zero))
+
+pub returns-clause-done : goal.returns-clause-done
+returns-clause-done g c = λ zero. inl (inl (c.in-Err.ensures.help (c.end_early.ensures.help zero)))

@@ -1,5 +1,5 @@
 use Rattle.std.proofs.Common.{◌∙◌, ap, map, string_bytes}
-use Rattle.flashnor_serprog.proofs.Ran.{succeeded_given, unused}
+use Rattle.flashnor_serprog.proofs.Ran.{never_zero, ran_given, succeeded_given, unused}
 use Rattle.flashnor_serprog.proofs.run.run_words.Goals as goal
 
 pub returns-in-Ok-arguments_after_name-clause-done : goal.returns-in-Ok-arguments_after_name-clause-done
@@ -7,11 +7,17 @@ returns-in-Ok-arguments_after_name-clause-done g c = succeeded_given _ _ _ _ _ _
     (ap (map string_bytes) c.as_slice.ensures.value ∙ c.in-Ok-arguments_after_name.ensures) c.run_over.ensures.done
 
 pub returns-in-Ok-arguments_after_name-clause-ran : goal.returns-in-Ok-arguments_after_name-clause-ran
-returns-in-Ok-arguments_after_name-clause-ran g c = rw c.in-Ok.is
-    (rw (c.as_slice.ensures.value, c.in-Ok-arguments_after_name.ensures) at c.run_over.ensures.ran)
+returns-in-Ok-arguments_after_name-clause-ran g c = ran_given _ _ _ _ _ _ _ _ _ _ c.in-Ok.is
+    (ap (map string_bytes) c.as_slice.ensures.value ∙ c.in-Ok-arguments_after_name.ensures) c.run_over.ensures.ran
 
 pub returns-in-Err-arguments_after_name-clause-ran : goal.returns-in-Err-arguments_after_name-clause-ran
 returns-in-Err-arguments_after_name-clause-ran g c = rw c.in-Ok.is (unused _ c.args.used.now c.requires)
 
 pub returns-in-Err-clause-ran : goal.returns-in-Err-clause-ran
 returns-in-Err-clause-ran g c = rw c.in-Err.is tt
+
+pub returns-in-Err-arguments_after_name-clause-done : goal.returns-in-Err-arguments_after_name-clause-done
+returns-in-Err-arguments_after_name-clause-done g c = never_zero _ c.args.given _ c.end_badly.ensures
+
+pub returns-in-Err-clause-done : goal.returns-in-Err-clause-done
+returns-in-Err-clause-done g c = never_zero _ c.args.given _ c.end_badly-in-Err.ensures
