@@ -39,7 +39,8 @@ fn stop_next(
     rt: &impl Abort,
     alloc: Global,
     bench: &Bench,
-    (left, vault): (&Left, &MemVault),
+    left: &Left,
+    vault: &MemVault,
     calls: u64,
 ) -> u64 {
     if left.ended {
@@ -60,7 +61,7 @@ fn stop_next(
 fn stop_session(rt: &impl Abort, alloc: Global, bench: &Bench, stop: Stop) -> (Stopped, u64) {
     let mut vault = MemVault::new(alloc);
     let left = bench.change(rt, bench.chip(rt), &mut vault, stop);
-    let second = stop_next(rt, alloc, bench, (&left, &vault), stop.calls);
+    let second = stop_next(rt, alloc, bench, &left, &vault, stop.calls);
     let stopped = Stopped {
         is_sealed: vault.is_sealed(),
         ended: left.ended,
@@ -73,11 +74,12 @@ fn stop_restore(
     rt: &impl Abort,
     alloc: Global,
     bench: &Bench,
-    (chip, vault): (&SimBus, &MemVault),
+    chip: &SimBus,
+    vault: &MemVault,
     stop: Stop,
 ) -> (Stopped, u64) {
     let left = bench.undo(rt, bench.copy(rt, chip), vault, Undo::Restore, stop);
-    let second = stop_next(rt, alloc, bench, (&left, vault), stop.calls);
+    let second = stop_next(rt, alloc, bench, &left, vault, stop.calls);
     let stopped = Stopped {
         is_sealed: true,
         ended: left.ended,
@@ -95,7 +97,7 @@ fn stop_first(
 ) -> (Stopped, u64) {
     match first {
         First::Change => stop_session(rt, alloc, bench, stop),
-        First::Restore(chip, vault) => stop_restore(rt, alloc, bench, (chip, vault), stop),
+        First::Restore(chip, vault) => stop_restore(rt, alloc, bench, chip, vault, stop),
     }
 }
 

@@ -7,7 +7,7 @@
 //! stops or more: three when it is sent, and one for each call that receives a part of its reply.
 use crate::held::{assert_held, assert_that};
 use crate::row::Row;
-use crate::serprog_layers::{Bench, MOST_CALLS, Stop, Undo, stops_at};
+use crate::serprog_layers::{Bench, Left, MOST_CALLS, Stop, Undo, stops_at};
 use nor_chip::SimBus;
 use nor_journal::MemVault;
 use std::alloc::Global;
@@ -100,19 +100,25 @@ fn stop_backup(rt: &impl Abort, alloc: Global, bench: &Bench, stop: Stop) -> Sto
 fn stop_undo(
     rt: &impl Abort,
     bench: &Bench,
-    (undo, chip, vault): (Undo, &SimBus, &MemVault),
+    undo: Undo,
+    chip: &SimBus,
+    vault: &MemVault,
     stop: Stop,
 ) -> Stopped {
-    let left = bench.undo(rt, bench.copy(rt, chip), vault, undo, stop);
-    if left.ended {
-        bench.assert_as_before(rt, &left.chip, stop.calls);
+    let Left {
+        chip: after,
+        ended,
+        tears,
+    } = bench.undo(rt, bench.copy(rt, chip), vault, undo, stop);
+    if ended {
+        bench.assert_as_before(rt, &after, stop.calls);
     } else {
-        bench.assert_restored(rt, left.chip, vault, stop.calls);
+        bench.assert_restored(rt, after, vault, stop.calls);
     }
     Stopped {
         is_sealed: true,
-        ended: left.ended,
-        tears: left.tears,
+        ended,
+        tears,
     }
 }
 
@@ -120,7 +126,7 @@ fn stop_run(rt: &impl Abort, alloc: Global, bench: &Bench, run: Run<'_>, stop: S
     match run {
         Run::Change => stop_session(rt, alloc, bench, stop),
         Run::BackUp => stop_backup(rt, alloc, bench, stop),
-        Run::Undo(undo, chip, vault) => stop_undo(rt, bench, (undo, chip, vault), stop),
+        Run::Undo(undo, chip, vault) => stop_undo(rt, bench, undo, chip, vault, stop),
     }
 }
 
