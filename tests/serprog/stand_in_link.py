@@ -523,6 +523,16 @@ def connected(chip_id):
     return f"The connected chip is {chip_text(chip_id)}."
 
 
+def read_sfdp(link):
+    """Returns the replies to the reads of the SFDP. Before its table the ID is read, too."""
+    replies = []
+    for out, length in reference.probe("TINY64")[2:]:
+        if length == reference.TABLE_LEN:
+            link.compared(b"\x9f", 3)
+        replies.append(link.transfer(out, length))
+    return replies
+
+
 def probe(link, name=None):
     """Returns the part that is there. Afterwards `link.status` has the bits of status 1 that are non-volatile."""
     poll = (b"\x05", 1)
@@ -532,8 +542,7 @@ def probe(link, name=None):
         raise Fault(*reference.NO_CHIP)
     part = next((it for it in PARTS if PARTS[it].id == found), None)
     if part is None or not PARTS[part].has_row:
-        headers = [link.transfer(*it) for it in reference.probe("TINY64")[2:]]
-        if headers[0][:4] != b"SFDP":
+        if read_sfdp(link)[0][:4] != b"SFDP":
             raise Fault(*reference.unknown_chip(found))
     if name not in (None, part if PARTS[part].has_row else "SFDP"):
         raise Fault("Error 3: another chip than named.", f"-c names {name}. {connected(found)}")
