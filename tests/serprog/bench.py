@@ -9,7 +9,7 @@ from pathlib import Path
 from typing import NamedTuple
 
 import reference
-from chip import Chip
+from chip import DEVICE, Chip
 from server import ARGUMENTS, O_SPIOP, Server, Traits, trace_line
 
 # A case that interrupts a job at each transaction in turn takes each STRIDE-th one. The number is 1, except if self.py
@@ -76,7 +76,7 @@ class Bench:
     `remembers` the chip before a run isn't kept, so `carried` can't be used. `environment` is added to that of a run.
     """
 
-    def __init__(self, program, folder, part="TINY64", data=None, status=b"\0\0", unique=bytes(8), scale=0.0, **traits):
+    def __init__(self, program, folder, part="TINY64", data=None, status=b"\0\0", unique=DEVICE, scale=0.0, **traits):
         self.program, self.folder, self.part = program, Path(folder), part
         self.chip = Chip(part, data, status, unique, scale)
         self.server, self.command, self.words = None, "", []

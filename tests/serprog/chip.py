@@ -13,6 +13,8 @@ BUSY, WEL = 0x01, 0x02
 SRP0, TB, SEC = 0x80, 0x20, 0x40
 SRP1, CMP, ONCE = 0x01, 0x40, 0x38
 ERASES = {0x20: 4096, 0x52: 32768, 0xD8: 65536}
+# The unique ID of a chip for which a case gives no other.
+DEVICE = bytes.fromhex("5ad1c3970b4e8f26")
 READ_ID, READ_SFDP, READ_UNIQUE, READ_DATA = 0x9F, 0x5A, 0x4B, 0x03
 WAKE, POWER_DOWN = 0xAB, 0xB9
 
@@ -94,7 +96,7 @@ class Chip:
     they should have are counted in `ignored`.
     """
 
-    def __init__(self, part, data=None, status=b"\0\0", unique=bytes(8), scale=0.0, wp_low=True):
+    def __init__(self, part, data=None, status=b"\0\0", unique=DEVICE, scale=0.0, wp_low=True):
         self.part = PARTS[part]
         self.size = self.part.size
         self.data = bytearray(data if data is not None else b"\xff" * self.size)

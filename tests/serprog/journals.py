@@ -25,7 +25,7 @@ def describe(bench, *words):
 def describes_a_journal(start):
     """A sealed journal is described: chip, unit, saved sectors, status bits, and the command that restores it."""
     old, new = images("describes_a_journal")
-    bench = start(data=old)
+    bench = start(data=old, unique=bytes(8))
     bench.write("new", new)
     bench.run("-w", "new", "--journal", "j")
     before = bench.path("j").read_bytes()

@@ -6,7 +6,7 @@ program.
 """
 import hashlib
 
-from chip import CMP, ERASES, PAGE, PARTS, READ_DATA, READ_ID, READ_SFDP, READ_UNIQUE, SECTOR, WAKE
+from chip import CMP, DEVICE, ERASES, PAGE, PARTS, READ_DATA, READ_ID, READ_SFDP, READ_UNIQUE, SECTOR, WAKE
 
 POLL = (b"\x05", 1)
 READ_STATUS_2 = (b"\x35", 1)
@@ -198,7 +198,7 @@ def unknown_sectors(journal, why="is missing"):
             "compare the chip with an image (-v), or restore from a backup (--quick).")
 
 
-def sums(part, old, known, unique=bytes(8)):
+def sums(part, old, known, unique=DEVICE):
     """Returns the file beside a journal, which has the sums of these sectors (man/flashnor-serprog.8, FILES)."""
     found = b"NORSUMS1" + PARTS[part].id + unique
     for number in range(4096):
@@ -494,7 +494,7 @@ def touched(old, target):
     return [it for it in range(len(old) // SECTOR) if sector_of(old, it) != sector_of(target, it)]
 
 
-def journal(part, old, saved, status=b"\0\0", unique=bytes(8)):
+def journal(part, old, saved, status=b"\0\0", unique=DEVICE):
     """Returns a journal of format 2 that saves these sectors of a chip (man/flashnor-journal.5)."""
     found = b"NORUNDO2" + PARTS[part].id + unique + status + len(old).to_bytes(4, "little")
     for number in saved:

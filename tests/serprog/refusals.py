@@ -121,7 +121,7 @@ def restores_no_other(start):
     whole = reference.journal("TINY64", old, [1], unique=unique)
     bench.write("short", whole[:-1])
     bench.write("large", reference.journal("W25Q64FV", bytes(LARGE), []))
-    bench.write("device", reference.journal("TINY64", old, [1]))
+    bench.write("device", reference.journal("TINY64", old, [1], unique=bytes(8)))
     bench.write("status", reference.journal("TINY64", old, [1], b"\x80\0", unique))
     bench.expect("--restore", "short", err=reference.UNSEALED)
     bench.check_nothing_sent()

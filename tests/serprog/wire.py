@@ -61,8 +61,9 @@ def compares_replies(start):
     old, new = images("compares_replies")
     bench = start(data=old)
     bench.write("new", new)
-    # Before the six reads of SFDP: ABh, two polls, each with the ID after it, and the ID twice. The ID follows each.
-    for number in 8, 10, 12, 14, 16, 18:
+    # Before the six reads of SFDP: ABh, two polls, each with the ID after it, and the ID twice. The ID follows each, and
+    # is read twice more before the two reads of the table.
+    for number in 8, 10, 12, 14, 18, 20:
         bench.server.traits.wrong_bits = {number: (7, 5)}
         begins(f"SFDP, transaction {number}", bench.run("-w", "new", "--journal", "j"), [STOPPED, DIFFER])
         check("the opcode", bench.server.log[number - 1][0][:1], b"\x5a")
