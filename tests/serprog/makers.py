@@ -131,7 +131,7 @@ def takes_no_level_for_a_unique_id(start):
     got = bench.run("-w", "new", "--journal", "j")
     check(f"exit status, {got.err}", got.status, 0)
     check("levels before 4Bh", 0xFF in levels and 0 in levels, True)
-    bench.check_file("j", reference.journal("TINY64", old, FEW))
+    bench.check_file("j", reference.journal("TINY64", old, FEW, unique=bytes(8)))
     got = bench.run("--restore", "j")
     check(f"exit status of the restore, {got.err}", got.status, 0)
     bench.check_chip(old)

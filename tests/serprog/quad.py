@@ -141,7 +141,7 @@ def takes_no_floating_id(start):
             bench = start(data=old, unique=before)
             bench.write("new", new)
             check("the session", bench.run("-w", "new", "--journal", "j").status, 0)
-            bench.check_file("j", reference.journal("TINY64", old, FEW))
+            bench.check_file("j", reference.journal("TINY64", old, FEW, unique=NONE))
             bench.chip.unique = after
             check("the restore", bench.run("--restore", "j").status, 0)
             bench.check_chip(old)
