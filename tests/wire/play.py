@@ -7,7 +7,10 @@ from typing import NamedTuple
 import jobs
 from flash import SECTOR
 from line import LONGEST, OWN_SUPPLY, PATIENCE, Line, Result
+from winbond import QE
 
+# The beginning of the line that names the status bits that a restore leaves as they are.
+KEPT = "Not restored: the chip keeps these status bits"
 # The runs of a user who doesn't read: identifications until the programmer waits for nothing any more, at most.
 MOST_RUNS = 6
 # How patient the program is, in tenths of a second, if a finding is played again: a busy machine may cause it.
@@ -88,8 +91,14 @@ class Bench:
         elif wrong:
             self.find("wrong", f"{what}: status 0, and {told(wrong)} are wrong")
         elif registers != status:
-            kind = "wrong" if self.job.has_journal or what == "the run" else "bits"
+            is_named = any(it.startswith(KEPT) and "QE (clear)" in it for it in said) and lacks_only_quad(registers, status)
+            kind = "wrong" if (self.job.has_journal or what == "the run") and not is_named else "bits"
             self.find(kind, f"{what}: status 0, and the status bytes are {bytes(registers).hex(' ')}")
+
+
+def lacks_only_quad(found, wanted):
+    """Returns whether the status bytes of the chip differ only in QE, which is clear."""
+    return tuple(found) == (wanted[0], wanted[1] & ~QE) and bool(wanted[1] & QE)
 
 
 def told(sectors):
