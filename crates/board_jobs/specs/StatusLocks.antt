@@ -24,7 +24,7 @@ use Rattle.board_jobs.specs.declared.chip_faults.JobFault.{JobFault}
 use Rattle.board_jobs.specs.declared.chip_faults.JobFault.TheVariants as ended
 use Rattle.board_jobs.specs.declared.status_lock.LockChange.{LockChange}
 
--- ---- the bytes
+-- ---- the status bytes
 
 abbrev pub shows_srp0 : (one : ℕ) → Bool
 shows_srp0 one = one / 128 == 1

@@ -157,7 +157,7 @@ stops_behind {out} {answer} {old} {mid} {new} carries stops = record {
   unsent = λ steady. absurd (false≢true steady);
 }
 
--- States what `transfers_beside` states, for a bus that isn't steady.
+-- A bus around another one meets the contract of a bus, even if the bus inside isn't steady.
 pub transfers_unsteady : {out before answer : List ℕ} {a b : BusState} {h h' : List Exchange}
     (outcome : Result Unit Stopped) → SameNature a b
     → (IsHonestFor out (length before) a → OnErr outcome (AtStop out (unsteady a) (unsteady b)))
@@ -179,7 +179,7 @@ transfers_unsteady {out} {before} {answer} {a} {b} {h} {h'} outcome nature stops
     (λ fits. on_ok_weaker outcome (steps_unsteady {old = a} {new = b}) (steps (fits_unsteady {inside = a} fits)))
     records
 
--- ---- a bus that passes on what a well-behaved bus must take
+-- ---- a bus that splits long transactions
 
 -- The bus inside takes a read that isn't split.
 longer_taken : (receives longer n : ℕ) (unlimited : Bool) → n ≤ 4096 + reads_longer receives unlimited longer
@@ -252,8 +252,7 @@ longer_same receives receives' old new same nature =
     ∙ ap (λ (unlimited : Bool). reads_longer receives unlimited new.longer) nature.unlimited
     ∙ ap (λ (longer : ℕ). reads_longer receives old.unlimited longer) nature.longer
 
--- If the bus inside carried out each transaction within its limits as one of its own, the bus around it meets the
--- contract.
+-- If the bus inside meets the contract for a transaction within its limits, so does the bus around it.
 pub transfers_splits : (out before answer : List ℕ) (a b : BusState) (h h' : List Exchange) (wide wide' : Bool)
     (sends receives receives' : ℕ) → takes_whole sends receives ≡ wide → wide' ≡ wide → receives' ≡ receives
     → (outcome : Result Unit Stopped) → SameNature a b

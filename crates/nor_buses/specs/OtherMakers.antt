@@ -41,7 +41,7 @@ abbrev pub inside_adapted : {B : Type 0} → (inside : B → BusState) → Other
 inside_adapted inside other =
     only_if (keeps_replies (rows_of other) (inside (adapted_by other)).chip.config) (inside (adapted_by other))
 
--- The state of the bus. It is well-behaved if the bus inside is and no reply of its chip is changed. It is not punctual,
+-- The state of the bus. It is well-behaved if the bus inside is and no reply of its chip is changed. It isn't punctual,
 -- because it may send a second transaction.
 abbrev pub other_makers_state : {B : Type 0} → (inside : B → BusState) → OtherMakers B → BusState
 other_makers_state inside other = beside (inside_adapted inside other) (history_of other)

@@ -48,7 +48,8 @@ pub record HasStored (sent : List ℕ) (one : ℕ) (known : Option (List ℕ)) (
   pub first : one / 4 ≡ slice_index sent 0 / 4
   pub last : two % 128 ≡ slice_index sent 1 % 128
 
--- Holds if status 1 was read twice as `status`, and then status 2, and both agree with the bytes `sent`.
+-- Holds if status 1 was read twice as `status`, and then status 2, and the non-volatile bits of both are those in the
+-- bytes `sent`.
 pub record AgreesWithSent (sent : List ℕ) (status : ℕ) (known : Option (List ℕ)) (old new : List Exchange)
     : Type 0 where
   pub between : List Exchange

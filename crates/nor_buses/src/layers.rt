@@ -28,8 +28,8 @@ pub type Layered<B, C> = ReadAhead<
 pub type CheckedTwice<B, C> = ReadTwice<CheckedStatus<SplittingBus<Watched<Paced<B, C>>>>>;
 
 /// States that the layers are together a well-behaved bus if the bus to the programmer is, and its limits and its chip
-/// fit them (`FitsLayers`), for any settings of the layers (`guarding`, `locking`, `expecting`). The chip is that of the
-/// bus to the programmer.
+/// fit them (`FitsLayers`), for any settings of the layers (`guarding`, `locking`, `expecting`). The chip is that of
+/// the bus to the programmer.
 ///
 /// The chip must have an ID that `KnownStatus2` knows, an ID of the `rows` of `OtherMakers` and, if `KeptQuad` hides
 /// QE, one of its `rows`. Its unique ID must not be eight bytes FFh or 00h. For example, the emulated W25Q64FV with

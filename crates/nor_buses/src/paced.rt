@@ -24,8 +24,8 @@ const LONGEST: u64 = 6250;
 /// The pause before a transaction depends on how many polls in a row showed BUSY before it:
 ///
 /// - none: no pause, except before a poll after an operation that typically takes at most 1 ms (a page program). That
-///   pause lasts until this time has passed since the command, so the poll often finds the chip ready, which saves an
-///   exchange.
+///   pause ends when the typical duration has passed since the command, so the poll often finds the chip ready, which
+///   saves an exchange.
 /// - one: the typical duration of the operation that began last, minus the time since its command. A page program
 ///   typically takes 0.7 ms, a status write 10 ms, an erase of 4 KiB 45 ms, of 32 KiB 120 ms, of 64 KiB 150 ms
 ///   (W25Q64FV datasheet, AC characteristics). An erase of the whole chip counts as one of 64 KiB. If the clock fails,

@@ -25,9 +25,9 @@ pub struct OtherChip {
 ///
 /// The bus remembers the reply to the last read of the unique ID (4Bh with eight reply bytes), and reads it again
 /// before the first modifying command. If the reply differs, each modifying command returns `Stopped` and isn't sent,
-/// and `other` returns both unique IDs. If no unique ID was read before, nothing is compared. A chip without unique ID
-/// returns the same bytes each time, so it can't be distinguished from another one. A wrong bit looks like another
-/// chip, so put this bus around a bus that reads the unique ID twice (`ReadTwice`).
+/// and `other` returns both unique IDs. If no unique ID was read before, nothing is compared. Two chips without unique
+/// ID that both return only FFh, or only 00h, can't be distinguished. A wrong bit looks like another chip, so put this
+/// bus around a bus that reads the unique ID twice (`ReadTwice`).
 ///
 /// This bus is well-behaved if and only if the bus inside is. It is never punctual. A busy chip ignores a read of its
 /// unique ID, but the engine sends the first modifying command only after it has waited for the chip.

@@ -140,9 +140,9 @@ impl<B: Bus> ReadTwice<B> {
         Ok(())
     }
 
-    // Repeats the read `out`, whose first reply was `reply`. If an image is expected, repeats only the sectors that
-    // differ from it. Returns whether all second replies are the same. In the clauses, `before` is the state before the
-    // first read.
+    // Repeats the read `out`, whose first reply was `reply`. If an image is expected and the read is one of data, repeats
+    // only the sectors that differ from the image. Returns whether all second replies are the same. In the clauses,
+    // `before` is the state before the first read.
     fn is_confirmed(&mut self, out: &[u8], reply: &[u8]) -> Result<bool, Stopped>
         requires reads { begins_read out.now ≡ true }
         requires len { length reply.now ≤ 65536 }
