@@ -74,7 +74,7 @@ def take_chips(_):
              for name, number, size in re.findall(r"winbond!\((\w+), \[0x([^]]+)\], ([\d_]+)\)", text)]
     listed = rows_of("docs/SPECIFICATION.md", "Name") + rows_of("docs/SPECIFICATION.md", "Further name")
     same("rows for hardware", sources=table, SPECIFICATION=[(row[0], row[1], in_bytes(row[2])) for row in listed])
-    block = re.search(r"(?s)const WITH_ROW: .*?\n\];", code("flashnor_serprog/src/connect.rt"))
+    block = re.search(r"(?s)const WITH_ROW: .*?\n\];", code("flashnor_serprog/src/board_bus.rt"))
     known = re.findall(r"\[0x(\w\w), 0x(\w\w), 0x(\w\w)\]", block[0] if block else "")
     same("chips with a row", sources={number for _, number, _ in table}, connect={" ".join(it) for it in known})
     others = code("nor_args/src/given/other_names.rt").partition("fn is_name_of")[2].split("ChipName::")[1:]

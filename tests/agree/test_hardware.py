@@ -33,7 +33,7 @@ PLANTS = {
     "another ID of a further chip": (
         "docs/SPECIFICATION.md", r"\| EF 60 17 \|", "| EF 61 17 |", "'EF 61 17', 8388608)', sources hasn't"),
     "a row that isn't asked for status 2": (
-        "crates/flashnor_serprog/src/connect.rt", r"    \[0xEF, 0x60, 0x17\],\n", "", "connect hasn't"),
+        "crates/flashnor_serprog/src/board_bus.rt", r"    \[0xEF, 0x60, 0x17\],\n", "", "connect hasn't"),
     "a chip that the completion lacks": (
         COMPLETION, r" W25Q32JV-M", "", "sources has 'W25Q32JV-M', completion hasn't"),
     "another name that the list lacks": (

@@ -15,7 +15,8 @@ use Rattle.nor_args.specs.declared.job.Regions.{Regions}
 use Rattle.nor_console.specs.declared.messages.Fault.{Fault}
 use Rattle.nor_console.specs.declared.messages.Fault.TheVariants as end
 use Rattle.nor_jobs.specs.Finding.{FailsToFind, HasIdentified}
-use Rattle.flashnor_serprog.specs.Connected.{IsUnused, device_of, expected_by}
+use Rattle.flashnor_serprog.specs.Connected.{device_of, expected_by}
+use Rattle.flashnor_serprog.specs.Unused.{IsUnused}
 use Rattle.board_jobs.specs.Following.{FailsInMemory, HasReadToMemory}
 use Rattle.board_jobs.specs.Sends.{KeepsSent}
 use Rattle.flashnor_serprog.specs.declared.connect.Connected.{Connected}

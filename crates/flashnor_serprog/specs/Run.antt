@@ -16,7 +16,8 @@ use Rattle.nor_args.specs.declared.job.Task.TheVariants as task
 use Rattle.nor_console.specs.Printing.{AsksForVersion, IsAnswered, Prints}
 use Rattle.nor_console.specs.declared.answers.Answer.{Answer}
 use Rattle.flashnor_serprog.specs.ChipLayouts.{IsShown, form_on_chip}
-use Rattle.flashnor_serprog.specs.Connected.{IsUnused, device_of, expected_by}
+use Rattle.flashnor_serprog.specs.Connected.{device_of, expected_by}
+use Rattle.flashnor_serprog.specs.Unused.{IsUnused}
 use Rattle.board_jobs.specs.Ending.{AreJobLines}
 use Rattle.board_files.specs.Images.{HasDescribed}
 use Rattle.board_jobs.specs.Jobs.{EndsJob}

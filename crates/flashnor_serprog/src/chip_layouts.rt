@@ -5,8 +5,9 @@ ghost use Rattle.flashnor_serprog.specs.ChipLayouts.{AreReadFor, FailsToReadShow
 ghost use Rattle.flashnor_serprog.specs.ChipLayouts.{IsShown, form_on_chip};
 ghost use Rattle.board_files.specs.Regions.{regions_of};
 
-use crate::connect::{ChipBus, Rules, connect_by};
+use crate::connect::{ChipBus, connect_by};
 use crate::reports::{print_job_fault, report_changed_byte};
+use crate::rules::Rules;
 use crate::setting::Setting;
 use crate::trouble::Trouble;
 use board_files::regions_of;

@@ -1,50 +1,34 @@
 //! Opens the device of a programmer and identifies the programmer.
-ghost use Rattle.std.specs.Prelude.{◌≡◌, [], IfOk, option_map, string_bytes};
-ghost use Rattle.nor_buses.specs.Checked.{bus_of, history_of as checked_history};
-ghost use Rattle.nor_buses.specs.KeptQuad.{kept_by};
-ghost use Rattle.nor_buses.specs.KnownStatus2.{known_by};
-ghost use Rattle.nor_buses.specs.OtherMakers.{adapted_by};
-ghost use Rattle.nor_buses.specs.SameChip.{checked_by};
-ghost use Rattle.nor_buses.specs.Twice.{expected_of, history_of, twice_of};
-ghost use Rattle.flashnor_serprog.specs.Connected.{IsUnused, device_of, expected_by};
+ghost use Rattle.std.specs.Prelude.{◌≡◌, IfOk, option_map, string_bytes};
+ghost use Rattle.flashnor_serprog.specs.Connected.{device_of, expected_by};
+ghost use Rattle.flashnor_serprog.specs.Unused.{IsUnused};
 
+use crate::board_bus::BoardBus;
 use crate::contact::{Contact, look_for_chip};
 use crate::port::{DevicePort, PortFault};
+use crate::rules::Rules;
 use crate::setting::Setting;
 use crate::trouble::{ProgrammerFault, Trouble};
 use crate::waking::wake;
-use board_progress::{Shown, StatusWrite, Terminal};
-use nor_buses::{
-    CheckedStatus, KeptQuad, KnownStatus2, OtherMakers, Paced, ReadAhead, ReadTwice, SameChip,
-    SplittingBus, Watched,
-};
+use board_progress::{Shown, Terminal};
+use nor_buses::ReadAhead;
 use nor_console::{Fault, SystemReason};
 use nor_files::LockFile;
 use nor_model::Bus;
 use nor_probe::SfdpFault;
-use nor_serprog::{AnyProgrammer, BatchingBus, Failure, HandshakeFault, Link};
+use nor_serprog::{AnyProgrammer, Failure, HandshakeFault, Link};
 use nor_session::Refusal;
 use std::alloc::Global;
 use std::fs::{File, OpenOptions};
 use std::os::unix::fs::FileTypeExt;
 use std::{fmt, fs, io};
 
-/// The bus to a chip at a serial programmer. ARCHITECTURE describes its layers and their order.
-pub type ChipBus<'a> = Shown<'a, ReadAhead<SameChip<MakersBus<'a>>>>;
+/// The bus of a job, which reads ahead and shows the progress of the job.
+pub type ChipBus<'a> = Shown<'a, ReadAhead<BoardBus<'a>>>;
 
-// The bus that hides differences between the makers' chips, around the bus that reads twice.
-type MakersBus<'a> = OtherMakers<KeptQuad<KnownStatus2<TwiceBus<'a>>>>;
-
-/// The bus that reads IDs, SFDP and data twice, around the bus that checks the status registers.
-pub type TwiceBus<'a> = ReadTwice<CheckedStatus<PartsBus<'a>>>;
-
-// The inner layers of `ChipBus`. From the outside to the inside, they split commands, notice a lost chip, pace polls,
-// and send commands together.
-type PartsBus<'a> = SplittingBus<Watched<Paced<BatchingBus<DevicePort>, &'a HostRuntime>>>;
-
-/// Returns the layer of this bus that reads IDs, SFDP and data twice.
-pub fn twice_in<'b, 'a>(bus: &'b ChipBus<'a>) -> &'b TwiceBus<'a> {
-    bus.inner().inner().inner().inner().inner().inner()
+/// Returns the bus to the chip, which knows why a transaction failed.
+pub fn board_in<'b, 'a>(bus: &'b ChipBus<'a>) -> &'b BoardBus<'a> {
+    bus.inner().inner()
 }
 
 /// A bus to the chip at a programmer, with the name of the programmer's device. Only `connect` creates a `Connected`.
@@ -53,20 +37,6 @@ pub struct Connected<'a> {
     device: String,
     pub bus: ChipBus<'a>,
 }
-
-// The IDs of the chips that have a row in nor_probe. These chips return status 2 for 35h (their datasheets, Read Status
-// Register-2).
-const WITH_ROW: [[u8; 3]; 9] = [
-    [0xEF, 0x40, 0x16],
-    [0xEF, 0x40, 0x17],
-    [0xEF, 0x40, 0x18],
-    [0xEF, 0x60, 0x16],
-    [0xEF, 0x60, 0x17],
-    [0xEF, 0x60, 0x18],
-    [0xEF, 0x70, 0x16],
-    [0xEF, 0x70, 0x17],
-    [0xEF, 0x70, 0x18],
-];
 
 /// Connects to the programmer that `-p` describes. Returns one of these faults:
 ///
@@ -181,20 +151,13 @@ fn connect<'a>(
     let woken = wake(&mut link, &programmer)?;
     expect_chip(rt, &mut link, &woken)?;
     let longest_read = programmer.longest_read();
-    let paced = Paced::new(BatchingBus::over(link, programmer), rt);
-    let watched = Watched::new(paced);
-    let splitting = SplittingBus::new(watched, programmer.longest_part(), longest_read);
-    let twice = reading_twice(checking(splitting, rules.checks), image);
-    let known = KnownStatus2::new(twice, &WITH_ROW, rules.before);
-    let kept = KeptQuad::new(known, &WITH_ROW, rules.hides_quad);
-    let other = OtherMakers::new(kept, &WITH_ROW, rules.missing_unique, rules.refuses_uneven);
-    let bus = SameChip::new(other);
+    let board = BoardBus::new(rt, link, programmer, image, rules);
     Ok(Connected {
         device,
         bus: Shown::new(
-            ReadAhead::new(bus, longest_read),
+            ReadAhead::new(board, longest_read),
             terminal,
-            status_write_by(rules.checks),
+            rules.checks.status_write(),
         ),
     })
 }
@@ -215,46 +178,6 @@ fn identify(
         }
         _ => Ok(programmer),
     }
-}
-
-/// What the bus to a chip refuses, and how it treats a chip without a row.
-#[derive(Clone, Copy)]
-pub struct Rules {
-    pub checks: Checks,
-    /// The ID of a chip whose status 2 an earlier run read, so 35h is sent to it, too.
-    pub before: Option<[u8; 3]>,
-    /// Whether bit 6 of status 1 is returned as 0 if it is QE (`KeptQuad`).
-    pub hides_quad: bool,
-    /// Each byte of the unique ID of a chip that has none (`OtherMakers`).
-    pub missing_unique: u8,
-    /// Whether a chip without sectors of 4 KiB everywhere, or with small pages, is refused (`OtherMakers`).
-    pub refuses_uneven: bool,
-}
-
-impl Rules {
-    /// Returns the rules of a job that only reads, and makes no journal.
-    pub fn reading() -> Rules {
-        Rules {
-            checks: Checks::Protection,
-            before: None,
-            hides_quad: false,
-            missing_unique: 0,
-            refuses_uneven: false,
-        }
-    }
-}
-
-/// Which modifying commands the bus to a chip refuses.
-#[derive(Clone, Copy)]
-pub enum Checks {
-    /// Status writes that would change other bits than the protection bits.
-    Protection,
-    /// For a session: also the first modifying command, if the port seems to change bytes that are received. A journal
-    /// of such bytes would be wrong (`CheckedStatus::guarding`).
-    Guarded,
-    /// For `--wp-enable` and `--wp-disable`: status writes that would change any bit except SRP0, even a protection bit
-    /// (`CheckedStatus::locking`).
-    Lock,
 }
 
 // Prints a line if the clock that the programmer set is higher than that of `spispeed=`, in hertz.
@@ -280,40 +203,6 @@ impl fmt::Display for HigherClock {
             "The programmer set its clock to {} Hz, above the {} Hz of spispeed=.",
             self.set, self.asked
         )
-    }
-}
-
-// Returns whether a job with these checks may write the status. `begin_job` replaces this value for all jobs except
-// changes of SRP0.
-fn status_write_by(checks: Checks) -> StatusWrite {
-    match checks {
-        Checks::Lock => StatusWrite::OnAnyChip,
-        _ => StatusWrite::Never,
-    }
-}
-
-// Returns a bus over `bus` that checks the status registers.
-fn checking<B: Bus + Drop>(bus: B, checks: Checks) -> CheckedStatus<B>
-    ensures bus { bus_of result ≡ bus }
-    ensures history { checked_history result ≡ [] }
-{
-    match checks {
-        Checks::Protection => CheckedStatus::new(bus),
-        Checks::Guarded => CheckedStatus::guarding(bus),
-        Checks::Lock => CheckedStatus::locking(bus),
-    }
-}
-
-// Returns a bus over `bus` that reads data twice. If `image` is given, data that equals `image` at the same address is
-// read only once.
-fn reading_twice<B: Bus + Drop>(bus: B, image: Option<Vec<u8>>) -> ReadTwice<B>
-    ensures bus { twice_of result ≡ bus }
-    ensures history { history_of result ≡ [] }
-    ensures expected { expected_of result ≡ image }
-{
-    match image {
-        Some(image) => ReadTwice::expecting(bus, image),
-        None => ReadTwice::new(bus),
     }
 }
 

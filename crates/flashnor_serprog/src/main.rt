@@ -3,6 +3,7 @@
 #![tactic(auto)]
 
 mod asked;
+mod board_bus;
 mod chip_layouts;
 mod chip_list;
 mod chip_names;
@@ -14,6 +15,7 @@ mod lock_job;
 mod port;
 mod preparing;
 mod reports;
+mod rules;
 mod run;
 mod saved;
 mod setting;

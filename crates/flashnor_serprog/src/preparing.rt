@@ -2,14 +2,16 @@
 ghost use Rattle.std.specs.Prelude.{◌≡◌, IfOk, option_map};
 ghost use Rattle.nor_files.specs.Files.{AreUntouched};
 ghost use Rattle.nor_journal.specs.MemVault.{held_by};
-ghost use Rattle.flashnor_serprog.specs.Connected.{IsUnused, device_of, expected_by};
+ghost use Rattle.flashnor_serprog.specs.Connected.{device_of, expected_by};
+ghost use Rattle.flashnor_serprog.specs.Unused.{IsUnused};
 ghost use Rattle.board_progress.specs.Logging.{CreatesLog};
 ghost use Rattle.board_files.specs.Regions.{regions_of};
 ghost use Rattle.flashnor_serprog.specs.Run.{IsPrepared};
 ghost use Rattle.board_files.specs.Sources.{ArePlainNames, MayExpectImage};
 
 use crate::chip_layouts::{form_on_chip, read_shown};
-use crate::connect::{Checks, ChipBus, Connected, Rules, connect_by};
+use crate::connect::{ChipBus, Connected, connect_by};
+use crate::rules::{Checks, Rules};
 use crate::setting::Setting;
 use crate::trouble::Trouble;
 use board_files::{

@@ -3,7 +3,7 @@
 ghost use Rattle.std.specs.Prelude.{◌≡◌, ◌≤◌, true};
 ghost use Rattle.flashnor_serprog.specs.declared.stop_line.Left.TheVariants.{Unchanged};
 
-use crate::connect::{ChipBus, twice_in};
+use crate::connect::{ChipBus, board_in};
 use crate::hints::{Known, print_operation_hint, unlocks};
 use crate::saved::Saved;
 use crate::stop_line::{Left, StopLine};
@@ -55,7 +55,7 @@ pub fn print_job_fault<E: Write>(
         let known = Known {
             saved,
             replies: bus.replies(),
-            has_small_pages: bus.inner().inner().inner().has_small_pages(),
+            has_small_pages: board_in(bus).has_small_pages(),
             left,
             unwritten,
             farthest,
@@ -123,7 +123,7 @@ pub fn report_changed_byte<E: Write>(errors: &mut E, bus: &ChipBus<'_>, status: 
     ensures few { status ≤ 1 → result ≤ 1 }
     ensures failed { result ≡ 0 → status ≡ 0 }
 {
-    match twice_in(bus).inner().changed_byte() {
+    match board_in(bus).changed_byte() {
         Some(changed) => {
             let _ = writeln!(errors, "{}", ChangedLine(changed));
             1
@@ -134,16 +134,8 @@ pub fn report_changed_byte<E: Write>(errors: &mut E, bus: &ChipBus<'_>, status: 
 
 // Prints the line that follows the line of error 12: the cause, and what the job left.
 fn print_cause<E: Write>(errors: &mut E, bus: &ChipBus<'_>, left: Left<'_>) {
-    let same = bus.inner().inner();
-    let twice = twice_in(bus);
-    let checked = twice.inner();
-    let watched = checked.inner().inner();
     let line = StopLine {
-        other: same.other(),
-        failure: watched.inner().inner().cause(),
-        status: checked.fault(),
-        is_lost: watched.is_lost(),
-        differed: twice.differed(),
+        causes: board_in(bus).causes(),
         left,
     };
     let _ = writeln!(errors, "{line}");
@@ -154,7 +146,7 @@ fn left_after<'a>(fault: &JobFault<'_>, bus: &ChipBus<'_>, operation: &Operation
     if fault.follows_completion() {
         return Left::Completed;
     }
-    let begun = twice_in(bus).inner().has_begun();
+    let begun = board_in(bus).has_begun();
     if begun && operation.srp0.is_some() {
         return Left::EitherLock;
     }

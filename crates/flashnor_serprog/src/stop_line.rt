@@ -1,27 +1,18 @@
 //! The line that follows the line of error 12: the cause, what to do, and the state in which the job left the chip.
 
-use crate::port::PortFault;
+use crate::board_bus::Causes;
 use crate::trouble::FailureText;
 use board_files::Quoted;
 use board_progress::{DIFFERED, OtherLine, StatusLine, keeps_srp0};
-use nor_buses::{CheckFault, OtherChip};
+use nor_buses::CheckFault;
 use nor_console::Escaped;
-use nor_serprog::Failure;
 use std::fmt;
 
 /// The line that follows the line of error 12.
 #[derive(Drop)]
 pub struct StopLine<'a> {
-    /// The two unique IDs, if the chip was another one before the first modifying command.
-    pub other: Option<OtherChip>,
-    /// The reason why a transaction failed, if one did.
-    pub failure: Option<&'a Failure<PortFault>>,
-    /// The fault that the layer `CheckedStatus` found, if any.
-    pub status: Option<CheckFault>,
-    /// True if the chip lost its contact or its supply while the job waited for it.
-    pub is_lost: bool,
-    /// True if two reads of the same bytes differed.
-    pub differed: bool,
+    /// What the layers of the bus found out.
+    pub causes: Causes<'a>,
     /// The state in which the job left the chip.
     pub left: Left<'a>,
 }
@@ -95,10 +86,11 @@ impl fmt::Display for JournalName<'_> {
 
 impl fmt::Display for StopLine<'_> {
     fn fmt<W: fmt::Write>(&self, f: &mut fmt::Formatter<W>) -> fmt::Result {
-        if let Some(other) = self.other {
+        let causes = self.causes;
+        if let Some(other) = causes.other {
             return write!(f, "{}{}", OtherLine(other), self.left);
         }
-        match (self.failure, self.status) {
+        match (causes.failure, causes.status) {
             (Some(failure), _) => write!(f, "Cause: {}. {UNPLUG}", FailureText(failure))?,
             (None, Some(fault)) => {
                 write!(f, "{}", StatusLine(fault))?;
@@ -106,8 +98,8 @@ impl fmt::Display for StopLine<'_> {
                     return Ok(());
                 }
             }
-            (None, None) if self.is_lost => f.write_str(LOST)?,
-            (None, None) if self.differed => f.write_str(DIFFERED)?,
+            (None, None) if causes.is_lost => f.write_str(LOST)?,
+            (None, None) if causes.differed => f.write_str(DIFFERED)?,
             (None, None) => f.write_str("Cause: unknown.")?,
         }
         write!(f, "{}", self.left)

@@ -1,0 +1,172 @@
+//! The bus to a chip on a board: all layers below those that read ahead and show the progress.
+ghost use Rattle.std.proofs.lemmas.Bool.{false≢true};
+ghost use Rattle.std.specs.Prelude.{◌≡◌, [], option_map};
+ghost use Rattle.nor_buses.specs.Checked.{bus_of, history_of as checked_history};
+ghost use Rattle.nor_buses.specs.Twice.{expected_of, history_of, twice_of};
+ghost use Rattle.flashnor_serprog.specs.BoardBus.{expected_in};
+ghost use Rattle.flashnor_serprog.specs.Unused.{IsUnused};
+
+use crate::port::{DevicePort, PortFault};
+use crate::rules::{Checks, Rules};
+use nor_buses::{
+    ChangedByte, CheckFault, CheckedStatus, KeptQuad, KnownStatus2, OtherChip, OtherMakers, Paced,
+    ReadTwice, SameChip, SplittingBus, Watched,
+};
+use nor_model::{Bus, Stopped};
+use nor_serprog::{AnyProgrammer, BatchingBus, Failure, Link};
+
+/// The bus to the chip at a serial programmer. ARCHITECTURE describes its layers and their order. In contracts, its
+/// state is that of its outermost layer.
+#[derive(Drop)]
+pub struct BoardBus<'a> {
+    layers: Layers<'a>,
+}
+
+/// The layers of a `BoardBus`. The outermost one compares the unique ID.
+pub type Layers<'a> = SameChip<Makers<'a>>;
+
+// The layers that hide differences between the makers' chips.
+type Makers<'a> = OtherMakers<KeptQuad<KnownStatus2<Twice<'a>>>>;
+
+// The layers that read IDs, SFDP and data twice, and check the status registers.
+type Twice<'a> = ReadTwice<CheckedStatus<Parts<'a>>>;
+
+// The layers that split commands, notice a lost chip, pace polls, and send commands together.
+type Parts<'a> = SplittingBus<Watched<Paced<BatchingBus<DevicePort>, &'a HostRuntime>>>;
+
+// The IDs of the chips that have a row in nor_probe. These chips return status 2 for 35h (their datasheets, Read Status
+// Register-2).
+const WITH_ROW: [[u8; 3]; 9] = [
+    [0xEF, 0x40, 0x16],
+    [0xEF, 0x40, 0x17],
+    [0xEF, 0x40, 0x18],
+    [0xEF, 0x60, 0x16],
+    [0xEF, 0x60, 0x17],
+    [0xEF, 0x60, 0x18],
+    [0xEF, 0x70, 0x16],
+    [0xEF, 0x70, 0x17],
+    [0xEF, 0x70, 0x18],
+];
+
+/// What the layers found out about a transaction that returned `Stopped`. The first of these causes explains it.
+#[derive(Clone, Copy)]
+pub struct Causes<'a> {
+    /// The two unique IDs, if the chip was another one before the first modifying command.
+    pub other: Option<OtherChip>,
+    /// The reason why a transaction failed, if one did.
+    pub failure: Option<&'a Failure<PortFault>>,
+    /// The fault that the layer `CheckedStatus` found, if any.
+    pub status: Option<CheckFault>,
+    /// True if the chip lost its contact or its supply while the job waited for it.
+    pub is_lost: bool,
+    /// True if two reads of the same bytes differed.
+    pub differed: bool,
+}
+
+impl<'a> BoardBus<'a> {
+    /// Returns a bus to the chip at the programmer of `link`. It has carried out no transaction yet.
+    ///
+    /// If `image` is given, data that equals `image` at the same address is read once, and all other data twice.
+    /// `image` must be that of `-v` or of a write whose result is compared. Data that was read only once must not get
+    /// into a journal.
+    pub fn new(
+        rt: &'a HostRuntime,
+        link: Link<DevicePort>,
+        programmer: AnyProgrammer,
+        image: Option<Vec<u8>>,
+        rules: Rules,
+    ) -> BoardBus<'a>
+        ensures fresh { IsUnused (⟦<BoardBus<'a> as Bus>⟧.state result) }
+        ensures expects { expected_in result ≡ option_map (λ image. image.items) image }
+    {
+        let longest_read = programmer.longest_read();
+        let paced = Paced::new(BatchingBus::over(link, programmer), rt);
+        let watched = Watched::new(paced);
+        let splitting = SplittingBus::new(watched, programmer.longest_part(), longest_read);
+        let twice = reading_twice(checking(splitting, rules.checks), image);
+        let known = KnownStatus2::new(twice, &WITH_ROW, rules.before);
+        let kept = KeptQuad::new(known, &WITH_ROW, rules.hides_quad);
+        let other = OtherMakers::new(kept, &WITH_ROW, rules.missing_unique, rules.refuses_uneven);
+        BoardBus {
+            layers: SameChip::new(other),
+        }
+    }
+
+    /// Returns whether the chip's SFDP says that its pages have fewer than 256 bytes.
+    pub fn has_small_pages(&self) -> bool {
+        self.makers().has_small_pages()
+    }
+
+    /// Returns whether a modifying command may have been sent.
+    pub fn has_begun(&self) -> bool {
+        self.checked().has_begun()
+    }
+
+    /// Returns the bytes that the port seems to change when it receives them, if there are any.
+    pub fn changed_byte(&self) -> Option<ChangedByte> {
+        self.checked().changed_byte()
+    }
+
+    /// Returns what the layers found out about a transaction that returned `Stopped`.
+    pub fn causes(&self) -> Causes<'_> {
+        let watched = self.checked().inner().inner();
+        Causes {
+            other: self.layers.other(),
+            failure: watched.inner().inner().cause(),
+            status: self.checked().fault(),
+            is_lost: watched.is_lost(),
+            differed: self.twice().differed(),
+        }
+    }
+
+    fn makers(&self) -> &Makers<'a> {
+        self.layers.inner()
+    }
+
+    fn twice(&self) -> &Twice<'a> {
+        self.makers().inner().inner().inner()
+    }
+
+    fn checked(&self) -> &CheckedStatus<Parts<'a>> {
+        self.twice().inner()
+    }
+}
+
+impl<'a> Bus for BoardBus<'a> {
+    ghost state = { λ bus. ⟦<Layers<'a> as Bus>⟧.state bus.layers };
+
+    ghost reaches = { λ _ honest. absurd (false≢true honest) };
+
+    fn transfer(&mut self, out: &[u8], reply: &mut [u8]) -> Result<(), Stopped> {
+        self.layers.transfer(out, reply)
+    }
+
+    fn has_further_types(&self) -> bool {
+        self.layers.has_further_types()
+    }
+}
+
+// Returns a bus over `bus` that checks the status registers.
+fn checking<B: Bus + Drop>(bus: B, checks: Checks) -> CheckedStatus<B>
+    ensures bus { bus_of result ≡ bus }
+    ensures history { checked_history result ≡ [] }
+{
+    match checks {
+        Checks::Protection => CheckedStatus::new(bus),
+        Checks::Guarded => CheckedStatus::guarding(bus),
+        Checks::Lock => CheckedStatus::locking(bus),
+    }
+}
+
+// Returns a bus over `bus` that reads data twice. If `image` is given, data that equals `image` at the same address is
+// read only once.
+fn reading_twice<B: Bus + Drop>(bus: B, image: Option<Vec<u8>>) -> ReadTwice<B>
+    ensures bus { twice_of result ≡ bus }
+    ensures history { history_of result ≡ [] }
+    ensures expected { expected_of result ≡ image }
+{
+    match image {
+        Some(image) => ReadTwice::expecting(bus, image),
+        None => ReadTwice::new(bus),
+    }
+}
