@@ -14,7 +14,7 @@ log_unstarted (Some name) same = (
   λ lawful other apart. untouched_keeps other same,
 )
 
-log_started : (log : Option (Bor Text)) (old read new : FilesState) → AreUntouched old read
+pub log_started : (log : Option (Bor Text)) (old read new : FilesState) → AreUntouched old read
     → CreatesLog log read new → CreatesLog log old new
 log_started None old read new same made = record {
   view = made.view ∙ same.view;
@@ -30,21 +30,7 @@ log_started (Some name) old read new same made = (
       },
 )
 
-untouched_on : {old mid new : FilesState} → AreUntouched old mid → AreUntouched mid new → AreUntouched old new
-untouched_on one other = record {
-  view = other.view ∙ one.view;
-  leaves = λ name left may. one.leaves name left (other.leaves name left may);
-}
-
-pub log_unstarted_late : (log : Option (Bor Text)) (old tried new : FilesState) → AreUntouched old tried
-    → AreUntouched tried new → CreatesLog log old new
-log_unstarted_late log old tried new one other = log_unstarted log (untouched_on one other)
-
-pub log_started_late : (log : Option (Bor Text)) (old tried read new : FilesState) → AreUntouched old tried
-    → AreUntouched tried read → CreatesLog log read new → CreatesLog log old new
-log_started_late log old tried read new one other made = log_started log old read new (untouched_on one other) made
-
-pub ruleset log_steps = (log_unstarted, log_unstarted_late, log_started_late)
+pub ruleset log_steps = (log_unstarted, log_started)
 
 pub log_seen : (log : Option (Bor Text)) (old new : FilesState) → CreatesLog log old new
     → StayButLog log old.view new.view

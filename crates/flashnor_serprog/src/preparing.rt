@@ -40,12 +40,8 @@ pub struct Prepared<'a, 'b> {
 }
 
 /// Prepares the operation, and returns the first fault. `names` must be the names of the regions without files
-/// (`plain_names`). The steps:
-///
-/// 1. Check that no file has two roles, that the log may be overwritten, and that the file of a backup is new.
-/// 2. If the layout is on the chip, check the image or the journal, and then read the layout (`read_shown`).
-/// 3. Find the included addresses, check the files of regions, and read and check the image or the journal.
-/// 4. Start the log, print what `--replaced-chip` does, and identify the programmer for the job.
+/// (`plain_names`). Checks and reads the files (`read_files`), and starts the log. Then prints what `--replaced-chip`
+/// does, and identifies the programmer for the job.
 #[tactic(auto, using(crate::proofs::LogMade::log_steps))]
 pub fn prepare<'a, 'b, R: Store<Log = LogFile<File>>, E: Write>(
     rt: &'b HostRuntime,
@@ -66,20 +62,13 @@ pub fn prepare<'a, 'b, R: Store<Log = LogFile<File>>, E: Write>(
     ensures expected { IfOk result (λ prepared. MayExpectImage operation.now prepared.sources.bytes.items
         (expected_by prepared.connected)) }
 {
-    have_one_role(files, setting.device, &operation.task)?;
-    has_own_log(files, setting.device, operation)?;
-    check_log(files, operation.log)?;
-    check_new(files, operation)?;
     let terminal = Terminal::new(rt, screen, operation.progress, operation.is_verbose);
-    try_sources(files, operation)?;
-    let chip = read_shown(rt, terminal, setting, operation, errors)?;
-    let shown = bytes_of(&chip);
-    let included = find_included(files, named_regions(&operation.task, names), shown)?;
-    let regions = find_region_files(files, &operation.task, shown)?;
-    check_region_files(files, setting.device, operation, &regions)?;
-    let replaced = operation.is_replaced_chip;
-    let Included { ranges, farthest } = included;
-    let sources = prepare_sources(files, &operation.task, replaced, ranges, &regions)?;
+    let read = read_files(rt, terminal, files, setting, operation, names, errors)?;
+    let JobFiles {
+        regions,
+        farthest,
+        sources,
+    } = read;
     let image = image_of(&sources, operation);
     start_log(files, screen.log(), operation.log, keeps_log(operation))?;
     check_started(screen.log(), operation.log)?;
@@ -91,6 +80,54 @@ pub fn prepare<'a, 'b, R: Store<Log = LogFile<File>>, E: Write>(
         farthest,
         sources,
         connected,
+    })
+}
+
+// The contents of an operation's files, as `Prepared` has them.
+#[derive(Drop)]
+struct JobFiles<'a> {
+    regions: Vec<RegionFile<'a>>,
+    farthest: Option<Farthest<'a>>,
+    sources: Sources,
+}
+
+// Checks and reads the files of the operation, and returns the first fault. The steps:
+//
+// 1. Check that no file has two roles, that the log may be overwritten, and that the file of a backup is new.
+// 2. If the layout is on the chip, check the image or the journal, and then read the layout (`read_shown`).
+// 3. Find the included addresses, check the files of regions, and read and check the image or the journal.
+fn read_files<'a, 'b, R: Store<Log = LogFile<File>>, E: Write>(
+    rt: &'b HostRuntime,
+    terminal: Terminal<'b>,
+    files: &mut R,
+    setting: &Setting<'a>,
+    operation: &Operation<'a>,
+    names: &'a str,
+    errors: &mut E,
+) -> Result<JobFiles<'a>, Trouble<'a>>
+    requires { ArePlainNames (regions_of operation.now.task) names.now }
+    ensures same { AreUntouched (R.state files.old) (R.state files.new) }
+    ensures ok { IfOk result (λ read. IsPrepared (λ connected. ⟦<ChipBus<'b> as Bus>⟧.state connected.bus)
+        (R.state files.old).view setting.now.device operation.now
+        read.regions.items read.sources.included read.sources.bytes.items) }
+{
+    have_one_role(files, setting.device, &operation.task)?;
+    has_own_log(files, setting.device, operation)?;
+    check_log(files, operation.log)?;
+    check_new(files, operation)?;
+    try_sources(files, operation)?;
+    let chip = read_shown(rt, terminal, setting, operation, errors)?;
+    let shown = bytes_of(&chip);
+    let included = find_included(files, named_regions(&operation.task, names), shown)?;
+    let regions = find_region_files(files, &operation.task, shown)?;
+    check_region_files(files, setting.device, operation, &regions)?;
+    let replaced = operation.is_replaced_chip;
+    let Included { ranges, farthest } = included;
+    let sources = prepare_sources(files, &operation.task, replaced, ranges, &regions)?;
+    Ok(JobFiles {
+        regions,
+        farthest,
+        sources,
     })
 }
 
