@@ -1,14 +1,13 @@
 //! The lines that a run prints after an operation failed: the line of the fault, its hint, the cause of error 12, the
 //! line for a port that changes bytes, and a note.
 ghost use Rattle.std.specs.Prelude.{◌≡◌, ◌≤◌, true};
-ghost use Rattle.flashnor_serprog.specs.declared.stop_line.Left.TheVariants.{Unchanged};
+ghost use Rattle.board_hints.specs.declared.left.Left.TheVariants.{Unchanged};
 
 use crate::connect::{ChipBus, board_in};
-use crate::hints::{Known, print_operation_hint, unlocks};
-use crate::saved::Saved;
-use crate::stop_line::{Left, StopLine};
+use crate::stop_line::StopLine;
 use crate::trouble::Trouble;
 use board_files::{Farthest, MapLines};
+use board_hints::{Known, Left, Saved, print_operation_hint, unlocks};
 use board_jobs::{JobFault, new_journal_of};
 use board_progress::{ChangedLine, Terminal, protects};
 use nor_args::{Operation, Task};

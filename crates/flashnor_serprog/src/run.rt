@@ -17,13 +17,13 @@ use crate::connect::{ChipBus, Connected};
 use crate::lock_job::run_lock;
 use crate::preparing::{Prepared, prepare};
 use crate::reports::{clear_journal, print_job_fault, print_trouble, report_changed_byte};
-use crate::saved::Saved;
 use crate::setting::Setting;
 use crate::trouble::Trouble;
 use board_files::{
     Farthest, RegionFile, check_journal, end_badly, extract_image, is_new, is_session, journal_of,
     plain_names, read_before, reads_out, reason_hint, status_of, unwritten_by, write_region_files,
 };
+use board_hints::Saved;
 use board_jobs::{begin_notes, end_compared, end_job, end_well, report_strays, status_write_of};
 use board_progress::{RunLog, Screen};
 use clap::Error as WordsError;

@@ -1,8 +1,8 @@
 //! The line that follows the line of a fault: what to do, what was found and expected, or where the regions are.
 
 use crate::chip_names::{ChipText, Connected, Hex};
+use crate::left::Left;
 use crate::saved::Saved;
-use crate::stop_line::Left;
 use board_files::{Farthest, StatusBits, print_hint, reason_hint, regions_of};
 use board_progress::{Lock, Replies, SRP0, SRP1};
 use nor_args::{Change, Operation, Regions, Task, Wanted};
