@@ -8,6 +8,7 @@ use crate::contact::{Contact, look_for_chip};
 use crate::port::{DevicePort, PortFault};
 use crate::rules::Rules;
 use crate::setting::Setting;
+use crate::trial_reads::try_reads;
 use crate::trouble::{ProgrammerFault, Trouble};
 use crate::waking::wake;
 use board_progress::{Shown, Terminal};
@@ -113,11 +114,11 @@ impl From<ProgrammerFault> for Unconnected {
 }
 
 // Opens and locks the device, and identifies the programmer. Sets its clock if `spispeed=` is given, and its chip
-// select if `cs=` is given. Then wakes the chip; if the chip doesn't answer, looks for it (`look_for_chip`). Makes no
-// other transaction. Before the first exchange, logs and shows what to do if no reply ever arrives.
+// select if `cs=` is given. Then wakes the chip; if the chip doesn't answer, looks for it (`look_for_chip`). Makes
+// trial reads (`try_reads`), and no other transaction. Before the first exchange, logs and shows what to do if no reply
+// ever arrives.
 //
-// Returns a programmer fault from 1 to 12 if a step fails (12: the port changes bytes that are sent), or an error of
-// `expect_chip`.
+// Returns a programmer fault from 1 to 12, 14 or 15 if a step fails, or an error of `expect_chip`.
 //
 // The returned bus has carried out no transaction yet, and belongs to this device. The contract says nothing about the
 // frames that were sent before the bus existed.
@@ -150,6 +151,7 @@ fn connect<'a>(
     }
     let woken = wake(&mut link, &programmer)?;
     expect_chip(rt, &mut link, &woken)?;
+    try_reads(&mut link, &programmer)?;
     let longest_read = programmer.longest_read();
     let board = BoardBus::new(rt, link, programmer, image, rules);
     Ok(Connected {

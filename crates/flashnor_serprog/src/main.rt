@@ -17,6 +17,7 @@ mod rules;
 mod run;
 mod setting;
 mod stop_line;
+mod trial_reads;
 mod trouble;
 mod waking;
 

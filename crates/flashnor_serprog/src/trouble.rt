@@ -155,8 +155,8 @@ fn choices_for(setting: &str, flaw: Flaw) -> &'static str {
 // The arguments with which `stty` sets up a serial port for this program.
 const MODES: &str = "raw -echo clocal -hupcl min 0 time 50";
 
-/// The reason why the programmer can't be used. By then, at most the transactions of `wake` and `look_for_chip` were
-/// sent to the chip.
+/// The reason why the programmer can't be used. By then, at most the transactions of `wake`, `look_for_chip` and
+/// `try_reads` were sent to the chip.
 #[derive(Drop)]
 pub enum ProgrammerFault {
     /// 1: the device is missing, or the system could not open or lock it.
@@ -169,6 +169,10 @@ pub enum ProgrammerFault {
     Handshake(HandshakeFault<PortFault>),
     /// 12: the port changes bytes that are sent.
     ChangesBytes,
+    /// 14: frames as long as that of a page program don't reach the chip as they should.
+    LongFrames,
+    /// 15: reads that overlap differ, as they do if the chip takes four address bytes.
+    Addresses,
 }
 
 /// The advice that is printed for a programmer fault.
@@ -180,7 +184,7 @@ enum Remedy {
 }
 
 impl ProgrammerFault {
-    /// Returns the number of the fault, as printed: 1 to 12.
+    /// Returns the number of the fault, as printed: 1 to 12, 14 or 15. (13 is that of `ChangedLine`.)
     pub fn number(&self) -> u8 {
         match self {
             ProgrammerFault::NotOpened(_) => 1,
@@ -188,6 +192,8 @@ impl ProgrammerFault {
             ProgrammerFault::InUse => 3,
             ProgrammerFault::Handshake(fault) => number_of(fault),
             ProgrammerFault::ChangesBytes => 12,
+            ProgrammerFault::LongFrames => 14,
+            ProgrammerFault::Addresses => 15,
         }
     }
 
@@ -205,6 +211,10 @@ impl ProgrammerFault {
             ProgrammerFault::InUse => "is in use by another program",
             ProgrammerFault::Handshake(_) => "cannot be used",
             ProgrammerFault::ChangesBytes => "changes bytes that are sent to the programmer",
+            ProgrammerFault::LongFrames => "doesn't send a page program as one whole transaction",
+            ProgrammerFault::Addresses => {
+                "has a chip whose overlapping reads differ: it takes four address bytes, or a contact is bad"
+            }
         }
     }
 
@@ -224,6 +234,13 @@ impl ProgrammerFault {
             ProgrammerFault::Handshake(fault) => help_for(fault),
             ProgrammerFault::ChangesBytes => Remedy::DoAndSetUp(
                 "Disconnect the programmer from power for a second, connect it again, and set up the port:",
+            ),
+            ProgrammerFault::LongFrames => Remedy::Do(
+                "Install firmware that sends 260 bytes in a transaction, or that says how many it sends (Q_WRNMAXLEN).",
+            ),
+            ProgrammerFault::Addresses => Remedy::Do(
+                "Check contacts, disconnect the chip and its board from all power for ten seconds, and try again. If the \
+                line appears again, the chip is set to begin in four-byte mode: this program can't use it.",
             ),
         }
     }
