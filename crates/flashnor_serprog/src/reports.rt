@@ -131,6 +131,43 @@ pub fn report_changed_byte<E: Write>(errors: &mut E, bus: &ChipBus<'_>, status: 
     }
 }
 
+/// If a restore that succeeded (`status` is 0) left a board bit that isn't as in its journal, prints a line about it. A
+/// QE that is set now doesn't count, because the software of boards sets it. Returns the exit status of the run: 1 if
+/// the line was printed, otherwise `status`.
+///
+/// `saved` is what the journal of a restore says about its chip.
+pub fn report_kept_bits<E: Write>(
+    errors: &mut E,
+    bus: &ChipBus<'_>,
+    saved: Option<Saved>,
+    status: u8,
+) -> u8
+    ensures few { status ≤ 1 → result ≤ 1 }
+    ensures failed { result ≡ 0 → status ≡ 0 }
+{
+    match saved {
+        Some(saved) if status == 0 && has_lost_bits(saved.status[1], bus.replies().status[1]) => {
+            let _ = writeln!(errors, "{KEPT_BITS}");
+            1
+        }
+        _ => status,
+    }
+}
+
+// Returns whether status 2 of the chip has another board bit than that of the journal, except a QE that is set now.
+fn has_lost_bits(saved: u8, found: u8) -> bool {
+    let differing = (saved ^ found) & BOARD_BITS;
+    differing & !(found & QE) != 0
+}
+
+// QE is bit 1 of status 2. The reserved bit and LB1 to LB3 are bits 2 to 5 (W25Q64FV datasheet, Status Registers).
+const QE: u8 = 0x02;
+
+const BOARD_BITS: u8 = 0x3E;
+
+const KEPT_BITS: &str =
+    "All bytes and protection bits are restored, but not the status bits of the line \"Not restored\" above.";
+
 // Prints the line that follows the line of error 12: the cause, and what the job left.
 fn print_cause<E: Write>(errors: &mut E, bus: &ChipBus<'_>, left: Left<'_>) {
     let line = StopLine {

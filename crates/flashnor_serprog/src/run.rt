@@ -16,7 +16,9 @@ use crate::chip_list::print_chip_list;
 use crate::connect::{ChipBus, Connected};
 use crate::lock_job::run_lock;
 use crate::preparing::{Prepared, prepare};
-use crate::reports::{clear_journal, print_job_fault, print_trouble, report_changed_byte};
+use crate::reports::{
+    clear_journal, print_job_fault, print_trouble, report_changed_byte, report_kept_bits,
+};
 use crate::setting::Setting;
 use crate::trouble::Trouble;
 use board_files::{
@@ -267,7 +269,8 @@ fn run_job<'b, R: Store, O: Write, E: Write>(
         Ok(answer) => {
             bus.end_progress(true);
             let printed = end_compared(output, errors, &*files, bus, answer, operation, &before);
-            end_run(errors, bus, operation, printed)
+            let kept = report_kept_bits(errors, bus, saved, printed);
+            end_run(errors, bus, operation, kept)
         }
         Err(fault) => {
             bus.end_progress(false);

@@ -1,11 +1,10 @@
-use Rattle.std.proofs.Common.{refl}
 use Rattle.flashnor_serprog.proofs.Ran.{none_ok}
 use Rattle.flashnor_serprog.proofs.connect.connect.Goals as goal
 
 pub returns-clause-fresh : goal.returns-clause-fresh
 returns-clause-fresh c = rw c.new-3.ensures (record {
   history = c.new-2.ensures.history;
-  sent = rw (c.new-2.ensures.bus, c.new-bus.ensures.history) refl;
+  sent = rw c.new-2.ensures.bus c.new-board.ensures.fresh.sent;
 })
 
 pub returns-in_err-file-clause-fresh : goal.returns-in_err-file-clause-fresh

@@ -42,7 +42,7 @@ returns-in-Ok-2 g c = record {
   ends = rw (c.begin_notes.ensures, c.mark_job.ensures) at c.in-Ok-2.ensures.ends;
   sends = rw (c.begin_notes.ensures, c.mark_job.ensures) at c.end_job.ensures.sends;
   looked = refl;
-  few = c.end_run-in-Ok-2.ensures.few c.end_compared-printed.ensures.few;
+  few = c.end_run-in-Ok-2.ensures.few (c.report_kept_bits-kept.ensures.few c.end_compared-printed.ensures.few);
   printed = λ zero. search rules;
   copied = λ zero. none_copied _ _ _ _ (sym c.reads_out.ensures ∙ c.if-reads_out.false);
 }
