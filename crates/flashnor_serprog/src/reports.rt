@@ -13,7 +13,7 @@ use board_progress::{ChangedLine, Terminal, protects};
 use nor_args::{Operation, Task};
 use nor_console::{Escaped, Fault, SystemReason, named_by};
 use nor_files::Store;
-use nor_journal::Journal;
+use nor_journal::{Journal, MAGIC};
 use std::fs;
 use std::io::Write;
 
@@ -99,18 +99,25 @@ pub fn clear_journal<R: Store, E: Write>(
     );
 }
 
-// Removes the journal of this name if a session of this run created it and its bytes are no complete journal. Returns
-// whether it was removed. A `Store` can't remove a file, so this function calls the system.
+// Removes the journal of this name if a session of this run created it and its bytes are the beginning of a journal.
+// (Another program may have put its own file in its place meanwhile.) Returns whether it was removed. A `Store` can't
+// remove a file, so this function calls the system.
 fn has_removed<R: Store>(files: &R, terminal: Terminal<'_>, name: &str) -> bool {
     if !terminal.has_journal() {
         return false;
     }
     match files.read_named(name, LONGEST_JOURNAL) {
-        Ok(Some(bytes)) if Journal::read(&bytes).is_err() => {
+        Ok(Some(bytes)) if is_begun_journal(&bytes) => {
             fs::remove_file(terminal.rt(), name).is_ok()
         }
         _ => false,
     }
+}
+
+// Returns whether these bytes are an incomplete journal. A journal is written from its first byte on.
+fn is_begun_journal(bytes: &[u8]) -> bool {
+    let len = bytes.len().min(MAGIC.len());
+    bytes[..len] == MAGIC[..len] && Journal::read(bytes).is_err()
 }
 
 // More bytes than the longest journal has.
