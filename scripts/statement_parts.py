@@ -82,8 +82,8 @@ NAMES = {
         "`Unknown`, `new` may be anything.",
     "Stopped": "`Stopped`: what a failed transaction returns.",
     "SameNature":
-        "`SameNature old new`: `honest`, `steady`, `unlimited`, `longer` and, on a well-behaved bus, the chip's "
-        "`config` are as before.",
+        "`SameNature old new`: `honest`, `steady`, `punctual`, `unlimited`, `longer` and, if `honest`, the chip's "
+        "`config` stay.",
     "IsHonestFor":
         "`IsHonestFor out n bus`: the bus is well-behaved, and accepts a transaction of this length: `out` has at most "
         "260 bytes and `n` is at most 4,096 + `bus.longer`, or the bus is `unlimited`. No transaction of the engine "
