@@ -159,12 +159,12 @@ def check_begun(bench, old):
 def saves_no_wrong_bit(start):
     """One wrong bit in a reply stops a backup. What is left of its journal is refused (error 15).
 
-    The reply to ABh, which wakes the chip, is not used.
+    The replies before the job are not used: that to ABh, which wakes the chip, and those of the trial reads.
     """
     old, _ = images("saves_no_wrong_bit")
-    wire = reference.carried(reference.backup("TINY64"))
+    wire = reference.carried(reference.backup("TINY64"), old)
     bench = start(data=old)
-    for number, (out, replies) in enumerate(wire[1:], 2):
+    for number, (out, replies) in list(enumerate(wire, 1))[bench.first() - 1 :]:
         for byte in {0, replies // 2, replies - 1} if replies else ():
             # A wrong BUSY bit of a poll costs one more poll, and nothing else.
             bench.server.traits.wrong_bits = {number: (byte, 3)}
@@ -176,16 +176,16 @@ def saves_no_wrong_bit(start):
 def is_cut(start):
     """A backup that is killed, or loses a reply or the programmer, leaves no journal that --restore accepts."""
     old, _ = images("is_cut")
-    wire = reference.carried(reference.backup("TINY64"))
+    wire = reference.carried(reference.backup("TINY64"), old)
     bench = start(data=old)
-    for number in range(2, len(wire) + 1, STRIDE):
+    for number in range(bench.first(), len(wire) + 1, STRIDE):
         for event in "kill", "lose", "unplug":
             got = bench.run(*BACKUP, events={number: event})
             check("status 0", got.status == 0, False)
             if event != "kill":
                 begins(event, got, [STOPPED])
             bench.plug()
-            if number > len(reference.carried(reference.probe("TINY64"))):
+            if number > len(reference.carried(reference.probe("TINY64"), old)):
                 check("the file was created", bench.path("whole").exists(), True)
             check_begun(bench, old)
     bench.expect(*BACKUP, out=[reference.found("TINY64"), f"Read {SIZE} bytes."])

@@ -218,7 +218,13 @@ class Bench:
 
     def carried(self, plan):
         """Returns the transactions over the wire of a plan that is the plan of the last run."""
-        return reference.carried(plan, self.server.longest_read(), copy.deepcopy(self.before), self.image)
+        chip, server = copy.deepcopy(self.before), self.server
+        return reference.carried(plan, chip.data, server.longest_read(), server.longest_part(), chip, self.image)
+
+    def first(self):
+        """Returns the number of the first transaction of a job, on the chip as it is: those before it wake and try it."""
+        server = self.server
+        return len(reference.before_job(self.chip.data, server.longest_part(), server.longest_read())) + 1
 
     def check_frames(self, plan):
         """Checks that the bytes of the last run after the handshake are exactly the frames of this plan."""
@@ -254,6 +260,13 @@ class Bench:
 
     def check_nothing_sent(self):
         check("bytes sent", bytes(self.server.received), b"")
+
+    def check_untouched(self, data):
+        """Checks that the last run sent nothing but ABh and reads of data, created no journal, and changed no byte."""
+        check("opcodes", {out[:1].hex() for out, _ in self.server.log} - {"ab", "03"}, set())
+        self.check_absent("j")
+        self.check_absent("j.sectors")
+        self.check_chip(data)
 
     def check_unselected(self):
         """Checks that no transaction was sent."""

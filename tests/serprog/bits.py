@@ -114,7 +114,7 @@ WORKS = {f"bits_{it.__name__}": it for it in (protect, restore_range, unlock, bl
 
 def wire(work):
     """Returns the transactions over the wire of a job."""
-    return reference.carried(work.plan)
+    return reference.carried(work.plan, work.before)
 
 
 def sweeps(name):

@@ -4,6 +4,7 @@ The operation goes on in the chip while no program runs. The restore that follow
 must then restore each byte and status bit, and send nothing that a busy chip ignores.
 """
 import contextlib
+import itertools
 import random
 import tempfile
 from pathlib import Path
@@ -11,7 +12,7 @@ from typing import NamedTuple
 
 import reference
 from bench import Bench, Differs, check
-from chip import PARTS, SECTOR, WAKE
+from chip import PARTS, READ_DATA, SECTOR, WAKE
 from losses import FEW, MANY, STOPPED, chip_images
 
 # How long the operation lasts in which a run is stopped, in seconds. If it has ended before the restore begins, because
@@ -201,9 +202,9 @@ def stop(bench, words, event, at, seconds):
 
 
 def check_waiting(bench):
-    """Checks that the chip was busy when the last run began. The first poll may be the rest of what was sent before."""
+    """Checks that the chip was busy when the job began. The first poll may be the rest of what was sent before."""
     waits = 0
-    for out, reply in (it for it in bench.server.log if it[0][0] != WAKE):
+    for out, reply in itertools.dropwhile(lambda it: it[0][0] in (WAKE, READ_DATA), bench.server.log):
         if out != POLL or not reply[0] & 1:
             break
         waits += 1

@@ -92,8 +92,9 @@ class Chip:
 
     `scale` multiplies the durations of the datasheet, so with 0 the chip is never busy. `slow` has other durations, by
     the number of the operation. `wp_low` says whether the pin WP# is low, so that SRP0 locks the status. A chip that
-    `is_asleep` is in deep power-down, and ignores each command except ABh. Transactions that changed nothing although
-    they should have are counted in `ignored`.
+    `is_asleep` is in deep power-down, and ignores each command except ABh. One that `has_four` is in four-byte mode
+    (W25Q256FV datasheet, Address Modes). Transactions that changed nothing although they should have are counted in
+    `ignored`, and so are those that a busy chip ignores, except for reads of data before the first poll of a run.
     """
 
     def __init__(self, part, data=None, status=b"\0\0", unique=DEVICE, scale=0.0, wp_low=True):
@@ -105,7 +106,7 @@ class Chip:
         self.status = bytearray(status)
         self.unique, self.scale, self.wp_low = unique, scale, wp_low
         self.wel, self.until, self.ignored, self.slow = False, 0.0, 0, {}
-        self.is_asleep = False
+        self.is_asleep = self.has_four = False
         self.count_anew()
         # What the last transaction changes: if it is a program or an erase, the address of its first byte and the bytes
         # before it; if it is a status write, the status bytes before it.
@@ -165,7 +166,7 @@ class Chip:
         if opcode == 0x35:
             return bytes([self.status[1]]) * replies
         if self.is_busy():
-            self.ignored += 1
+            self.ignored += opcode != READ_DATA or self.operations + self.polls > 0
         elif replies:
             return self.read(opcode, out, replies)
         elif opcode in (0x06, 0x04) and len(out) == 1:
@@ -184,11 +185,21 @@ class Chip:
             found = self.unique
         elif opcode == READ_SFDP and len(out) == 5:
             found = sfdp(self.size)[int.from_bytes(out[1:4], "big") :]
-        elif opcode == READ_DATA and len(out) == 4:
-            return self.read_data(int.from_bytes(out[1:], "big") % self.size, replies)
+        elif opcode == READ_DATA and len(out) >= 4:
+            return self.read_from(out, replies)
         else:
             found = b""
         return found[:replies].ljust(replies, b"\xff")
+
+    def address(self, sent):
+        """Returns the address of these bytes. The chip receives 00h while it replies."""
+        return int.from_bytes((sent + b"\0")[1 : 4 + self.has_four], "big") % self.size
+
+    def read_from(self, out, replies):
+        """Returns what a read of data receives. The bytes sent after the address pass over as many bytes of data."""
+        early = min(replies, max(0, 4 + self.has_four - len(out)))
+        skipped = max(0, len(out) - 4 - self.has_four)
+        return b"\xff" * early + self.read_data((self.address(out) + skipped) % self.size, replies - early)
 
     def read_data(self, address, length):
         """Returns data bytes. After the last byte of the chip the first one follows."""
@@ -204,11 +215,12 @@ class Chip:
         """Carries out a status write, a program or an erase, and returns whether the chip accepted it."""
         if opcode == 0x01 and len(out) in (2, 3):
             return self.write_status(out[1:])
-        if opcode == 0x02 and len(out) > 4:
-            return self.program(int.from_bytes(out[1:4], "big") % self.size, out[4:])
-        if opcode in ERASES and len(out) == 4:
+        header = 4 + self.has_four
+        if opcode == 0x02 and len(out) > header:
+            return self.program(self.address(out), out[header:])
+        if opcode in ERASES and len(out) == header:
             length = ERASES[opcode]
-            start = int.from_bytes(out[1:], "big") % self.size & -length
+            start = self.address(out) & -length
             return self.change(opcode, start, b"\xff" * length)
         if opcode == 0xC7 and len(out) == 1:
             return self.change(opcode, 0, b"\xff" * self.size)

@@ -18,9 +18,9 @@ from wire import STOPPED
 
 UNIQUE = bits.UNIQUE
 ALL = range(16)
-# The number of transactions at the start, with the identification, for which each length of a loss is tried, with both
-# bytes. At each later transaction one length and one byte are tried, and a loss until the end.
-IDENTIFICATION = 20
+# The number of transactions at the start of a job, with the identification, for which each length of a loss is tried,
+# with both bytes. At each other transaction one length and one byte are tried, and a loss until the end.
+IDENTIFICATION = 19
 LENGTHS = (1, 2, 3, 5, 9)
 END = 1 << 24
 ADVICE = "h during the run. Check contacts and supply."
@@ -130,13 +130,14 @@ def lose(start, work):
     bench.remembers = False
     bench.write("layout", bits.LAYOUT)
     bench.write("new", work.after)
+    first = bench.first()
     check("the run without a loss", try_lost(bench, work, ()).status, 0)
     log = list(bench.server.log)
     # The first modifying command is a write enable.
     seal = next((at for at, (out, _) in enumerate(log) if out[0] in reference.CHANGING), END)
     # With a STRIDE of 9 the numbers 6, 15 and so on detect all mistakes of self.py.
     for at in (it for it in range(2, len(log) + 1) if it % STRIDE == 6 % STRIDE):
-        is_first = at <= IDENTIFICATION
+        is_first = first <= at < first + IDENTIFICATION
         # A poll that receives FFh shows BUSY. contacts.py has these losses, each of which takes 1.5 s of pauses.
         is_poll = next(out for out, reply in log[at - 1 :] if reply) == b"\x05"
         for byte in (0xFF, 0x00) if is_first else ((0xFF, 0x00)[at % 2],):
@@ -145,8 +146,8 @@ def lose(start, work):
             if is_poll and byte == 0xFF:
                 continue
             got = try_lost(bench, work, (at, END, byte))
-            # The first ID is received by the third transaction. If the chip is lost before, nothing is compared with it.
-            if at > 3:
+            # The first ID follows the first poll. If the chip is lost before, nothing is compared with it.
+            if at > first + 1:
                 check_cause(got, work, at, seal, byte)
 
 

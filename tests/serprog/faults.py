@@ -99,11 +99,11 @@ def opens_only_its_device(start):
 
 
 def sends_nothing_before_its_job(start):
-    """Between the handshake and the job's first frame, a run sends only the frame of ABh."""
+    """Between the handshake and the job's first frame, a run sends only the frame of ABh and the trial reads."""
     old, new = images("sends_nothing_before_its_job")
     bench = start(data=old)
     bench.write("new", new)
-    first = reference.frames(reference.carried([reference.POLL]))
+    first = reference.frames(reference.carried([reference.POLL], old))
     for words in (), ("-r", "out"), ("-v", "new"), ("-w", "new", "--journal", "j"), ("--restore", "j"):
         bench.run(*words)
         commands, rest = split_handshake(bench.server.received)
@@ -231,8 +231,9 @@ def reports_causes(start):
     old, new = images("reports_causes")
     wire = session_wire(old, new)
     seal = wire.index(reference.WRITE_ENABLE)
+    started = len(reference.before_job(old))
     for event, text in CAUSES.items():
-        for at in 3, seal, seal + 5:
+        for at in started + 2, seal, seal + 5:
             bench = start(data=old, timeout=SOON)
             bench.write("new", new)
             got = bench.run("-w", "new", "--journal", "j", events={at: event})
@@ -243,7 +244,7 @@ def reports_causes(start):
             # A page program after a write enable is on its way already.
             batch = at + (wire[at - 1] == reference.WRITE_ENABLE and reference.joins(wire[at][0]))
             bench.check_carried(batch - (event == "nak"))
-        got = bench.run("-r", "out", events={9: event})
+        got = bench.run("-r", "out", events={started + 8: event})
         bench.compare(got, [], ["Error 12: stopped.", f"Cause: {text}. {UNPLUG}"])
 
 
@@ -304,7 +305,7 @@ def reads_twice(start):
         bench.check_chip(old)
         bench.check_absent(f"j{first}")
     bench.write("same", old)
-    wire = reference.carried(reference.probe("TINY64"))
+    wire = reference.carried(reference.probe("TINY64"), old)
     # The second block, after the first one and the ID.
     bench.server.traits.wrong_bits = {len(wire) + 3: (0, 4)}
     check("a wrong bit", bench.run("-v", "same").err[-1], DIFFER)

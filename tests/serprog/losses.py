@@ -45,19 +45,20 @@ def chip_images(changed):
 def session_wire(old, new):
     """Returns the transactions over the wire of a run with a session."""
     plan = reference.whole_run("TINY64", reference.session("TINY64", old, new), True)
-    return reference.carried(plan, chip=Chip("TINY64", old), image=new)
+    return reference.carried(plan, old, chip=Chip("TINY64", old), image=new)
 
 
 def losses():
     """Returns the losses: at each transaction of a session, and at each of a restore after a session that ended.
 
-    The first transaction, which wakes the chip, belongs to neither.
+    Those before the job, which wake the chip and try it, belong to neither. A kill is also tried at these.
     """
     old, new = chip_images(FEW)
     wire = session_wire(old, new)
-    back = reference.carried(reference.whole_restore("TINY64", reference.restore("TINY64", old, FEW), FEW))
-    found = [Loss(event, at) for event in ("kill", "lose") for at in range(2, len(wire) + 1)]
-    found += [Loss(event, 0, at) for event in ("kill", "lose") for at in range(2, len(back) + 1)]
+    back = reference.carried(reference.whole_restore("TINY64", reference.restore("TINY64", old, FEW), FEW), new)
+    first = len(reference.before_job(old)) + 1
+    found = [Loss(event, at) for event, begin in (("kill", 1), ("lose", first)) for at in range(begin, len(wire) + 1)]
+    found += [Loss(event, 0, at) for event, begin in (("kill", 1), ("lose", first)) for at in range(begin, len(back) + 1)]
     # A session that is stopped in the middle, and its restore too.
     middle = range(sealed_after(wire) + 10, len(wire) + 1)
     found += [Loss(event, at, at // 2) for event in ("kill", "lose") for at in middle]
@@ -105,7 +106,7 @@ def one_loss(bench, loss, old, new):
     journal = reference.journal("TINY64", old, loss.changed)
     if 0 < loss.session <= sealed_after(wire):
         bench.check_chip(old)
-        if loss.session <= len(reference.carried(reference.probe("TINY64"))):
+        if loss.session <= len(reference.carried(reference.probe("TINY64"), old)):
             bench.check_absent("j")
             return
         if loss.event == "lose":

@@ -183,7 +183,7 @@ def removes_an_unsealed_journal(start):
     sealed = seal - len(reference.compared(*reference.UNIQUE, 0))
     bench = start(data=old)
     bench.write("new", new)
-    created = len(reference.carried(reference.probe("TINY64"))) + 1
+    created = len(reference.carried(reference.probe("TINY64"), old)) + 1
     for at, is_left in (created, False), (sealed, False), (sealed + 1, True), (seal + 1, True):
         got = bench.run("-w", "new", "--journal", "j", events={at: "nak"})
         check("error 12", got.err[0], "Error 12: stopped.")
@@ -321,7 +321,7 @@ def overwrites_no_file_that_appears_late(start):
         bench.path("log").unlink(missing_ok=True)
         bench.server.begin({})
         process = bench.start(["-r", "out", "--fmap", "-i", "all", "-o", "log"])
-        while len(bench.server.log) < 6:
+        while len(bench.server.log) < bench.first() + 4:
             time.sleep(0.01)
         check("the log before", bench.path("log").exists(), False)
         bench.write("log", content)

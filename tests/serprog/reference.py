@@ -10,7 +10,7 @@ from chip import CMP, DEVICE, ERASES, PAGE, PARTS, READ_DATA, READ_ID, READ_SFDP
 
 POLL = (b"\x05", 1)
 READ_STATUS_2 = (b"\x35", 1)
-# Over the wire: the command that is sent before each run, with the 12 bytes and 10 reply bytes that show whether the port
+# Over the wire: the command that is sent first in each run, with the 12 bytes and 10 reply bytes that show whether the port
 # changes 0Dh or 0Ah, and what a programmer with lower limits gets; the query of the version that follows the former; a
 # poll with two bytes of the status, and the opcodes whose
 # replies are received twice. After each of these replies, except to the ID itself, `CONFIRM` reads the ID once more, and
@@ -25,6 +25,11 @@ CONFIRM = (bytes([READ_ID]), 3)
 TABLE_LEN = 36
 WRITE_ENABLE = (b"\x06", 0)
 PROTECTION_1 = 0x7C
+# A number of bytes that no transaction needs: a programmer without a limit.
+UNLIMITED = 1 << 24
+# The trial reads before a job: how many places they try, the distance of two places, and how many bytes a read returns
+# at most, and the one in a frame as long as that of a page program.
+PLACES, STEP, TRIAL, FEW, PROGRAM = 8, 0x1110, 32, 4, 260
 # The greatest length of a block that is read ahead, and the opcodes that modify a chip.
 BLOCK = 65536
 CHANGING = (0x06, 0x01, 0x02, *ERASES, 0xC7)
@@ -130,6 +135,14 @@ BITS = (((0x80, "SRP0"), (0x40, "SEC"), (0x20, "TB"), (0x10, "BP2"), (0x08, "BP1
          (0x01, "SRP1")))
 
 
+# The programmer faults of the trial reads. DEV is the device.
+LONG_FRAMES = "Programmer fault 14: DEV doesn't send a page program as one whole transaction. Install firmware that " \
+    "sends 260 bytes in a transaction, or that says how many it sends (Q_WRNMAXLEN)."
+FOUR_BYTES = "Programmer fault 15: DEV has a chip whose overlapping reads differ: it seems to take four address bytes. " \
+    "Disconnect the chip and its board from all power for ten seconds, and try again. If the line appears again, the " \
+    "chip is set to begin in four-byte mode: this program can't use it."
+# The last line of a restore that succeeded, except for bits of the line "Not restored". A QE that is set doesn't count.
+LOST_BITS = "All bytes and protection bits are restored, but not the status bits of the line \"Not restored\" above."
 # The end of chip fault 4 after a restore.
 REST_DIFFERS = "from what was read before this restore. The journal doesn't save this sector, which a disturbed " \
     "address on the wire has probably erased or programmed. Restore this sector from a backup. Repeating this " \
@@ -236,18 +249,40 @@ class Limited(tuple):
     limit = 1 << 24
 
 
-def carried(plan, longest=BLOCK, chip=None, image=None):
-    """Returns the transactions over the wire of a plan, for a programmer that reads at most `longest` bytes in one.
+def trials(data, sends=UNLIMITED, reads=UNLIMITED):
+    """Returns the trial reads of a chip with this data, at a programmer that sends and reads at most so many bytes.
 
-    First the chip is woken. Data is read ahead: a read that goes on where the last block ended reads a block of twice
-    the length, up to the limit, the next multiple of 64 KiB and the limit of the read. A block is forgotten at each
-    other transaction. It is read twice. Before the first modifying command the unique ID is read again, if it was read.
-    If an image is expected, only the sectors that differ from it are read again; `chip` is a model of the
-    chip before the plan, which is changed. Other replies are compared as `compared` says. After each of these reads the
-    ID is read. Status 2 isn't read from a chip that is identified by its SFDP, whose table has nine double words. Before
-    this table the ID is read, too.
+    At each place two reads overlap. The first place whose bytes aren't all equal is the last one. There, a read behind
+    padding makes a frame as long as that of a page program, and a direct read of these bytes follows.
     """
-    found, begin, end, step, last = [WAKES], 0, 0, 0, 0
+    found, length = [], min(TRIAL, reads)
+    for address in range(0, PLACES * STEP, STEP):
+        found += [(command(READ_DATA, address), length), (command(READ_DATA, address + 1), length - 1)]
+        if len(set(data[address : address + length])) > 1:
+            break
+    padding = min(PROGRAM, sends) - 4
+    return found + [(command(READ_DATA, at, dummies), min(FEW, reads))
+                    for at, dummies in ((address, padding), (address + padding, 0))]
+
+
+def before_job(data, sends=UNLIMITED, reads=UNLIMITED):
+    """Returns the transactions of a connection before the first one of its job: the chip is woken, and read in trials."""
+    has_room = sends >= len(WAKES[0]) and reads >= WAKES[1]
+    return [WAKES if has_room else ONLY_WAKES] + trials(data, sends, reads)
+
+
+def carried(plan, data, reads=BLOCK, sends=UNLIMITED, chip=None, image=None):
+    """Returns the transactions over the wire of a plan, for a programmer with these limits and a chip with this data.
+
+    First those before the job are made. Data is read ahead: a read that goes on where the last block ended reads a block
+    of twice the length, up to the limit, the next multiple of 64 KiB and the limit of the read. A block is forgotten at
+    each other transaction. It is read twice. Before the first modifying command the unique ID is read again, if it was
+    read. If an image is expected, only the sectors that differ from it are read again; `chip` is a model of the chip
+    before the plan, which is changed. Other replies are compared as `compared` says. After each of these reads the ID is
+    read. Status 2 isn't read from a chip that is identified by its SFDP, whose table has nine double words. Before this
+    table the ID is read, too.
+    """
+    found, begin, end, step, last = before_job(data, sends, reads), 0, 0, 0, 0
     has_row = all(out[0] != READ_SFDP for out, _ in plan)
     for item in plan:
         out, replies = item
@@ -265,7 +300,7 @@ def carried(plan, longest=BLOCK, chip=None, image=None):
             continue
         at = int.from_bytes(out[1:], "big")
         if at < begin or at + replies > end:
-            step = min(2 * step, longest // SECTOR * SECTOR) if at == end > begin else replies
+            step = min(2 * step, reads // SECTOR * SECTOR) if at == end > begin else replies
             limit = getattr(item, "limit", Limited.limit)
             begin, end = at, at + max(replies, min(step, BLOCK - at % BLOCK, limit - at))
             again = [(begin, end)] if image is None else differing(chip.read_data(begin, end - begin), image, begin)

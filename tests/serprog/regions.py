@@ -296,7 +296,7 @@ def keeps_the_files_if_a_read_stops(start):
     old = random_image("stop")
     bench = begin(start, old)
     bench.write("a", b"before")
-    for at in 6, 7, 9, 11:
+    for at in (bench.first() + it for it in (4, 5, 7, 9)):
         got = bench.run("-r", "out", "-l", "layout", "-i", "boot:a,main:b", events={at: "nak"})
         check("the run", (got.out, got.err[:1], got.status), ([], ["Error 12: stopped."], 1))
         bench.check_file("a", b"before")

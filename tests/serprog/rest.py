@@ -20,13 +20,18 @@ def restored(seed, numbers=(2, 7, 15)):
 def restore_wire(old, numbers):
     """Returns the transactions over the wire of a restore that is compared, and the numbers of its modifying ones."""
     plan = reference.whole_restore("TINY64", reference.restore("TINY64", old, numbers), numbers)
-    wire = reference.carried(plan)
+    wire = reference.carried(plan, old)
     return wire, [at for at, (out, _) in enumerate(wire, 1) if out[0] in reference.CHANGING]
 
 
-def rest_count(numbers):
+def count(plan, data):
+    """Returns the number of transactions over the wire of a plan, without those before the job."""
+    return len(reference.carried(plan, data)) - len(reference.before_job(data))
+
+
+def rest_count(numbers, data):
     """Returns the number of transactions over the wire that read the sectors which a journal doesn't save once."""
-    return len(reference.carried(reference.read_rest("TINY64", numbers))) - 1
+    return count(reference.read_rest("TINY64", numbers), data)
 
 
 def compares_the_rest_of_a_restore(start):
@@ -38,7 +43,7 @@ def compares_the_rest_of_a_restore(start):
     old, new, journal = restored("compares_the_rest_of_a_restore")
     wire, changing = restore_wire(old, numbers)
     # The last reads before the comparison are those of the sectors that the restore changed.
-    rest = rest_count(numbers)
+    rest = rest_count(numbers, old)
     wrong = bytearray(new)
     for number in numbers:
         wrong[(number ^ 4) * SECTOR : ((number ^ 4) + 1) * SECTOR] = reference.sector_of(old, number)
@@ -48,7 +53,7 @@ def compares_the_rest_of_a_restore(start):
         first, last = changing[0], len(wire) - rest
         if words:
             plan = reference.session("TINY64", new, old, numbers)
-            quick = reference.carried(reference.whole_restore("TINY64", plan, numbers))
+            quick = reference.carried(reference.whole_restore("TINY64", plan, numbers), new)
             first = next(at for at, (out, _) in enumerate(quick, 1) if out[0] in reference.CHANGING)
             last = len(quick) - rest
         bench.server.traits.wrong_address = (first, last, 14)
@@ -63,7 +68,7 @@ def compares_the_rest_of_a_restore(start):
         check("a further restore", bench.run("--restore", "j", *words).status, 0)
         bench.check_chip(b"".join(reference.sector_of(old if it in numbers else changed, it) for it in ALL))
     plan = reference.restore("TINY64", old, numbers)
-    wire = reference.carried(plan)
+    wire = reference.carried(plan, new)
     bench = start(data=new)
     bench.write("j", journal)
     first = next(at for at, (out, _) in enumerate(wire, 1) if out[0] in reference.CHANGING)
@@ -83,7 +88,7 @@ def compares_after_error_14(start):
             bench = start(data=new)
             bench.write("j", journal)
             # With -N the 13 sectors that aren't saved are not read, nor is the chip identified before.
-            before = len(reference.carried(reference.probe("TINY64"))) - 1 + rest_count(numbers)
+            before = count(reference.probe("TINY64"), new) + rest_count(numbers, new)
             number = at - before * bool(words)
             bench.server.traits.wrong_address = (number, number, 14)
             got = bench.run("--restore", "j", *words)
@@ -110,7 +115,7 @@ def reads_restores_twice(start):
         bench = start(data=old)
         bench.write("j", journal)
         check("the restore", bench.run("--restore", "j", *words).status, 0)
-        reads = [(at, it) for at, it in enumerate(bench.server.log, 1) if it[0][0] == 0x03]
+        reads = [(at, it) for at, it in enumerate(bench.server.log, 1) if at >= bench.first() and it[0][0] == 0x03]
         check("reads", len(reads) > 0, True)
         check("pairs of reads", [one[1] for one in reads[::2]], [other[1] for other in reads[1::2]])
         for at, _ in reads[:: max(1, len(reads) // 8)]:
@@ -126,7 +131,7 @@ def stops_in_the_rest(start):
     old, new, journal = restored("stops_in_the_rest")
     wire, changing = restore_wire(old, numbers)
     note = "The sectors that the journal doesn't save were not compared after the restore."
-    before = next(at for at, (out, _) in enumerate(wire, 1) if out[0] == 0x03)
+    before = next(at for at, it in enumerate(wire, 1) if it == reference.read_sector(0))
     erase = next(at for at in changing if wire[at - 1][0][0] == 0x20)
     # The last transaction reads the ID, after the last read of data. After the wrong erase, the verification ends at the
     # first of the three sectors, and each of the others would need four transactions.

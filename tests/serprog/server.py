@@ -81,6 +81,13 @@ class Traits:
     wrong_address: tuple = ()
     # The number of a transaction before which the board is exchanged, and the chip of the other board.
     other: tuple = ()
+    # Limits that the programmer doesn't report. It refuses a transaction that sends more bytes than the first of these, or
+    # sends and reads more than the second one together. It never replies to one that sends more than the third.
+    most_sent: int = 1 << 24
+    most_in_buffer: int = 1 << 24
+    most_replied: int = 1 << 24
+    # What the firmware sends to the chip in the place of the bytes of a frame.
+    sends: object = bytes
     # Seconds for each way there and back, and bytes per second.
     latency: float = 0.0
     rate: float = 0.0
@@ -179,6 +186,15 @@ class Server:
         """Returns the greatest number of bytes that a transaction reads, as a client knows it."""
         return (0x11 in self.known() and self.traits.longest_read) or 1 << 24
 
+    def longest_part(self):
+        """Returns the greatest number of bytes that a transaction sends, as a client knows it.
+
+        Without Q_WRNMAXLEN the frame must fit into the serial buffer, if the programmer has Q_SERBUF.
+        """
+        if 0x08 in self.known():
+            return self.traits.longest_write or 1 << 24
+        return self.traits.buffer - 7 if 0x04 in self.known() and self.traits.buffer else 1 << 24
+
     def command_map(self):
         bits = sum(1 << opcode for opcode in self.known())
         return bits.to_bytes(32, "little")
@@ -197,9 +213,11 @@ class Server:
             raise Unplugged
         traits = self.traits
         if event == "nak" or O_SPIOP in traits.lacks or longest > (traits.longest_write or 1 << 24) or \
-                replies > (traits.longest_read or 1 << 24):
+                replies > (traits.longest_read or 1 << 24) or longest > traits.most_sent or \
+                longest + replies > traits.most_in_buffer:
             self.put(NAK)
             return
+        self.is_mute = self.is_mute or longest > traits.most_replied
         reply = self.carry(number, out, replies)
         event = event or traits.events.pop((self.chip.operations, self.chip.polls), "")
         self.log.append((out, reply))
@@ -218,9 +236,9 @@ class Server:
         if traits.lost and traits.lost[0] <= number <= traits.lost[1]:
             return bytes([traits.lost[2]]) * replies
         first, last, bit = traits.wrong_address or (0, 0, 0)
-        heard = out
+        heard = traits.sends(out)
         if first <= number <= last and out[0] in ADDRESSED:
-            heard = out[:1] + (int.from_bytes(out[1:4], "big") ^ 1 << bit).to_bytes(3, "big") + out[4:]
+            heard = heard[:1] + (int.from_bytes(heard[1:4], "big") ^ 1 << bit).to_bytes(3, "big") + heard[4:]
         reply = bytearray(self.chip.transfer(heard, replies))
         for at in number, poll:
             byte, bit = traits.wrong_bits.get(at, (0, 0))

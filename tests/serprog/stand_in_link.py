@@ -153,6 +153,8 @@ class Link:
             self.identify(keys)
             if MISTAKE != "does not wake":
                 self.wake()
+            if MISTAKE != "makes no trial reads":
+                self.try_reads()
         except Stopped as why:
             self.refuse(str(why))
 
@@ -173,6 +175,46 @@ class Link:
             raise Fault(f"Programmer fault 12: {self.path} changes bytes that are sent to the programmer. Disconnect the "
                         "programmer from power for a second, connect it again, and set up the port: "
                         + STTY.format(self.path))
+
+    def try_reads(self):
+        """Makes the trial reads before a job."""
+        length = min(reference.TRIAL, self.receives)
+        for address in range(0, reference.PLACES * reference.STEP, reference.STEP):
+            if len(set(self.overlapping(address, length))) > 1:
+                break
+        padding = min(reference.PROGRAM, self.sends) - 4
+        for _ in range(1 if MISTAKE == "tries long frames once" else 3):
+            few = min(reference.FEW, self.receives)
+            behind = self.try_long(reference.command(READ_DATA, address, padding), few)
+            if behind is None or behind == self.operate(reference.command(READ_DATA, address + padding), few) \
+                    or MISTAKE == "takes any long frame":
+                return
+        raise Fault(reference.LONG_FRAMES.replace("DEV", self.path))
+
+    def overlapping(self, address, length):
+        """Returns bytes of the chip that two reads agree on, of which one begins a byte later."""
+        for _ in range(1 if MISTAKE == "tries each place once" else 3):
+            first = self.operate(reference.command(READ_DATA, address), length)
+            second = self.operate(reference.command(READ_DATA, address + 1), length - 1)
+            if first[1:] == second or MISTAKE == "takes any overlap":
+                return first
+        raise Fault(reference.FOUR_BYTES.replace("DEV", self.path))
+
+    def try_long(self, out, length):
+        """Returns the reply to a long frame. If the programmer refuses it, sends it without a reply, and returns `None`."""
+        try:
+            try:
+                return self.operate(out, length)
+            except Stopped as why:
+                if "refused" not in str(why) or MISTAKE == "sends no frame again":
+                    raise
+            self.synchronize()
+            self.operate(out, 0)
+            return None
+        except Stopped as why:
+            if str(why).startswith("the port failed"):
+                raise
+            raise Fault(reference.LONG_FRAMES.replace("DEV", self.path)) from None
 
     @staticmethod
     def open(path):

@@ -161,14 +161,14 @@ def rewrites_a_line(start):
 def says_that_the_chip_is_busy(start):
     """If 256 polls show BUSY before the ID is read, a line says what may be wrong.
 
-    The first transaction wakes the chip, so the last reply of 03h is that of poll 255 or 256.
+    All bytes that are received before are 03h, too.
     """
-    for last, lines in (256, []), (257, [BUSY_CHIP]), (400, [BUSY_CHIP]):
+    for polls, lines in (255, []), (256, [BUSY_CHIP]), (399, [BUSY_CHIP]):
         bench = start()
-        bench.server.traits.lost = (1, last, 0x03)
+        bench.server.traits.lost = (1, bench.first() - 1 + polls, 0x03)
         bench.expect_at_terminal(lines=[*lines, "identify"])
     bench = start()
-    bench.server.traits.lost = (1, 300, 0x03)
+    bench.server.traits.lost = (1, bench.first() + 298, 0x03)
     check("the exit status", bench.run("-o", "log").status, 0)
     check("a line of the log", BUSY_CHIP in bench.path("log").read_text(), True)
 

@@ -49,7 +49,7 @@ def compares_replies(start):
     check("the run", bench.run(*PROTECT).status, 0)
     log = list(bench.server.log)
     seal = next(at for at, (out, _) in enumerate(log) if out[0] in reference.CHANGING)
-    for number in range(2, seal + 1):
+    for number in range(bench.first(), seal + 1):
         out, reply = log[number - 1]
         for bit in (1, 3, 4, 5, 6) if out[0] in (0x05, 0x35) else (0,):
             bench.chip.status[:] = BEFORE
@@ -61,9 +61,9 @@ def compares_replies(start):
     old, new = images("compares_replies")
     bench = start(data=old)
     bench.write("new", new)
-    # Before the six reads of SFDP: ABh, two polls, each with the ID after it, and the ID twice. The ID follows each, and
-    # is read twice more before the two reads of the table.
-    for number in 8, 10, 12, 14, 18, 20:
+    # Before the six reads of SFDP: two polls, each with the ID after it, and the ID twice. The ID follows each, and is
+    # read twice more before the two reads of the table.
+    for number in (bench.first() + it for it in (6, 8, 10, 12, 16, 18)):
         bench.server.traits.wrong_bits = {number: (7, 5)}
         begins(f"SFDP, transaction {number}", bench.run("-w", "new", "--journal", "j"), [STOPPED, DIFFER])
         check("the opcode", bench.server.log[number - 1][0][:1], b"\x5a")
@@ -75,7 +75,7 @@ def believes_busy(start):
     """A wrong bit that shows BUSY costs one more poll. One that hides BUSY in one of two bytes hides nothing."""
     for byte in 0, 1:
         bench = start("W25Q64FV", data=b"\xff" * LARGE, status=BEFORE)
-        bench.server.traits.wrong_bits = {2: (byte, 0)}
+        bench.server.traits.wrong_bits = {bench.first(): (byte, 0)}
         bench.expect(*PROTECT, out=[FOUND, "Done: touched 0, erases 0, programs 0, transactions 8.",
                                     "Range: 0x000000,0x800000"])
         bench.check_chip(b"\xff" * LARGE, AFTER)
@@ -241,7 +241,7 @@ def leaves_the_rest_out(start):
     """With -N the same wrong address bit isn't noticed. A later -v finds it, and the journal has the saved sectors."""
     old, new = images("leaves_the_rest_out", (2, 7, 15))
     plan = reference.session("TINY64", old, new)
-    wire = reference.carried(reference.whole_run("TINY64", plan))
+    wire = reference.carried(reference.whole_run("TINY64", plan), old)
     first = next(at for at, (out, _) in enumerate(wire, 1) if out[0] in reference.CHANGING)
     bench = start(data=old, wrong_address=(first, len(wire), 14))
     bench.write("new", new)
@@ -271,7 +271,7 @@ def compares_excluded_sectors(start):
     plan = reference.session("TINY64", old, old[: 6 * SECTOR] + image[6 * SECTOR :], [6])
     for option, is_compared in ((), True), (("-N",), False):
         whole = reference.whole_run("TINY64", plan, is_compared, True)
-        wire = reference.carried(whole, chip=Chip("TINY64", old), image=image if is_compared else None)
+        wire = reference.carried(whole, old, chip=Chip("TINY64", old), image=image if is_compared else None)
         first = next(at for at, (out, _) in enumerate(wire, 1) if out[0] in reference.CHANGING)
         last = reference.compares_from(wire, first) - 1 if is_compared else len(wire)
         bench = start(data=old, wrong_address=(first, last, 14))
