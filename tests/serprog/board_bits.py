@@ -14,10 +14,13 @@ from wire import check_unchanged
 PART, LARGE = "W25Q32FV", 1 << 22
 SECTOR = 4096
 UNIQUE = bytes.fromhex("d1d2d3d4d5d6d7d8")
-# The status of the journal, that of the chip before the restore, and that after it.
-CHANGED = ((b"\0\0", b"\0\x02", b"\0\x02"), (b"\0\x02", b"\0\0", b"\0\0"), (b"\0\0", b"\0\x04", b"\0\x04"),
-           (b"\0\x08", b"\0\x3a", b"\0\x3a"), (b"\x18\x40", b"\0\x02", b"\x18\x42"), (b"\0\0", b"\x2c\x48", b"\0\x08"),
-           (b"\x80\x02", b"\x80\0", b"\x80\0"), (b"\0\x03", b"\0\x01", b"\0\x01"))
+# The status of the journal, that of the chip before the restore, that after it, and the exit status. A QE that is set
+# and wasn't is no fault. Each other bit that stays is one.
+CHANGED = ((b"\0\0", b"\0\x02", b"\0\x02", 0), (b"\0\x02", b"\0\0", b"\0\0", 1),
+           (b"\0\0", b"\0\x04", b"\0\x04", 1), (b"\0\0", b"\0\x08", b"\0\x08", 1),
+           (b"\0\x08", b"\0\x0a", b"\0\x0a", 0), (b"\0\x08", b"\0\x3a", b"\0\x3a", 1),
+           (b"\x18\x40", b"\0\x02", b"\x18\x42", 0), (b"\0\0", b"\x2c\x48", b"\0\x08", 1),
+           (b"\x80\x02", b"\x80\0", b"\x80\0", 1), (b"\0\x03", b"\0\x01", b"\0\x01", 1))
 SAVED = [0, 5]
 
 
@@ -42,15 +45,21 @@ def of_format_1(journal):
 
 
 def restores_a_changed_board(start):
-    """The bytes and the protection bits come back, the bits of the board stay, and a line names those that differ."""
-    for saved, found, after in CHANGED:
+    """The bytes and the protection bits come back, the bits of the board stay, and a line names those that differ.
+
+    The exit status is 1, and the last line says so, unless QE is the only one of these bits, and is set.
+    """
+    for saved, found, after, status in CHANGED:
         for words in ("-N",), ("-N", "--quick"):
             bench, old, now = bench_with(start, saved, found)
             got = bench.run("--restore", "j", *words, "-o", "log")
             line = reference.kept_bits(saved[1], found[1])
-            check(f"{saved.hex()} {found.hex()} {words}", [got.status, got.err], [0, [line]])
+            lines = [line] + [reference.LOST_BITS] * status
+            check(f"{saved.hex()} {found.hex()} {words}", [got.status, got.err], [status, lines])
+            check("the line of a success", [it[:5] for it in got.out[1:]], ["Done:"])
             bench.check_chip(old, after)
-            check("the log", bench.path("log").read_text().splitlines().count(line), 1)
+            for it in lines:
+                check("the log", bench.path("log").read_text().splitlines().count(it), 1)
 
 
 def compares_the_rest_of_a_changed_board(start):
@@ -61,6 +70,16 @@ def compares_the_rest_of_a_changed_board(start):
     bench.check_chip(old, b"\0\x02")
     first, rest = reference.identify(PART), reference.read_rest(PART, SAVED)
     bench.check_frames(reference.probe(PART) + rest + first + READ + first + reference.rewriting(old, SAVED) + rest)
+
+
+def fails_after_the_comparison(start):
+    """Without -N, too, a bit that stays is exit status 1, after the comparison and the note on the other sectors."""
+    bench, old, now = bench_with(start, b"\0\x02", b"\0\0")
+    got = bench.run("--restore", "j")
+    check("the restore", [got.status, got.err], [
+        1, [reference.kept_bits(2, 0), reference.unknown_sectors("j"), reference.LOST_BITS]])
+    check("the line of a success", [it[:5] for it in got.out[1:]], ["Done:"])
+    bench.check_chip(old, b"\0\0")
 
 
 def sends_a_second_identification(start):
@@ -130,7 +149,7 @@ def restores_a_replaced_changed_chip(start):
     bench.remembers = False
     bench.write("j", reference.journal(PART, old, range(LARGE // SECTOR), b"\x04\x02", UNIQUE))
     got = bench.run("--restore", "j", "--quick", "-N", "--replaced-chip")
-    check("the restore", [got.status, got.err[1:]], [0, [reference.kept_bits(2, 8)]])
+    check("the restore", [got.status, got.err[1:]], [1, [reference.kept_bits(2, 8), reference.LOST_BITS]])
     bench.check_chip(old, b"\x04\x08")
 
 
@@ -148,6 +167,6 @@ def restores_after_interruptions(start):
         bench.check_chip(old, b"\x04\x02")
 
 
-CASES = [restores_a_changed_board, compares_the_rest_of_a_changed_board, sends_a_second_identification,
-         refuses_other_bits, refuses_another_board, believes_no_wrong_status, restores_a_replaced_changed_chip,
-         restores_after_interruptions]
+CASES = [restores_a_changed_board, compares_the_rest_of_a_changed_board, fails_after_the_comparison,
+         sends_a_second_identification, refuses_other_bits, refuses_another_board, believes_no_wrong_status,
+         restores_a_replaced_changed_chip, restores_after_interruptions]

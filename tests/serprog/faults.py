@@ -297,7 +297,7 @@ def reads_twice(start):
     bench = start(data=old)
     bench.write("new", new)
     wire = session_wire(old, new)
-    reads = [at for at, (out, _) in enumerate(wire, 1) if out[0] == 0x03]
+    reads = [at for at, (out, _) in enumerate(wire, 1) if at >= bench.first() and out[0] == 0x03]
     for first in reads[0], reads[2], reads[5]:
         bench.server.traits.wrong_bits = {first: (0, 4)}
         got = bench.run("-w", "new", "--journal", f"j{first}")

@@ -204,6 +204,40 @@ def removes_an_unsealed_journal(start):
     check("the last line", got.err[-1], reference.used_name("whole"))
 
 
+def keeps_the_file_of_another_program(start):
+    """A file that another program put in the place of the journal of a refused session is not removed.
+
+    So it is with a sealed journal. An empty file, or an incomplete journal, is taken for the session's own.
+    """
+    old, new = images("keeps_the_file_of_another_program")
+    sealed = reference.journal("TINY64", new, [1])
+    for content, is_left in ((b"other bytes", True), (b"NORUNDO1", True), (b"NORUNDO", False), (b"", False),
+                             (sealed, True), (sealed[:-1], False)):
+        bench = start(data=old)
+        bench.write("new", new)
+        bench.write("other", content)
+        # The journal's file is there from the second identification on.
+        at = len(reference.carried(reference.probe("TINY64") * 2, old))
+        carry = bench.chip.transfer
+
+        def replace(out, replies):
+            if len(bench.server.log) + 1 == at:
+                check("the journal is there, and empty", bench.path("j").read_bytes(), b"")
+                os.replace(bench.path("other"), bench.path("j"))
+            return carry(out, replies)
+
+        bench.chip.transfer = replace
+        got = bench.run("-w", "new", "--journal", "j", events={at + 1: "nak"})
+        bench.chip.transfer = carry
+        check(f"error 12 with {content[:12]}", (got.err[0], got.status), ("Error 12: stopped.", 1))
+        check("the last line", got.err[2:], [reference.used_name()] * is_left)
+        if is_left:
+            bench.check_file("j", content)
+        else:
+            bench.check_absent("j")
+        bench.check_chip(old)
+
+
 # What follows file fault 2 for a journal that was lost after it was sealed.
 LOST = "After this run sealed the journal, another program removed, replaced or changed it: don't restore from a file " \
        "with this name."
@@ -336,5 +370,6 @@ def overwrites_no_file_that_appears_late(start):
 
 CASES = [prints_the_systems_reason, prints_why_names_cannot_be_compared, notices_a_lost_journal,
          keeps_the_log_of_a_session,
-         overwrites_no_file_that_appears_late, removes_an_unsealed_journal, says_a_line_a_minute, quotes_names, quotes_names_after_error_12, quotes_the_device,
+         overwrites_no_file_that_appears_late, removes_an_unsealed_journal, keeps_the_file_of_another_program,
+         says_a_line_a_minute, quotes_names, quotes_names_after_error_12, quotes_the_device,
          counts_what_it_reads_again, says_how_long_a_change_takes, shows_locks, advises_on_locks, fits_narrow_terminals]

@@ -4,9 +4,9 @@
 The programmer is server.py, and its chip is a model from the datasheets (chip.py). The cases are in options.py,
 journals.py, locks.py, maps.py, chip_maps.py, regions.py, terminal.py, logs.py, backups.py, refusals.py, faults.py,
 wire.py, contact.py, contacts.py, rest.py, sectors.py, narrow.py, extract.py, ports.py, units.py, printed.py, typed.py,
-makers.py, quad.py and board_bits.py; manual.py and rescue.py play the manual page. all_makers.py plays the chips that
-chips/ describes, and status_bits.py their bits of status 1, with the model of models.py, which model_rules.py tests.
-bits.py tries each single wrong bit of each reply, and misses each single frame. losses.py kills the program, and loses
+makers.py, quad.py, board_bits.py and trials.py; manual.py and rescue.py play the manual page. all_makers.py plays the
+chips that chips/ describes, and status_bits.py their bits of status 1, with the model of models.py, which
+model_rules.py tests. bits.py tries each single wrong bit of each reply, and misses each single frame. losses.py kills the program, and loses
 replies, at each transaction of a session and of its restores; busy.py does so while the chip is busy.
 What the program must send and print is computed by reference.py, without the program.
 
@@ -52,6 +52,7 @@ import rest
 import sectors
 import status_bits
 import terminal
+import trials
 import typed
 import units
 import wire
@@ -60,7 +61,7 @@ from bench import Bench, Differs
 MODULES = (
     options, journals, maps, chip_maps, regions, terminal, backups, refusals, faults, wire, contact, contacts, rest,
     sectors, narrow, busy, board_bits, ports, manual, rescue, logs, locks, units, extract, printed, typed, makers, quad,
-    all_makers, status_bits, model_rules,
+    all_makers, status_bits, model_rules, trials,
 )
 CASES = {case.__name__: case for module in MODULES for case in module.CASES}
 

@@ -81,6 +81,12 @@ MISTAKES = {
     "overwrites backups": "makes_a_new_file",
     "creates a backup first": "makes_a_new_file",
     "seals a backup first": "is_cut",
+    "makes no trial reads": "refuses_four_byte_mode",
+    "takes any overlap": "refuses_four_byte_mode",
+    "takes any long frame": "refuses_firmware_that_wraps",
+    "tries each place once": "goes_on_after_noise",
+    "tries long frames once": "goes_on_after_noise",
+    "sends no frame again": "takes_a_shared_buffer",
     "takes an option twice": "takes_long_names",
     "knows no long names": "takes_long_names",
 }

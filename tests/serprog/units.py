@@ -101,7 +101,7 @@ def advises_on_kept_bits(start):
         STOPPED, f"{reference.not_stored_status(bytes([0, 2]), bytes(2))} {KEPT} {RESTORE} Until then it may be unprotected."])
     bench.chip.write_status = write
     got = bench.run("--restore", "j", "-N")
-    check("the restore", [got.status, got.err], [0, [reference.kept_bits(2, 0)]])
+    check("the restore", [got.status, got.err], [1, [reference.kept_bits(2, 0), reference.LOST_BITS]])
     bench.check_chip(old, b"\x04\0")
     bench.chip.status[1] |= 0x02
     got = bench.run("--restore", "j", "-N")

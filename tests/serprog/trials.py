@@ -1,0 +1,230 @@
+"""Cases of the trial reads before a job: a chip in four-byte mode, firmware that sends long frames wrongly, and noise.
+
+A chip in four-byte mode takes one more address byte after 03h, 02h, 20h, 52h and D8h (W25Q256FV datasheet, Address
+Modes). What each firmware makes of a frame is said at its case. A run that is refused sends only ABh and reads of data,
+and creates no file.
+"""
+import random
+
+import reference
+from bench import check, split_handshake
+from chip import READ_DATA, SECTOR, Chip
+from faults import FIRMWARE, SOON
+from losses import FEW, chip_images
+from narrow import check_parts
+from options import FREE, SIZE, images
+from stand_in_link import ROW
+
+# Jobs that a refusal ends. The journal `saved` has other bytes than the chip.
+JOBS = ((), ("-r", "out"), ("-v", "new"), ("-w", "new", "--journal", "j"), ("-E", "--journal", "j"),
+        ("--backup", "out"), ("--restore", "saved"), ("--restore", "saved", "-N"))
+# Those that read no image, for a large chip.
+WITHOUT_IMAGE = [it for it in JOBS if "new" not in it]
+# How many bytes a transaction may send at a programmer that doesn't report this limit.
+LIMIT = 128
+
+
+def wraps(out):
+    """Returns what firmware sends whose index of its buffer has eight bits: byte n overwrites byte n - 256."""
+    return bytes(out[at + 256 if at + 256 < len(out) else at] for at in range(len(out)))
+
+
+def drops(out):
+    """Returns what firmware sends that drops all bytes after the 64th."""
+    return out[:64]
+
+
+def refuse(bench, line, repeated, jobs=JOBS, **traits):
+    """Runs these jobs, which must end with this line, and checks what the chip received and what was left.
+
+    `repeated` are the transactions that the programmer carries out after those that wake the chip.
+    """
+    data, heard = bytes(bench.chip.data), []
+    carry = bench.chip.transfer
+
+    def hear(out, replies):
+        heard.append(out[:1])
+        return carry(out, replies)
+
+    bench.write("new", bytes(len(data)))
+    bench.write("saved", reference.journal(bench.part, bytes(len(data)), [0, 1]))
+    for words in jobs:
+        heard.clear()
+        bench.chip.transfer = hear
+        bench.expect(*words, err=[bench.device(line)])
+        bench.chip.transfer = carry
+        # 00h is no instruction.
+        check("opcodes at the chip", set(heard) - {b"\xab", b"\x03", b"\0"}, set())
+        got = [(out, len(reply)) for out, reply in bench.server.log]
+        check(f"transactions of {words}", got, [reference.WAKES, *repeated])
+        for name in "j", "j.sectors", "out":
+            bench.check_absent(name)
+        bench.check_chip(data)
+        if traits:
+            bench.plug(**traits)
+
+
+def refuses_four_byte_mode(start):
+    """A chip that begins in four-byte mode is programmer fault 15 for each job."""
+    blank = b"\xff" * SECTOR
+    head = random.Random("refuses_four_byte_mode").randbytes(2 * SECTOR)
+    # The data of the chip, and the place where its reads differ first. Place 1 is read at 111000h, which is 1000h in a
+    # chip of 64 KiB. At place 0 this chip is read at 0 and 100h.
+    for part, data, place, jobs in (
+            ("TINY64", images("refuses_four_byte_mode")[1], 0, JOBS), ("TINY64", bytes(256) + FREE[256:], 0, JOBS),
+            ("TINY64", blank + head + FREE[3 * SECTOR :], 1, JOBS),
+            ("W25Q64FV", head + b"\xff" * ((1 << 23) - len(head)), 0, WITHOUT_IMAGE)):
+        bench = start(part, data=data)
+        bench.remembers = False
+        bench.chip.has_four = True
+        pairs = [[(reference.command(READ_DATA, at * reference.STEP + later), reference.TRIAL - later)
+                  for later in (0, 1)] for at in range(place + 1)]
+        refuse(bench, reference.FOUR_BYTES, [it for pair in pairs[:-1] for it in pair] + pairs[-1] * 3, jobs)
+        bench.chip.has_four = False
+        bench.expect(out=[reference.found(part)])
+
+
+def finds_no_empty_chip_in_four_byte_mode(start):
+    """The limit of the trial reads: on an empty chip in four-byte mode all bytes are equal, so it isn't refused.
+
+    A read is right nevertheless. A write is error 14: its programs reach other pages, and 20h, 52h and D8h do nothing.
+    Once the mode has ended, as after a loss of power, a backup restores the chip.
+    """
+    bench = start()
+    bench.chip.has_four = True
+    bench.expect("--backup", "whole", out=[reference.found("TINY64"), f"Read {SIZE} bytes."])
+    bench.check_file("whole", reference.journal("TINY64", FREE, range(SIZE // SECTOR)))
+    new = chip_images(FEW)[1]
+    bench.write("new", new)
+    # What the chip holds then, and the first byte that it returns wrongly in a changed sector. Before a sector is
+    # programmed, it is read, and already has bytes of those before it.
+    chip = Chip("TINY64", FREE)
+    chip.has_four = True
+    sectors = reference.touched(FREE, new)
+    for number in sectors:
+        was = chip.transfer(*reference.read_sector(number))
+        for out, replies in reference.programs(number, was, reference.sector_of(new, number)):
+            chip.transfer(out, replies)
+    read = b"".join(chip.transfer(*reference.read_sector(it)) for it in range(SIZE // SECTOR))
+    address = next(at for it in sectors for at in range(it * SECTOR, (it + 1) * SECTOR) if read[at] != new[at])
+    got = bench.run("-w", "new", "--journal", "j")
+    check("the error", (got.err[0], got.status), (f"Error 14: bytes differ at 0x{address:06x}.", 1))
+    check("the chip is changed", bytes(chip.data) == FREE, False)
+    bench.check_chip(bytes(chip.data))
+    bench.chip.has_four = False
+    check("the restore", bench.run("--restore", "whole").status, 0)
+    bench.check_chip(FREE)
+
+
+def long_frames(data):
+    """Returns the trial reads of a chip with this data: those at the places, and the two of the long frame."""
+    found = reference.trials(data)
+    return found[:-2], found[-2:]
+
+
+def refuses_firmware_that_wraps(start):
+    """Firmware whose buffer has an eight-bit index, so that byte n overwrites byte n - 256, is programmer fault 14."""
+    old, _ = images("refuses_firmware_that_wraps")
+    places, pair = long_frames(old)
+    refuse(start(data=old, sends=wraps), reference.LONG_FRAMES, places + pair * 3)
+
+
+def refuses_firmware_that_drops_bytes(start):
+    """Firmware that replies ACK, and drops the bytes after the 64th, is programmer fault 14."""
+    old, _ = images("refuses_firmware_that_drops_bytes")
+    places, pair = long_frames(old)
+    refuse(start(data=old, sends=drops), reference.LONG_FRAMES, places + pair * 3)
+    # The first sectors are empty, so that the long frame is sent at a later place.
+    data = b"\xff" * (2 * SECTOR) + old[2 * SECTOR :]
+    places, pair = long_frames(data)
+    check("the place", pair[0][0][:4], reference.command(READ_DATA, 2 * reference.STEP))
+    refuse(start(data=data, sends=drops), reference.LONG_FRAMES, places + pair * 3)
+
+
+def refuses_firmware_with_an_unknown_limit(start):
+    """Firmware that replies NAK to long frames, or no byte, though it reports no limit, is programmer fault 14."""
+    old, _ = images("refuses_firmware_with_an_unknown_limit")
+    places, pair = long_frames(old)
+    for lacks in (), (0x08,):
+        traits = {"longest_write": 0, "lacks": lacks, "buffer": 65535}
+        # After NAK the frame is sent once more, without a reply, and is refused, too.
+        refuse(start(data=old, most_sent=LIMIT, **traits), reference.LONG_FRAMES, places)
+        traits.update(most_replied=LIMIT, timeout=SOON)
+        # The frame without a reply byte isn't sent.
+        refuse(start(data=old, **traits), reference.LONG_FRAMES, places + pair[:1], **traits)
+
+
+def takes_a_shared_buffer(start):
+    """Firmware whose buffer holds 260 bytes, sent and received together, works: only the long frame's reply is too long.
+
+    It replies NAK to the long frame. Then the link is synchronized, and the frame is sent without a reply.
+    """
+    old, new = chip_images(FEW)
+    bench = start(data=old, most_in_buffer=reference.PROGRAM, longest_read=256)
+    bench.write("new", new)
+    plan = reference.session("TINY64", old, new)
+    bench.expect("-w", "new", "--journal", "j", out=[reference.found("TINY64"), reference.done(plan, old, new)])
+    places, (long, _) = long_frames(old)
+    wanted = reference.frames([reference.WAKES, *places, long]) + b"\0" + ROW
+    wanted += reference.frames([(long[0], 0), (b"\x05", 2)])
+    check("what was sent first", split_handshake(bench.server.received)[1][: len(wanted)], wanted)
+    check_parts(bench, plan)
+    bench.check_chip(new)
+    bench.check_file("j", reference.journal("TINY64", old, FEW))
+    plan = reference.restore("TINY64", old, FEW)
+    bench.expect("--restore", "j", out=[reference.found("TINY64"), reference.report(plan, len(FEW))])
+    bench.check_chip(old)
+
+
+def goes_on_after_noise(start):
+    """One wrong bit in a trial read repeats it and the read that it is compared with, and the run goes on.
+
+    Three times are programmer fault 15, or 14 for the long frame.
+    """
+    old, _ = images("goes_on_after_noise")
+    places, pair = long_frames(old)
+    for number, trials in ((2, places * 2 + pair), (3, places * 2 + pair), (4, places + pair * 2),
+                           (5, places + pair * 2)):
+        for byte in 1, 3:
+            bench = start(data=old)
+            bench.server.traits.wrong_bits = {number: (byte - number % 2, 6)}
+            bench.expect("-r", "out", out=[reference.found("TINY64"), f"Read {SIZE} bytes."])
+            bench.check_file("out", old)
+            got = [(out, len(reply)) for out, reply in bench.server.log]
+            check(f"the first transactions, with a wrong bit in {number}", got[: 1 + len(trials)],
+                  [reference.WAKES, *trials])
+            check("the first poll", got[1 + len(trials)], (b"\x05", 2))
+    for first, line in (2, reference.FOUR_BYTES), (4, reference.LONG_FRAMES):
+        bench = start(data=old)
+        bench.server.traits.wrong_bits = {number: (1, 6) for number in (first, first + 2, first + 4)}
+        bench.expect("-r", "out", err=[bench.device(line)])
+        bench.check_absent("out")
+
+
+def reports_failures_of_trials(start):
+    """A refused or silent trial read has the fault of the handshake, except for the long frame, which is fault 14.
+
+    A port that fails is fault 10, also at the long frame.
+    """
+    old, _ = images("reports_failures_of_trials")
+    for number, event, begins in (
+            (2, "nak", f"11: the programmer refused command 13h. {FIRMWARE}"), (3, "mute", "4: the programmer is silent."),
+            (5, "strange", "5: the programmer answered 21h,"), (2, "unplug", "10: the port failed: "),
+            (4, "unplug", "10: the port failed: "), (5, "unplug", "10: the port failed: "), (4, "mute", None),
+            (4, "strange", None)):
+        bench = start(data=old, timeout=SOON)
+        bench.write("new", FREE)
+        wanted = bench.device(f"Programmer fault {begins}" if begins else reference.LONG_FRAMES)
+        got = bench.run("-w", "new", "--journal", "j", events={number: event})
+        check(f"{event} at {number}", (got.err[0][: len(wanted)], len(got.err), got.out, got.status), (wanted, 1, [], 1))
+        bench.check_absent("j")
+        bench.check_chip(old)
+    # NAK to the first long frame alone is taken for a limit of the reply.
+    bench = start(data=old)
+    bench.expect("-r", "out", out=[reference.found("TINY64"), f"Read {SIZE} bytes."], events={4: "nak"})
+    bench.check_file("out", old)
+
+
+CASES = [refuses_four_byte_mode, finds_no_empty_chip_in_four_byte_mode, refuses_firmware_that_wraps,
+         refuses_firmware_that_drops_bytes, refuses_firmware_with_an_unknown_limit, takes_a_shared_buffer,
+         goes_on_after_noise, reports_failures_of_trials]
