@@ -73,7 +73,8 @@ class Bench:
     """A directory with a programmer at the link `dev`, and a chip behind it.
 
     `plug` connects a programmer, after the one before was unplugged or closed. The chip stays the same. Without
-    `remembers` the chip before a run isn't kept, so `carried` can't be used. `environment` is added to that of a run.
+    `remembers` the chip before a run isn't kept, so `carried` can't compare with an image. `environment` is added to that
+    of a run.
     """
 
     def __init__(self, program, folder, part="TINY64", data=None, status=b"\0\0", unique=DEVICE, scale=0.0, **traits):
@@ -81,6 +82,8 @@ class Bench:
         self.chip = Chip(part, data, status, unique, scale)
         self.server, self.command, self.words = None, "", []
         self.before, self.image, self.remembers = None, None, True
+        # The first bytes of the chip before the last run, which has its trial reads there.
+        self.head = b""
         self.environment = {}
         # When the last run began, and the lines that it printed because it took more than a minute.
         self.began, self.minutes = 0, []
@@ -113,6 +116,7 @@ class Bench:
     def start_words(self, words, err=subprocess.PIPE, out=subprocess.PIPE):
         self.command, self.words = " ".join(map(str, words[1:])), [str(it) for it in words]
         self.before = copy.deepcopy(self.chip) if self.remembers else None
+        self.head = bytes(self.chip.data[:65536])
         self.began = time.monotonic()
         names = [name for option, name in zip(words, words[1:]) if option in ("-w", "-v") and self.remembers]
         # Data is read once only if the whole chip is compared with the image in the end.
@@ -218,8 +222,9 @@ class Bench:
 
     def carried(self, plan):
         """Returns the transactions over the wire of a plan that is the plan of the last run."""
-        chip, server = copy.deepcopy(self.before), self.server
-        return reference.carried(plan, chip.data, server.longest_read(), server.longest_part(), chip, self.image)
+        server = self.server
+        return reference.carried(plan, self.head, server.longest_read(), server.longest_part(),
+                                 copy.deepcopy(self.before), self.image)
 
     def first(self):
         """Returns the number of the first transaction of a job, on the chip as it is: those before it wake and try it."""
