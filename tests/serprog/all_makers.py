@@ -305,6 +305,21 @@ def stays_lost(start, it, level):
     play.check_chip(play.old)
 
 
+def begins_in_four_byte_mode(start, it):
+    """refused by each job while it is in four-byte mode, with nothing sent but ABh and reads of data"""
+    for level in LEVELS:
+        play = Play(start, it)
+        play.chip.floating, play.chip.has_four = level, True
+        for words in (), ("-r", "out"), CHANGES[1], BACKUP:
+            got = play.bench.run(*words)
+            check(f"the refusal of {words}", (got.err, got.out, got.status),
+                  ([play.bench.device(reference.FOUR_BYTES)], [], 1))
+            check("opcodes", {out[:1] for out, _ in play.bench.server.log}, {b"\xab", b"\x03"})
+            play.bench.check_absent("j")
+            play.bench.check_absent("out")
+        play.check_chip(play.old)
+
+
 def sent_to(play):
     """Returns what the last run sent, after the transaction that wakes the chip."""
     return [out for out, _ in play.bench.server.log[1:]]
@@ -356,6 +371,7 @@ def cases():
         if it.name not in LOCKED:
             yield case_of(leaves_qpi, it)
     yield case_of(ends_continuous_reads, ALL["W25Q64FV"])
+    yield case_of(begins_in_four_byte_mode, ALL["W25Q256JV"])
     yield from (case_of(protects, ALL[name]) for name in ROWS)
 
 

@@ -227,7 +227,7 @@ class Bench:
                                  copy.deepcopy(self.before), self.image)
 
     def first(self):
-        """Returns the number of the first transaction of a job, on the chip as it is: those before it wake and try it."""
+        """Returns the number of the first transaction of a job on the chip as it is. Those before wake and try it."""
         server = self.server
         return len(reference.before_job(self.chip.data, server.longest_part(), server.longest_read())) + 1
 
@@ -265,13 +265,6 @@ class Bench:
 
     def check_nothing_sent(self):
         check("bytes sent", bytes(self.server.received), b"")
-
-    def check_untouched(self, data):
-        """Checks that the last run sent nothing but ABh and reads of data, created no journal, and changed no byte."""
-        check("opcodes", {out[:1].hex() for out, _ in self.server.log} - {"ab", "03"}, set())
-        self.check_absent("j")
-        self.check_absent("j.sectors")
-        self.check_chip(data)
 
     def check_unselected(self):
         """Checks that no transaction was sent."""

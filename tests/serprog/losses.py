@@ -56,9 +56,9 @@ def losses():
     old, new = chip_images(FEW)
     wire = session_wire(old, new)
     back = reference.carried(reference.whole_restore("TINY64", reference.restore("TINY64", old, FEW), FEW), new)
-    first = len(reference.before_job(old)) + 1
-    found = [Loss(event, at) for event, begin in (("kill", 1), ("lose", first)) for at in range(begin, len(wire) + 1)]
-    found += [Loss(event, 0, at) for event, begin in (("kill", 1), ("lose", first)) for at in range(begin, len(back) + 1)]
+    begins = ("kill", 1), ("lose", len(reference.before_job(old)) + 1)
+    found = [Loss(event, at) for event, begin in begins for at in range(begin, len(wire) + 1)]
+    found += [Loss(event, 0, at) for event, begin in begins for at in range(begin, len(back) + 1)]
     # A session that is stopped in the middle, and its restore too.
     middle = range(sealed_after(wire) + 10, len(wire) + 1)
     found += [Loss(event, at, at // 2) for event in ("kill", "lose") for at in middle]

@@ -6,9 +6,9 @@ journals.py, locks.py, maps.py, chip_maps.py, regions.py, terminal.py, logs.py, 
 wire.py, contact.py, contacts.py, rest.py, sectors.py, narrow.py, extract.py, ports.py, units.py, printed.py, typed.py,
 makers.py, quad.py, board_bits.py and trials.py; manual.py and rescue.py play the manual page. all_makers.py plays the
 chips that chips/ describes, and status_bits.py their bits of status 1, with the model of models.py, which
-model_rules.py tests. bits.py tries each single wrong bit of each reply, and misses each single frame. losses.py kills the program, and loses
-replies, at each transaction of a session and of its restores; busy.py does so while the chip is busy.
-What the program must send and print is computed by reference.py, without the program.
+model_rules.py tests. bits.py tries each single wrong bit of each reply, and misses each single frame. losses.py kills
+the program, and loses replies, at each transaction of a session and of its restores; busy.py does so while the chip is
+busy. What the program must send and print is computed by reference.py, without the program.
 
 A case that failed is printed, with what was wanted and what was got. The last line is `N passed, M failed`, and the
 exit status is 1 if one failed. `run.py PROGRAM NAME..` runs only the cases with these names, or `losses`, or the jobs
