@@ -209,9 +209,9 @@ def reports_failures_of_trials(start):
     old, _ = images("reports_failures_of_trials")
     for number, event, begins in (
             (2, "nak", f"11: the programmer refused command 13h. {FIRMWARE}"),
-            (3, "mute", "4: the programmer is silent."), (5, "strange", "5: the programmer answered 21h,"), (2, "unplug", "10: the port failed: "),
-            (4, "unplug", "10: the port failed: "), (5, "unplug", "10: the port failed: "), (4, "mute", None),
-            (4, "strange", None)):
+            (3, "mute", "4: the programmer is silent."), (5, "strange", "5: the programmer answered 21h,"),
+            (2, "unplug", "10: the port failed: "), (4, "unplug", "10: the port failed: "),
+            (5, "unplug", "10: the port failed: "), (4, "mute", None), (4, "strange", None)):
         bench = start(data=old, timeout=SOON)
         bench.write("new", FREE)
         wanted = bench.device(f"Programmer fault {begins}" if begins else reference.LONG_FRAMES)
