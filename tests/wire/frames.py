@@ -70,11 +70,13 @@ def frame_at(frames, fault):
 
 
 def chosen(frames):
-    """Returns the frames whose bytes are tried: all that change something, and the first and last of each kind."""
+    """Returns the frames whose bytes are tried: all that change something, and the first, last and longest of each
+    kind. The longest read is the trial read in a frame as long as that of a page program."""
     kinds = {}
     for number, frame in enumerate(frames):
         kinds.setdefault(frame.kind, []).append(number)
-    numbers = {it for all_of_it in kinds.values() for it in (all_of_it[0], all_of_it[-1])}
+    longest = (max(it, key=lambda number: frames[number].end - frames[number].begin) for it in kinds.values())
+    numbers = {it for all_of_it in kinds.values() for it in (all_of_it[0], all_of_it[-1])} | set(longest)
     numbers |= {number for number, frame in enumerate(frames) if frame.changes}
     return [frames[it] for it in sorted(numbers)]
 

@@ -255,6 +255,9 @@ def chooses_frames():
     same([it[2:] for it in found], [((0, None), 0, 1), ((0x10, None), 1, 3), ((0x13, 0x9F), 3, 7), ((0x13, 0x06), 7, 8),
                                     ((0x13, 0x20), 8, 9)])
     same(len([it for it in frames.cuts(found) if it.value == OWN_SUPPLY]), 7 + 10)
+    sizes = enumerate((4, 4, 9, 4, 4))
+    reads = [frames.Frame(10 * it, 10 * it + size, (0x13, 0x03), it, it + 1) for it, size in sizes]
+    same([it.begin for it in frames.chosen(reads)], [0, 20, 40])
 
 
 CASES = [lengths_of_status_writes, one_time_bits, volatile_status, lengths_of_erases, programs, busy_chips, protection,
