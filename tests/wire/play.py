@@ -7,10 +7,14 @@ from typing import NamedTuple
 import jobs
 from flash import SECTOR
 from line import LONGEST, OWN_SUPPLY, PATIENCE, Line, Result
-from winbond import QE
+from winbond import BOARD_BITS, SRP0
 
-# The beginning of the line that names the status bits that a restore leaves as they are.
-KEPT = "Not restored: the chip keeps these status bits"
+# The beginning of the line that names the board bits that a restore leaves as they are. The line at the end of such a
+# restore, which then has exit status 1. It ends with status 0, and without this line, if only QE differs and is set.
+KEPT = "Not restored: the chip keeps these status bits, which differ from the journal: "
+KEPT_BITS = 'All bytes and protection bits are restored, but not the status bits of the line "Not restored" above.'
+# A board bit that may be set after a restore that reports nothing: the software of boards sets it.
+SET_QUAD = "QE (set)"
 # The runs of a user who doesn't read: identifications until the programmer waits for nothing any more, at most.
 MOST_RUNS = 6
 # How patient the program is, in tenths of a second, if a finding is played again: a busy machine may cause it.
@@ -31,11 +35,11 @@ class Played(NamedTuple):
 class Finding(NamedTuple):
     """What is wrong: a kind of fault, and a text.
 
-    once: a one-time bit was set. wrong: status 0 with a wrong chip. silent: the same, but only sectors that no journal
-    has are wrong. lost: a restore after a power cycle did not restore a chip whose journal has all changed sectors.
-    hangs: a run did not end. moved: the run before the fault was another one than that without it, or the fault never
-    happened. bits: QE or protection bits are wrong, which can be written again; a restore reports it, and a job without
-    a journal can't.
+    once: a one-time bit was set. wrong: the chip isn't as the exit status 0 says, or as the line `KEPT_BITS` says.
+    silent: status 0, but sectors that no journal has are wrong, and no others. lost: a restore after a power cycle did
+    not restore a chip whose journal has all changed sectors. hangs: a run did not end. moved: the run before the fault
+    was another one than that without it, or the fault never happened. bits: QE or protection bits are wrong, which can
+    be written again; a restore reports it with exit status 1, and a job without a journal can't.
     """
 
     kind: str
@@ -78,11 +82,18 @@ class Bench:
             (self.folder / name).write_bytes(content)
 
     def compare(self, got, data, status, what):
-        """Checks a run that must have left this data and these status bytes, if its exit status is 0."""
+        """Checks that a run has left this data and these status bytes, if the run reports this.
+
+        Exit status 0 reports this, and so does the line `KEPT_BITS`, except for board bits. Returns whether the run
+        reports this.
+        """
+        is_restore = what == "the restore" or bool(self.job.before)
+        if KEPT_BITS in got.err:
+            self.compare_kept(got, data, status, what)
+            return True
         if got.status != 0:
-            return
-        wrong = {at // SECTOR for at in range(0, len(data), SECTOR)
-                 if self.chip.data[at : at + SECTOR] != data[at : at + SECTOR]} if self.chip.data != data else set()
+            return False
+        wrong = self.wrong_sectors(data)
         registers = self.chip.registers()
         said = [it for it in got.out + got.err if not it.startswith(("Found ", "Done: "))]
         if wrong - self.job.sectors and not wrong & self.job.sectors and registers == status:
@@ -90,15 +101,47 @@ class Bench:
                 self.find("silent", f"{what}: status 0, and {told(wrong)} are wrong")
         elif wrong:
             self.find("wrong", f"{what}: status 0, and {told(wrong)} are wrong")
-        elif registers != status:
-            is_named = any(it.startswith(KEPT) and "QE (clear)" in it for it in said) and lacks_only_quad(registers, status)
-            kind = "wrong" if (self.job.has_journal or what == "the run") and not is_named else "bits"
-            self.find(kind, f"{what}: status 0, and the status bytes are {bytes(registers).hex(' ')}")
+        elif registers != status and not (is_restore and kept_bits(registers, status) == [SET_QUAD]):
+            kind = "wrong" if self.job.has_journal or what == "the run" else "bits"
+            self.find(kind, f"{what}: status 0, and the status bytes are {shown(registers)}")
+        return True
+
+    def compare_kept(self, got, data, status, what):
+        """Checks a run that printed `KEPT_BITS`. The chip must have this data and these status bytes, except for the
+        board bits that the line `KEPT` names."""
+        wrong, registers = self.wrong_sectors(data), self.chip.registers()
+        kept = kept_bits(registers, status)
+        named = [it for it in got.err if it.startswith(KEPT)]
+        is_named = len(named) == 1 and named[0].startswith(f"{KEPT}{' '.join(kept)}.")
+        if wrong:
+            self.find("wrong", f"{what}: all bytes are said to be restored, and {told(wrong)} are wrong")
+        elif kept in ([], [SET_QUAD]) or not is_named or got.status != 1:
+            self.find("wrong", f"{what}: status {got.status}, and only board bits are said to differ, but the status "
+                      f"bytes are {shown(registers)}")
+        else:
+            self.find("bits", f"{what}: reported with status 1: {' '.join(kept)}")
+
+    def wrong_sectors(self, data):
+        """Returns the numbers of the sectors in which the chip hasn't this data."""
+        if self.chip.data == data:
+            return set()
+        return {at // SECTOR for at in range(0, len(data), SECTOR)
+                if self.chip.data[at : at + SECTOR] != data[at : at + SECTOR]}
 
 
-def lacks_only_quad(found, wanted):
-    """Returns whether the status bytes of the chip differ only in QE, which is clear."""
-    return tuple(found) == (wanted[0], wanted[1] & ~QE) and bool(wanted[1] & QE)
+def kept_bits(found, wanted):
+    """Returns the board bits in which the status bytes of a chip differ from the wanted ones, as `KEPT` names them.
+
+    Returns none if other bits differ as well, because a restore must restore other bits.
+    """
+    differing = found[1] ^ wanted[1]
+    if found[0] != wanted[0] or differing & ~sum(BOARD_BITS):
+        return []
+    return [f"{name} ({'set' if found[1] & bit else 'clear'})" for bit, name in BOARD_BITS.items() if differing & bit]
+
+
+def shown(registers):
+    return bytes(registers).hex(" ")
 
 
 def told(sectors):
@@ -186,10 +229,11 @@ def finish(bench, job, played, had_cycle):
         return
     words = ["--restore", jobs.JOURNAL] + ["-N"] * ("-N" in job.words)
     got = bench.run(*words)
-    bench.compare(got, data, status, "the restore")
+    is_done = bench.compare(got, data, status, "the restore")
     if any("journal fault" in it for it in got.err):
         if bytes(bench.chip.data) != data or bench.chip.registers() != status:
             bench.find("lost", "the journal isn't sealed, and the chip was changed")
-    elif had_cycle and got.status and bench.chip.hit <= job.sectors and not bench.chip.once:
-        is_status = any("Error 17" in it for it in got.err) and bench.chip.registers() != status
-        bench.find("bits" if is_status else "lost", "the restore failed after a power cycle")
+    elif had_cycle and not is_done and bench.chip.hit <= job.sectors and not bench.chip.once:
+        is_locked = bool((bench.chip.registers()[0] ^ status[0]) & SRP0)
+        is_refused = is_locked and any("Error 17" in it for it in got.err)
+        bench.find("bits" if is_refused else "lost", "the restore failed after a power cycle")

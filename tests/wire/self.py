@@ -15,7 +15,8 @@ import run
 from firmware import Programmer
 from flash import BLANK, Flash, SECTOR
 from line import LONGEST_WAIT, OWN_SUPPLY, Fault, Line, Way, tenths
-from winbond import LB, QE, SRP0, SRP1, Winbond
+from remains import remains
+from winbond import CMP, LB, QE, SRP0, SRP1, Winbond
 
 WRONG = str(Path(__file__).with_name("wrong.py").resolve())
 # How long the program waits for a reply, in tenths of a second.
@@ -197,13 +198,16 @@ def faults_that_never_happen():
         same([it.kind for it in found], wanted)
 
 
-def found_in(wrong, faults):
+def found_in(wrong, faults, name="wp-enable"):
     """Returns the kinds of findings of a program with these faults, for each of these faults of its line."""
     os.environ["WRONG"] = wrong
-    _, played = play.clean(WRONG, "wp-enable")
+    # The clean run of a program with other faults may be another one.
+    play.clean.cache_clear()
+    _, played = play.clean(WRONG, name)
     all_frames = frames.frames_of(played.sent)
-    plays = (play.play(WRONG, "wp-enable", fault, PATIENCE) for fault in faults(all_frames))
-    return [{it.kind for it in found} for found, _ in plays]
+    found = [{it.kind for it in play.play(WRONG, name, fault, PATIENCE)[0]} for fault in faults(all_frames)]
+    same("moved" in set().union(*found), False)
+    return found
 
 
 def losses(all_frames, kind="lose"):
@@ -248,6 +252,77 @@ def finds_wrong_sectors():
         same([it.kind for it in bench.found], [wanted] if wanted else [])
 
 
+def finds_restores_without_a_bit():
+    """A restore that leaves QE clear is allowed only if it reports this with status 1, and has restored the rest."""
+    write = frames.Frame(0, frames.HEAD + 3, (0x13, 0x01), 0, 1)
+    for wrong, wanted, is_allowed in ("", "bits", True), ("quiet", "wrong", False), ("erases", "wrong", False):
+        found = found_in(wrong, losses, "wp-range-restore")
+        same(set().union(*found), {wanted})
+        reason = remains(play.Finding(wanted, ""), "wp-range-restore", Fault("to", write.end - 1, "lose"), write)
+        same(reason is not None, is_allowed)
+
+
+def finds_wrong_lines():
+    """A restore with the line for status bits isn't believed: the bytes and the status bytes of the chip decide."""
+    job = jobs.JOBS["unlock-restore"]
+    old, _ = jobs.images(job)
+    journaled, other = min(job.sectors) * SECTOR, 0
+    clear, line = f"{play.KEPT}QE (clear).", play.KEPT_BITS
+    clear_and_set = f"{play.KEPT}QE (clear) LB1 (set)."
+    # The status bytes after the restore (1Ch and 02h are right), a wrong byte, exit status and lines, and the finding.
+    for registers, at, status, err, wanted in (
+        ((0x1C, QE), None, 0, [], None),
+        ((0x1C, QE), None, 1, [clear, line], "wrong"),
+        ((0x1C, 0), None, 0, [], "wrong"),
+        ((0x1C, 0), None, 0, [clear], "wrong"),
+        ((0x1C, 0), None, 0, [clear, line], "wrong"),
+        ((0x1C, 0), None, 1, [clear, line], "bits"),
+        ((0x1C, 0), None, 1, [f"{clear} A board needs it.", line], "bits"),
+        ((0x1C, 0), None, 1, [line], "wrong"),
+        ((0x1C, 0), None, 1, [clear, clear, line], "wrong"),
+        ((0x1C, 0), None, 1, [clear], "lost"),
+        ((0x1C, 0), None, 1, ["Error 17."], "lost"),
+        ((0x1C, 0), None, 1, [f"{play.KEPT}LB1 (set).", line], "wrong"),
+        ((0x1C, 0), None, 1, [clear_and_set, line], "wrong"),
+        ((0x1C, 0x08), None, 1, [clear, line], "wrong"),
+        ((0x1C, 0x08), None, 1, [clear_and_set, line], "bits"),
+        ((0x1C, CMP), None, 1, [clear, line], "wrong"),
+        ((0, 0), None, 1, [clear, line], "wrong"),
+        ((0x9C, QE), None, 1, ["Error 17."], "bits"),
+        ((0x1C, 0), journaled, 1, [clear, line], "wrong"),
+        ((0x1C, 0), other, 1, [clear, line], "wrong"),
+        ((0x1C, QE), journaled, 1, [clear, line], "wrong"),
+        ((0x1C, QE), journaled, 1, [clear], "lost"),
+    ):
+        chip = winbond(registers)
+        chip.data = bytearray(old)
+        if at is not None:
+            chip.data[at] ^= 1
+        found = found_after(job, chip, play.Result(status, ["Found W25Q64FV."], err, b"", 0), old)
+        same((registers, at, status, err, found), (registers, at, status, err, {wanted} - {None}))
+    # A restore doesn't report a QE that is set now, because the software of boards sets it. A session may not set it.
+    chip = winbond((0x1C, QE))
+    chip.data = bytearray(old)
+    for status, err, wanted in (0, [], set()), (1, [f"{play.KEPT}QE (set).", line], {"wrong"}):
+        got = play.Result(status, [], err, b"", 0)
+        same(found_after(job._replace(then=(0x1C, 0)), chip, got, old), wanted)
+    bench = play.Bench.__new__(play.Bench)
+    bench.job, bench.chip, bench.found = jobs.JOBS["unlock"], chip, []
+    bench.compare(play.Result(0, [], [], b"", 0), old, (0x1C, 0), "the run")
+    same([it.kind for it in bench.found], ["wrong"])
+
+
+def found_after(job, chip, got, old):
+    """Returns the kinds of findings if a restore after a power cycle has this result, and leaves this chip."""
+    with tempfile.TemporaryDirectory() as folder:
+        (Path(folder) / jobs.JOURNAL).touch()
+        bench = play.Bench.__new__(play.Bench)
+        bench.job, bench.chip, bench.folder, bench.found = job, chip, Path(folder), []
+        bench.run = lambda *_: got
+        play.finish(bench, job, play.Played(b"", {}, old, old), True)
+    return {it.kind for it in bench.found}
+
+
 def chooses_frames():
     """The frames of a run are found, with their replies, and a cut is made within each that modifies."""
     sent = b"\x00\x10" + bytes.fromhex("13010000030000 9f 13010000000000 06 13040000000000 20001000")
@@ -262,8 +337,8 @@ def chooses_frames():
 
 CASES = [lengths_of_status_writes, one_time_bits, volatile_status, lengths_of_erases, programs, busy_chips, protection,
          further_instructions, frames_byte_by_byte, a_supply_of_its_own, faults_of_the_line, busy_machines,
-         faults_that_never_happen, chooses_frames, finds_what_is_sent_together, finds_what_completes_a_frame, finds_lies,
-         finds_wrong_sectors]
+         faults_that_never_happen, chooses_frames, finds_what_is_sent_together, finds_what_completes_a_frame,
+         finds_lies, finds_wrong_sectors, finds_restores_without_a_bit, finds_wrong_lines]
 
 
 def try_case(number):

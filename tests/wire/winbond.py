@@ -5,6 +5,8 @@ SRP0, SRP1, QE, CMP, SUSPENDED = 0x80, 0x01, 0x02, 0x40, 0x80
 LB = 0x38
 # The bits of both registers that a status write can set, and that stay without power.
 KEPT_1, KEPT_2 = 0xFC, 0x7B
+# The board bits: bits of status 2 that no job changes. The names are those of the datasheet (7.1).
+BOARD_BITS = {QE: "QE", 0x08: "LB1", 0x10: "LB2", 0x20: "LB3"}
 REGISTERS = {0x001000: 0x08, 0x002000: 0x10, 0x003000: 0x20}
 
 

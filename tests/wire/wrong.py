@@ -1,15 +1,21 @@
 #!/usr/bin/env python3
 """A program with faults that the sweep must find, for self.py. WRONG names them; without it the program is right.
 
-It knows only enough of serprog to identify a chip, and to set SRP0 with --wp-enable. `together`: the first poll is sent
-with the status write. `syncnop`: the first byte of a run is 10h. `lies`: it prints what a job that succeeded prints,
-whatever the programmer replies.
+It knows only enough of serprog to identify a chip, to set SRP0 with --wp-enable, to protect a range with --wp-range,
+and to restore the status bytes with --restore. `together`: the first poll is sent with the status write. `syncnop`: the
+first byte of a run is 10h. `lies`: it prints what a job that succeeded prints, whatever the programmer replies.
+`quiet`: a restore that leaves QE clear names it, and ends with status 0. `erases`: such a restore erases sector 0, and
+reports that all bytes are restored.
 """
 import os
 import sys
+from pathlib import Path
 
 WRONG = os.environ.get("WRONG", "").split(",")
 SILENT = 2
+JOURNAL, QE, RANGE = Path("j"), 0x02, 0x14
+KEPT = "Not restored: the chip keeps these status bits, which differ from the journal: QE (clear)."
+KEPT_BITS = 'All bytes and protection bits are restored, but not the status bits of the line "Not restored" above.'
 
 
 def frame(out, replies=0):
@@ -53,17 +59,50 @@ def connect(port):
     port.acked(b"\x00")
 
 
-def enable(port):
-    one, two = (port.acked(frame([code], 1), replies=1)[0] for code in (0x05, 0x35))
-    write = frame([0x06]) + frame([0x01, one & 0xFC | 0x80, two & 0x7B])
+def status(port):
+    return [port.acked(frame([code], 1), replies=1)[0] for code in (0x05, 0x35)]
+
+
+def change(port, out):
+    """Sends a write enable and this instruction, and polls."""
+    both = frame([0x06]) + frame(out)
     poll = frame([0x05], 1)
     if "together" in WRONG:
-        port.acked(write + poll, acks=3, replies=1)
+        port.acked(both + poll, acks=3, replies=1)
     else:
-        port.acked(write, acks=2)
+        port.acked(both, acks=2)
     for _ in range(SILENT):
         if not port.acked(poll, replies=1)[0] & 1:
             break
+
+
+def enable(port):
+    one, two = status(port)
+    change(port, [0x01, one & 0xFC | 0x80, two & 0x7B])
+
+
+def protect(port):
+    saved = status(port)
+    JOURNAL.write_bytes(bytes(saved))
+    change(port, [0x01, RANGE, saved[1]])
+
+
+def restore(port):
+    """Restores the status bytes. QE stays as it is."""
+    one, two = JOURNAL.read_bytes()
+    found = status(port)
+    wanted = [one, two & ~QE | found[1] & QE]
+    if found != wanted:
+        change(port, [0x01, *wanted])
+    if status(port) != wanted:
+        raise OSError("the chip didn't store the status")
+    if wanted[1] == two:
+        return
+    print(KEPT, file=sys.stderr)
+    if "erases" in WRONG:
+        change(port, [0x20, 0, 0, 0])
+    if "quiet" not in WRONG:
+        sys.exit(KEPT_BITS)
 
 
 def main(words):
@@ -72,6 +111,10 @@ def main(words):
         connect(port)
         if "--wp-enable" in words:
             enable(port)
+        if "--wp-range" in words:
+            protect(port)
+        if "--restore" in words:
+            restore(port)
     except OSError as why:
         if "lies" not in WRONG:
             sys.exit(f"error: {why}")
