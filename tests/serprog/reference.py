@@ -138,9 +138,9 @@ BITS = (((0x80, "SRP0"), (0x40, "SEC"), (0x20, "TB"), (0x10, "BP2"), (0x08, "BP1
 # The programmer faults of the trial reads. DEV is the device.
 LONG_FRAMES = "Programmer fault 14: DEV doesn't send a page program as one whole transaction. Install firmware that " \
     "sends 260 bytes in a transaction, or that says how many it sends (Q_WRNMAXLEN)."
-FOUR_BYTES = "Programmer fault 15: DEV has a chip whose overlapping reads differ: it seems to take four address bytes. " \
-    "Disconnect the chip and its board from all power for ten seconds, and try again. If the line appears again, the " \
-    "chip is set to begin in four-byte mode: this program can't use it."
+FOUR_BYTES = "Programmer fault 15: DEV has a chip whose overlapping reads differ: it takes four address bytes, or a " \
+    "contact is bad. Check contacts, disconnect the chip and its board from all power for ten seconds, and try again. If " \
+    "the line appears again, the chip is set to begin in four-byte mode: this program can't use it."
 # The last line of a restore that succeeded, except for bits of the line "Not restored". A QE that is set doesn't count.
 LOST_BITS = "All bytes and protection bits are restored, but not the status bits of the line \"Not restored\" above."
 # The end of chip fault 4 after a restore.
@@ -253,16 +253,15 @@ def trials(data, sends=UNLIMITED, reads=UNLIMITED):
     """Returns the trial reads of a chip with this data, at a programmer that sends and reads at most so many bytes.
 
     At each place two reads overlap. The first place whose bytes aren't all equal is the last one. There, a read behind
-    padding makes a frame as long as that of a page program, and a direct read of these bytes follows.
+    padding makes a frame as long as that of a page program, and a direct read of these bytes follows. If the bytes at
+    all places are equal, status 1 is read in both ways instead.
     """
-    found, length = [], min(TRIAL, reads)
+    found, length, few, padding = [], min(TRIAL, reads), min(FEW, reads), min(PROGRAM, sends) - 4
     for address in range(0, PLACES * STEP, STEP):
         found += [(command(READ_DATA, address), length), (command(READ_DATA, address + 1), length - 1)]
         if len(set(data[address : address + length])) > 1:
-            break
-    padding = min(PROGRAM, sends) - 4
-    return found + [(command(READ_DATA, at, dummies), min(FEW, reads))
-                    for at, dummies in ((address, padding), (address + padding, 0))]
+            return found + [(command(READ_DATA, address, padding), few), (command(READ_DATA, address + padding), few)]
+    return found + [(POLL[0] + bytes(padding + 3), few), (POLL[0], few)]
 
 
 def before_job(data, sends=UNLIMITED, reads=UNLIMITED):

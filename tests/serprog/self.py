@@ -84,7 +84,7 @@ MISTAKES = {
     "makes no trial reads": "refuses_four_byte_mode",
     "takes any overlap": "refuses_four_byte_mode",
     "takes any long frame": "refuses_firmware_that_wraps",
-    "tries each place once": "goes_on_after_noise",
+    "tries each place once": "restores_bytes_that_change",
     "tries long frames once": "goes_on_after_noise",
     "sends no frame again": "takes_a_shared_buffer",
     "takes an option twice": "takes_long_names",

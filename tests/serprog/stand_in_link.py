@@ -178,27 +178,39 @@ class Link:
 
     def try_reads(self):
         """Makes the trial reads before a job."""
-        length = min(reference.TRIAL, self.receives)
-        for address in range(0, reference.PLACES * reference.STEP, reference.STEP):
-            if len(set(self.overlapping(address, length))) > 1:
-                break
-        padding = min(reference.PROGRAM, self.sends) - 4
+        place = self.find_place(min(reference.TRIAL, self.receives))
+        few, length = min(reference.FEW, self.receives), min(reference.PROGRAM, self.sends)
+        long, short = b"\x05" + bytes(length - 1), b"\x05"
+        if place is not None:
+            long = reference.command(READ_DATA, place, length - 4)
+            short = reference.command(READ_DATA, place + length - 4)
+        first = None
         for _ in range(1 if MISTAKE == "tries long frames once" else 3):
-            few = min(reference.FEW, self.receives)
-            behind = self.try_long(reference.command(READ_DATA, address, padding), few)
-            if behind is None or behind == self.operate(reference.command(READ_DATA, address + padding), few) \
-                    or MISTAKE == "takes any long frame":
+            behind = self.try_long(long, few)
+            if behind is None or first and behind != first[0]:
                 return
+            direct = self.operate(short, few)
+            if behind == direct or first and direct != first[1] or MISTAKE == "takes any long frame":
+                return
+            first = behind, direct
         raise Fault(reference.LONG_FRAMES.replace("DEV", self.path))
 
-    def overlapping(self, address, length):
-        """Returns bytes of the chip that two reads agree on, of which one begins a byte later."""
-        for _ in range(1 if MISTAKE == "tries each place once" else 3):
-            first = self.operate(reference.command(READ_DATA, address), length)
-            second = self.operate(reference.command(READ_DATA, address + 1), length - 1)
-            if first[1:] == second or MISTAKE == "takes any overlap":
-                return first
-        raise Fault(reference.FOUR_BYTES.replace("DEV", self.path))
+    def find_place(self, length):
+        """Returns the first place where reads that overlap agree, or `None`. Most bytes must differ, and each time."""
+        differs = False
+        for address in range(0, reference.PLACES * reference.STEP, reference.STEP):
+            pair = (reference.command(READ_DATA, address), length), (reference.command(READ_DATA, address + 1), length - 1)
+            first, second = (self.operate(*it) for it in pair)
+            if sum(a != b for a, b in zip(first[1:], second)) <= (length - 1) // 2 or MISTAKE == "takes any overlap":
+                if len(set(first)) > 1:
+                    return address
+            elif MISTAKE == "tries each place once":
+                differs = True
+            elif self.operate(*pair[0]) == first:
+                differs |= self.operate(*pair[1]) == second
+        if differs:
+            raise Fault(reference.FOUR_BYTES.replace("DEV", self.path))
+        return None
 
     def try_long(self, out, length):
         """Returns the reply to a long frame. If the programmer refuses it, sends it without a reply, and returns `None`."""
