@@ -204,7 +204,9 @@ def stop(bench, words, event, at, seconds):
 def check_waiting(bench):
     """Checks that the chip was busy when the job began. The first poll may be the rest of what was sent before."""
     waits = 0
-    for out, reply in itertools.dropwhile(lambda it: it[0][0] in (WAKE, READ_DATA), bench.server.log):
+    # A busy chip replies FFh to the trial reads of data, so its status is read in both ways, too.
+    before = itertools.dropwhile(lambda it: it[0][0] in (WAKE, READ_DATA) or len(it[1]) == reference.FEW, bench.server.log)
+    for out, reply in before:
         if out != POLL or not reply[0] & 1:
             break
         waits += 1

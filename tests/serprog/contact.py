@@ -138,8 +138,9 @@ def lose(start, work):
     # With a STRIDE of 9 the numbers 6, 15 and so on detect all mistakes of self.py.
     for at in (it for it in range(2, len(log) + 1) if it % STRIDE == 6 % STRIDE):
         is_first = first <= at < first + IDENTIFICATION
-        # A poll that receives FFh shows BUSY. contacts.py has these losses, each of which takes 1.5 s of pauses.
-        is_poll = next(out for out, reply in log[at - 1 :] if reply) == b"\x05"
+        # A poll that receives FFh shows BUSY. contacts.py has these losses, each of which takes 1.5 s of pauses. If the
+        # contact is lost before the first poll, all later ones receive FFh: the run waits for 65,536 of them.
+        is_poll = at < first or next(out for out, reply in log[at - 1 :] if reply) == b"\x05"
         for byte in (0xFF, 0x00) if is_first else ((0xFF, 0x00)[at % 2],):
             for length in LENGTHS if is_first else (LENGTHS[at // 2 % len(LENGTHS)],):
                 try_lost(bench, work, (at, at + length - 1, byte))
