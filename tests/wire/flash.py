@@ -38,7 +38,8 @@ class Flash:
         self.latch = self.asleep = self.deaf = self.armed = False
         self.busy = 0
         self.replies = {
-            0x9F: (1, lambda _: self.id), 0x05: (1, lambda _: bytes([self.status()]) * 8),
+            # The status is output as long as the chip is selected (W25Q64FV datasheet, Read Status Register).
+            0x9F: (1, lambda _: self.id), 0x05: (1, lambda _: bytes([self.status()]) * self.wanted),
             0x03: (4, self.read), 0x0B: (5, self.read), 0x5A: (5, self.sfdp), 0x4B: (5, lambda _: self.unique),
             0x90: (4, self.maker), 0xAB: (4, lambda _: self.device() * 8)}
         self.orders = {

@@ -37,7 +37,7 @@ class Winbond(Flash):
         self.now = list(self.stored)
         self.volatile = self.is_suspended = False
         self.pages = {it: bytearray([BLANK]) * 256 for it in REGISTERS}
-        self.replies |= {0x35: (1, lambda _: bytes([self.status_2()]) * 8), 0x48: (5, self.register)}
+        self.replies |= {0x35: (1, lambda _: bytes([self.status_2()]) * self.wanted), 0x48: (5, self.register)}
         self.orders |= {
             0x50: ((1,), self.enable_volatile), 0x01: ((2, 3), self.write_status), 0x31: ((2,), self.write_status_2),
             0x38: ((1,), self.enter_qpi), 0x42: (range(5, 1 << 24), self.program_register),
