@@ -308,15 +308,13 @@ def stays_lost(start, it, level):
 def begins_in_four_byte_mode(start, it):
     """refused by each job while it is in four-byte mode, with nothing sent but ABh and reads of data"""
     for level in LEVELS:
-        # If the line is low, each read begins with 00h, and then returns the FFh of this chip: the overlap seems to
-        # agree, and only the long frame, whose bytes begin elsewhere, is refused.
-        line = reference.FOUR_BYTES if level == 0xFF else reference.LONG_FRAMES
+        # If the line is low, each read begins with 00h, and then returns the FFh of this chip.
         play = Play(start, it)
         play.chip.floating, play.chip.has_four = level, True
         for words in (), ("-r", "out"), CHANGES[1], BACKUP:
             got = play.bench.run(*words)
             check(f"the refusal of {words}", (got.err, got.out, got.status),
-                  ([play.bench.device(line)], [], 1))
+                  ([play.bench.device(reference.FOUR_BYTES)], [], 1))
             check("opcodes", {out[:1] for out, _ in play.bench.server.log}, {b"\xab", b"\x03"})
             play.bench.check_absent("j")
             play.bench.check_absent("out")

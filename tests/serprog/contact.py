@@ -138,15 +138,16 @@ def lose(start, work):
     # With a STRIDE of 9 the numbers 6, 15 and so on detect all mistakes of self.py.
     for at in (it for it in range(2, len(log) + 1) if it % STRIDE == 6 % STRIDE):
         is_first = first <= at < first + IDENTIFICATION
-        # A poll that receives FFh shows BUSY. contacts.py has these losses, each of which takes 1.5 s of pauses. If the
-        # contact is lost before the first poll, all later ones receive FFh: the run waits for 65,536 of them.
-        is_poll = at < first or next(out for out, reply in log[at - 1 :] if reply) == b"\x05"
+        # A poll that receives FFh shows BUSY. contacts.py has these losses, each of which takes 1.5 s of pauses.
+        is_poll = at >= first and next(out for out, reply in log[at - 1 :] if reply) == b"\x05"
         for byte in (0xFF, 0x00) if is_first else ((0xFF, 0x00)[at % 2],):
             for length in LENGTHS if is_first else (LENGTHS[at // 2 % len(LENGTHS)],):
                 try_lost(bench, work, (at, at + length - 1, byte))
             if is_poll and byte == 0xFF:
                 continue
             got = try_lost(bench, work, (at, END, byte))
+            if at < first and byte == 0xFF:
+                check("a chip that is lost before the job", (got.err, got.status), (reference.NO_CHIP, 1))
             # The first ID follows the first poll. If the chip is lost before, nothing is compared with it.
             if at > first + 1:
                 check_cause(got, work, at, seal, byte)

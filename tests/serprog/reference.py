@@ -17,6 +17,8 @@ READ_STATUS_2 = (b"\x35", 1)
 # the same after data and after a status that counts: a chip that is lost does not reply its ID.
 WAKES = (bytes([WAKE]) + b"\x10" * 12, 10)
 ONLY_WAKES = (bytes([WAKE]), 0)
+# How a connection finds out whether there is a chip.
+LOOK = [(b"\x9f", 3), (b"\x05", 1)]
 QUERY_VERSION = b"\x01"
 STATUS_TWICE = (b"\x05", 2)
 TWICE = (READ_ID, READ_SFDP, READ_UNIQUE, 0x35)
@@ -265,9 +267,12 @@ def trials(data, sends=UNLIMITED, reads=UNLIMITED):
 
 
 def before_job(data, sends=UNLIMITED, reads=UNLIMITED):
-    """Returns the transactions of a connection before the first one of its job: the chip is woken, and read in trials."""
+    """Returns the transactions of a connection before the first one of its job.
+
+    The chip is woken, and read in trials. Then its ID and status 1 are read, which shows that it is still there.
+    """
     has_room = sends >= len(WAKES[0]) and reads >= WAKES[1]
-    return [WAKES if has_room else ONLY_WAKES] + trials(data, sends, reads)
+    return [WAKES if has_room else ONLY_WAKES] + trials(data, sends, reads) + LOOK
 
 
 def carried(plan, data, reads=BLOCK, sends=UNLIMITED, chip=None, image=None):

@@ -85,6 +85,8 @@ MISTAKES = {
     "takes any overlap": "refuses_four_byte_mode",
     "takes any long frame": "refuses_firmware_that_wraps",
     "tries each place once": "restores_bytes_that_change",
+    "takes a few bytes that differ": "takes_unlike_bytes_at_some_places",
+    "looks for no chip after the trial reads": "sends_nothing_before_its_job",
     "tries long frames once": "goes_on_after_noise",
     "sends no frame again": "takes_a_shared_buffer",
     "takes an option twice": "takes_long_names",

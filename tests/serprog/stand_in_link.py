@@ -155,6 +155,8 @@ class Link:
                 self.wake()
             if MISTAKE != "makes no trial reads":
                 self.try_reads()
+            if MISTAKE != "looks for no chip after the trial reads":
+                self.look()
         except Stopped as why:
             self.refuse(str(why))
 
@@ -195,20 +197,31 @@ class Link:
             first = behind, direct
         raise Fault(reference.LONG_FRAMES.replace("DEV", self.path))
 
+    def look(self):
+        """Finds out whether the chip is still there after the trial reads. It may be busy."""
+        if b"".join(self.operate(*it) for it in reference.LOOK) == b"\xff" * 4:
+            raise Fault("\n".join(reference.NO_CHIP))
+
     def find_place(self, length):
-        """Returns the first place where reads that overlap agree, or `None`. Most bytes must differ, and each time."""
-        differs = False
+        """Returns the first place where reads that overlap agree, or `None`.
+
+        The chip is refused if reads differ in most bytes at a place, or in some bytes at each place. They count as
+        different only if each returns the same bytes again.
+        """
+        in_most, always = False, True
         for address in range(0, reference.PLACES * reference.STEP, reference.STEP):
             pair = (reference.command(READ_DATA, address), length), (reference.command(READ_DATA, address + 1), length - 1)
             first, second = (self.operate(*it) for it in pair)
-            if sum(a != b for a, b in zip(first[1:], second)) <= (length - 1) // 2 or MISTAKE == "takes any overlap":
+            if first[1:] == second or MISTAKE == "takes any overlap":
                 if len(set(first)) > 1:
                     return address
-            elif MISTAKE == "tries each place once":
-                differs = True
-            elif self.operate(*pair[0]) == first:
-                differs |= self.operate(*pair[1]) == second
-        if differs:
+                always = False
+                continue
+            repeats = MISTAKE == "tries each place once" or (
+                self.operate(*pair[0]) == first and self.operate(*pair[1]) == second)
+            always &= repeats
+            in_most |= repeats and sum(a != b for a, b in zip(first[1:], second)) > (length - 1) // 2
+        if in_most or always and MISTAKE != "takes a few bytes that differ":
             raise Fault(reference.FOUR_BYTES.replace("DEV", self.path))
         return None
 

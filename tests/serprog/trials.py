@@ -168,7 +168,7 @@ def takes_a_shared_buffer(start):
     bench.expect("-w", "new", "--journal", "j", out=[reference.found("TINY64"), reference.done(plan, old, new)])
     places, (long, _) = long_frames(old)
     wanted = reference.frames([reference.WAKES, *places, long]) + b"\0" + ROW
-    wanted += reference.frames([(long[0], 0), (b"\x05", 2)])
+    wanted += reference.frames([(long[0], 0), *reference.LOOK, (b"\x05", 2)])
     check("what was sent first", split_handshake(bench.server.received)[1][: len(wanted)], wanted)
     check_parts(bench, plan)
     bench.check_chip(new)
@@ -179,13 +179,18 @@ def takes_a_shared_buffer(start):
 
 
 def goes_on_after_noise(start):
-    """One wrong bit in a trial read doesn't matter, and the run goes on. In a long frame it repeats the reads.
+    """One wrong bit in a trial read doesn't matter, and the run goes on.
 
-    The same wrong bit in three long frames is programmer fault 14.
+    In one of two reads that overlap, it repeats both, and then those at the next place are made. In a long frame, it
+    repeats the reads. The same wrong bit in three long frames is programmer fault 14.
     """
     old, _ = images("goes_on_after_noise")
     places, pair = long_frames(old)
-    for number, trials in ((2, places + pair), (3, places + pair), (4, places + pair + pair[:1]),
+    # The trial reads if the first place didn't count.
+    later = long_frames(bytes(reference.TRIAL) + old[reference.TRIAL :])
+    check("the reads at both places", (len(places), later[0][:2]), (2, places))
+    later = later[0][2:] + later[1]
+    for number, trials in ((2, places + places[:1] + later), (3, places * 2 + later), (4, places + pair + pair[:1]),
                            (5, places + pair * 2)):
         for byte in 1, 3:
             bench = start(data=old)
@@ -195,7 +200,7 @@ def goes_on_after_noise(start):
             got = [(out, len(reply)) for out, reply in bench.server.log]
             check(f"the first transactions, with a wrong bit in {number}", got[: 1 + len(trials)],
                   [reference.WAKES, *trials])
-            check("the first poll", got[1 + len(trials)], (b"\x05", 2))
+            check("the first poll", got[1 + len(trials) :][: 3], [*reference.LOOK, (b"\x05", 2)])
     bench = start(data=old)
     bench.server.traits.wrong_bits = {number: (1, 6) for number in (4, 6, 8)}
     bench.expect("-r", "out", err=[bench.device(reference.LONG_FRAMES)])
@@ -246,6 +251,27 @@ def reports_failures_of_trials(start):
     bench.check_file("out", old)
 
 
-CASES = [refuses_four_byte_mode, finds_no_empty_chip_in_four_byte_mode, refuses_firmware_that_wraps,
+def takes_unlike_bytes_at_some_places(start):
+    """Reads that differ in one byte, each time, are refused only if they do so at each of the eight places."""
+    data = b"\xff" * len(FREE)
+    # Where a chip returns 00h as the first byte of a read at an odd address.
+    for places in range(1, 8), range(8):
+        bench = start(data=data)
+        carry, odd = bench.chip.transfer, {at * reference.STEP + 1 for at in places}
+
+        def carry_unlike(out, replies):
+            reply = carry(out, replies)
+            at = int.from_bytes(out[1:4], "big")
+            return b"\0" + reply[1:] if out[0] == READ_DATA and replies == reference.TRIAL - 1 and at in odd else reply
+
+        bench.chip.transfer = carry_unlike
+        if len(places) == 8:
+            bench.expect("-r", "out", err=[bench.device(reference.FOUR_BYTES)])
+            bench.check_absent("out")
+        else:
+            bench.expect("-r", "out", out=[reference.found("TINY64"), f"Read {SIZE} bytes."])
+
+
+CASES = [refuses_four_byte_mode, finds_no_empty_chip_in_four_byte_mode, takes_unlike_bytes_at_some_places, refuses_firmware_that_wraps,
          refuses_firmware_that_drops_bytes, refuses_firmware_with_an_unknown_limit, takes_a_shared_buffer,
          goes_on_after_noise, restores_bytes_that_change, reports_failures_of_trials]

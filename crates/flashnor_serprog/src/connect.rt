@@ -152,6 +152,8 @@ fn connect<'a>(
     let woken = wake(&mut link, &programmer)?;
     expect_chip(rt, &mut link, &woken)?;
     try_reads(&mut link, &programmer)?;
+    // If the contact was lost since the chip woke, the first poll of the job would wait for a chip that isn't there.
+    expect_chip(rt, &mut link, &[])?;
     let longest_read = programmer.longest_read();
     let board = BoardBus::new(rt, link, programmer, image, rules);
     Ok(Connected {

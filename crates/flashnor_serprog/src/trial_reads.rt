@@ -31,7 +31,8 @@ const PROGRAM: usize = 260;
 
 /// Makes trial reads, and compares their data. Sends no modifying command. Returns one of these faults:
 ///
-/// - `Addresses`: two reads that overlap differ, and none agree at another place.
+/// - `Addresses`: two reads that overlap differ in most bytes at a place or in a few bytes at each place, and none
+///   agree.
 /// - `LongFrames`: a read fails or returns other data if its frame is as long as that of a page program.
 /// - `Handshake`: another exchange failed.
 ///
@@ -59,42 +60,47 @@ fn shorter(len: usize, most: u32) -> usize
     len.min(most as usize)
 }
 
-// What two reads that overlap say about a chip.
+// How two reads that overlap compare.
 #[derive(Clone, Copy)]
 enum Overlap {
     // They agree, and their bytes aren't all equal.
     Agrees,
-    // They differ, as if the chip took four address bytes.
-    Differs,
+    // Most bytes differ, as on a chip that takes four address bytes.
+    DiffersInMost,
+    // A few bytes differ. On an empty chip that takes four address bytes, this is the byte during which no chip drives
+    // the line, if the line then is low.
+    DiffersInFew,
     // All bytes are equal, or some change from read to read.
     Unknown,
 }
 
-// Returns the first place where reads that overlap agree. If there is none, returns `Addresses` if reads differ at any
-// place, and otherwise `None`.
+// Returns the first place where reads that overlap agree. If there is none, returns `Addresses` if reads differ in most
+// bytes at a place, or in a few bytes at each place, and otherwise `None`.
 fn find_place(link: &mut Link<DevicePort>, len: usize) -> Result<Option<u32>, ProgrammerFault>
     requires some { 1 ≤ len }
     requires most { len ≤ 32 }
     ensures { IfOk result (λ place. IfSome place (λ address. address < 2 ^ 23)) }
 {
-    let mut differs = false;
+    let mut differs_in_most = false;
+    let mut always_differs = true;
     for place in 0..PLACES {
         let address = place * STEP;
         match try_overlap(link, address, len)? {
             Overlap::Agrees => return Ok(Some(address)),
-            Overlap::Differs => differs = true,
-            Overlap::Unknown => {}
+            Overlap::DiffersInMost => differs_in_most = true,
+            Overlap::DiffersInFew => {}
+            Overlap::Unknown => always_differs = false,
         }
     }
-    if differs {
+    if differs_in_most || always_differs {
         Err(ProgrammerFault::Addresses)
     } else {
         Ok(None)
     }
 }
 
-// Reads `len` bytes at `address`, and then all but the first of them at the next address. If more than half of these
-// bytes differ, repeats both reads.
+// Reads `len` bytes at `address`, and then all but the first of them at the next address. If bytes differ, repeats both
+// reads.
 fn try_overlap(
     link: &mut Link<DevicePort>,
     address: u32,
@@ -108,7 +114,7 @@ fn try_overlap(
     let mut second = [0; MOST];
     read(link, address, &mut first[..len])?;
     read(link, address + 1, &mut second[1..len])?;
-    if are_alike(&first[1..len], &second[1..len]) {
+    if first[1..len] == second[1..len] {
         let is_varied = first[1..len].iter().any(|byte| *byte != first[0]);
         return Ok(if is_varied {
             Overlap::Agrees
@@ -122,14 +128,16 @@ fn try_overlap(
         return Ok(Overlap::Unknown);
     }
     read(link, address + 1, &mut again[1..len])?;
-    Ok(if again[1..len] == second[1..len] {
-        Overlap::Differs
-    } else {
+    Ok(if again[1..len] != second[1..len] {
         Overlap::Unknown
+    } else if are_alike(&first[1..len], &second[1..len]) {
+        Overlap::DiffersInFew
+    } else {
+        Overlap::DiffersInMost
     })
 }
 
-// Returns whether at least half of the bytes are the same. In four-byte mode nearly all differ.
+// Returns whether at least half of the bytes are the same.
 fn are_alike(one: &[u8], other: &[u8]) -> bool {
     let pairs = one.iter().zip(other.iter());
     let differing = pairs.filter(|pair| pair.0 != pair.1).count();
