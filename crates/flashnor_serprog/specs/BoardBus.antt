@@ -1,13 +1,24 @@
 -- The bus to a chip on a board, as contracts describe it: its layers, and the image that it expects.
 use Rattle.std.specs.Prelude.{ℕ, List, Option, option_map}
+use Rattle.nor_serprog.specs.Batching.{link_of}
+use Rattle.nor_buses.specs.Checked.{bus_of}
 use Rattle.nor_buses.specs.KeptQuad.{kept_by}
 use Rattle.nor_buses.specs.KnownStatus2.{known_by}
 use Rattle.nor_buses.specs.OtherMakers.{adapted_by}
 use Rattle.nor_buses.specs.SameChip.{checked_by}
-use Rattle.nor_buses.specs.Twice.{expected_of}
+use Rattle.nor_buses.specs.Paced.{paced_of}
+use Rattle.nor_buses.specs.Splitting.{split_of}
+use Rattle.nor_buses.specs.Twice.{expected_of, twice_of}
+use Rattle.nor_buses.specs.Watched.{watched_by}
+use Rattle.flashnor_serprog.specs.Ports.{asked_over}
 use Rattle.flashnor_serprog.specs.declared.board_bus.BoardBus.{BoardBus}
 
 -- the image that the bus expects, if any: data that equals this image is read once, all other data twice (`EndsTwice`)
 abbrev pub expected_in : BoardBus → Option (List ℕ)
 expected_in bus = option_map (λ image. image.items)
     (expected_of (known_by (kept_by (adapted_by (checked_by bus.layers)))))
+
+-- The bytes that each call of the port was asked to send, those of the last call first.
+abbrev pub asked_in : BoardBus → List (List ℕ)
+asked_in bus = asked_over (link_of (paced_of (watched_by (split_of (bus_of (twice_of
+    (known_by (kept_by (adapted_by (checked_by bus.layers))))))))))

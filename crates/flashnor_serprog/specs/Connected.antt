@@ -3,7 +3,7 @@ use Rattle.std.specs.Prelude.{ℕ, List, Option, string_bytes}
 use Rattle.nor_buses.specs.Ahead.{ahead_of}
 use Rattle.nor_args.specs.Text.{Text}
 use Rattle.board_progress.specs.Shown.{shown_bus}
-use Rattle.flashnor_serprog.specs.BoardBus.{expected_in}
+use Rattle.flashnor_serprog.specs.BoardBus.{asked_in, expected_in}
 use Rattle.flashnor_serprog.specs.declared.connect.Connected.{Connected}
 
 abbrev pub device_of : Connected → Text
@@ -12,3 +12,7 @@ device_of connected = string_bytes connected.device
 -- the image that the bus expects, if any: data that equals this image is read once, all other data twice (`EndsTwice`)
 abbrev pub expected_by : Connected → Option (List ℕ)
 expected_by connected = expected_in (ahead_of (shown_bus connected.bus))
+
+-- The bytes that each call of the device's port was asked to send, those of the last call first.
+abbrev pub asked_by : Connected → List (List ℕ)
+asked_by connected = asked_in (ahead_of (shown_bus connected.bus))

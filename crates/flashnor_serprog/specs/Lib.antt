@@ -1,3 +1,4 @@
+pub mod Ports
 pub mod BoardBus
 pub mod Setting
 pub mod Connected

@@ -3,7 +3,8 @@ ghost use Rattle.std.proofs.lemmas.Bool.{false≢true};
 ghost use Rattle.std.specs.Prelude.{◌≡◌, [], option_map};
 ghost use Rattle.nor_buses.specs.Checked.{bus_of, history_of as checked_history};
 ghost use Rattle.nor_buses.specs.Twice.{expected_of, history_of, twice_of};
-ghost use Rattle.flashnor_serprog.specs.BoardBus.{expected_in};
+ghost use Rattle.flashnor_serprog.specs.BoardBus.{asked_in, expected_in};
+ghost use Rattle.flashnor_serprog.specs.Ports.{asked_over};
 ghost use Rattle.flashnor_serprog.specs.Unused.{IsUnused};
 
 use crate::port::{DevicePort, PortFault};
@@ -78,6 +79,7 @@ impl<'a> BoardBus<'a> {
     ) -> BoardBus<'a>
         ensures fresh { IsUnused (⟦<BoardBus<'a> as Bus>⟧.state result) }
         ensures expects { expected_in result ≡ option_map (λ image. image.items) image }
+        ensures asked { asked_in result ≡ asked_over link }
     {
         let longest_read = programmer.longest_read();
         let paced = Paced::new(BatchingBus::over(link, programmer), rt);

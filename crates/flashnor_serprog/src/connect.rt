@@ -1,6 +1,8 @@
 //! Opens the device of a programmer and identifies the programmer.
-ghost use Rattle.std.specs.Prelude.{◌≡◌, IfOk, option_map, string_bytes};
-ghost use Rattle.flashnor_serprog.specs.Connected.{device_of, expected_by};
+ghost use Rattle.std.specs.Prelude.{◌≡◌, [], IfOk, option_map, string_bytes};
+ghost use Rattle.nor_serprog.specs.Harmless.{IsHarmlessSince, StaysHarmless};
+ghost use Rattle.flashnor_serprog.specs.Connected.{asked_by, device_of, expected_by};
+ghost use Rattle.flashnor_serprog.specs.Ports.{asked_over};
 ghost use Rattle.flashnor_serprog.specs.Unused.{IsUnused};
 
 use crate::board_bus::BoardBus;
@@ -55,6 +57,7 @@ pub fn connect_by<'a, 'b>(
     ensures fresh { IfOk result (λ connected. IsUnused (⟦<ChipBus<'b> as Bus>⟧.state connected.bus)) }
     ensures named { IfOk result (λ connected. device_of connected ≡ setting.now.device.now) }
     ensures expects { IfOk result (λ connected. expected_by connected ≡ option_map (λ image. image.items) image) }
+    ensures harmless { IfOk result (λ connected. IsHarmlessSince [] (asked_by connected)) }
 {
     let name = name_of(rt.alloc(), setting.device)?;
     match connect(
@@ -138,6 +141,7 @@ fn connect<'a>(
     ensures fresh { IfOk result (λ connected. IsUnused (⟦<ChipBus<'a> as Bus>⟧.state connected.bus)) }
     ensures named { IfOk result (λ connected. device_of connected ≡ string_bytes device) }
     ensures expects { IfOk result (λ connected. expected_by connected ≡ option_map (λ image. image.items) image) }
+    ensures harmless { IfOk result (λ connected. IsHarmlessSince [] (asked_by connected)) }
 {
     let file = open_device(rt, device.as_str())?;
     terminal.print_waiting();
@@ -174,7 +178,9 @@ const UNIQUE_LEN: u32 = 8;
 fn identify(
     link: &mut Link<DevicePort>,
     hertz: Option<u32>,
-) -> Result<AnyProgrammer, ProgrammerFault> {
+) -> Result<AnyProgrammer, ProgrammerFault>
+    ensures harmless { StaysHarmless (asked_over link.old) (asked_over link.new) }
+{
     let programmer = AnyProgrammer::identify(link, hertz).map_err(ProgrammerFault::Handshake)?;
     match programmer.longest_read() {
         most if most < UNIQUE_LEN => {
@@ -215,7 +221,9 @@ fn expect_chip(
     rt: &HostRuntime,
     link: &mut Link<DevicePort>,
     woken: &[u8],
-) -> Result<(), Unconnected> {
+) -> Result<(), Unconnected>
+    ensures harmless { StaysHarmless (asked_over link.old) (asked_over link.new) }
+{
     match look_for_chip(rt, link, woken).map_err(|failure| of_failure(failure))? {
         Contact::Present => Ok(()),
         Contact::Missing => Err(Unconnected::NoChip),

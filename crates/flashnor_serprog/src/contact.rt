@@ -1,5 +1,10 @@
 //! Finds out within two seconds whether a chip answers, and frees a chip that was left in QPI mode.
 
+ghost use Rattle.std.specs.Prelude.{◌≡◌, false};
+ghost use Rattle.nor_model.specs.Command.{begins_change};
+ghost use Rattle.nor_serprog.specs.Harmless.{StaysHarmless};
+ghost use Rattle.flashnor_serprog.specs.Ports.{asked_over};
+
 use crate::port::{DevicePort, PortFault};
 use nor_serprog::{Command, Failure, Link};
 use std::thread;
@@ -41,7 +46,9 @@ pub fn look_for_chip(
     rt: &HostRuntime,
     link: &mut Link<DevicePort>,
     woken: &[u8],
-) -> Result<Contact, Failure<PortFault>> {
+) -> Result<Contact, Failure<PortFault>>
+    ensures harmless { StaysHarmless (asked_over link.old) (asked_over link.new) }
+{
     if !is_idle(woken) {
         return Ok(Contact::Present);
     }
@@ -86,17 +93,24 @@ pub fn look_for_chip(
 /// - ISSI, Micron: FFh ends a continuous read or is no instruction.
 /// - A busy chip ignores everything except reads of its status, suspends, and resets by 66h and 99h.
 /// - SPI NAND: FFh is a reset. No operation takes longer than 10 ms, so after 1.5 seconds none is interrupted.
-fn leave_modes(link: &mut Link<DevicePort>) -> Result<(), Failure<PortFault>> {
+fn leave_modes(link: &mut Link<DevicePort>) -> Result<(), Failure<PortFault>>
+    ensures harmless { StaysHarmless (asked_over link.old) (asked_over link.new) }
+{
     send(link, &[0xFF])?;
     send(link, &[0xFF, 0xFF])
 }
 
-fn send(link: &mut Link<DevicePort>, out: &[u8]) -> Result<(), Failure<PortFault>> {
+fn send(link: &mut Link<DevicePort>, out: &[u8]) -> Result<(), Failure<PortFault>>
+    requires reads { begins_change out.now ≡ false }
+    ensures harmless { StaysHarmless (asked_over link.old) (asked_over link.new) }
+{
     link.exchange(Command::Operate { out, replies: 0 }, &mut [])
 }
 
 // Returns whether the reply to 9Fh has a byte other than FFh.
-fn returns_id(link: &mut Link<DevicePort>) -> Result<bool, Failure<PortFault>> {
+fn returns_id(link: &mut Link<DevicePort>) -> Result<bool, Failure<PortFault>>
+    ensures harmless { StaysHarmless (asked_over link.old) (asked_over link.new) }
+{
     let mut id = [0; 3];
     let read_id = Command::Operate {
         out: &[0x9F],
@@ -107,7 +121,9 @@ fn returns_id(link: &mut Link<DevicePort>) -> Result<bool, Failure<PortFault>> {
 }
 
 // Returns whether the reply to 05h is a byte other than FFh.
-fn returns_status(link: &mut Link<DevicePort>) -> Result<bool, Failure<PortFault>> {
+fn returns_status(link: &mut Link<DevicePort>) -> Result<bool, Failure<PortFault>>
+    ensures harmless { StaysHarmless (asked_over link.old) (asked_over link.new) }
+{
     let mut status = [0; 1];
     let read_status = Command::Operate {
         out: &[0x05],
@@ -118,7 +134,9 @@ fn returns_status(link: &mut Link<DevicePort>) -> Result<bool, Failure<PortFault
 }
 
 // Returns whether the reply to 5Ah (Read SFDP) begins with `SFDP` (JESD216).
-fn returns_sfdp(link: &mut Link<DevicePort>) -> Result<bool, Failure<PortFault>> {
+fn returns_sfdp(link: &mut Link<DevicePort>) -> Result<bool, Failure<PortFault>>
+    ensures harmless { StaysHarmless (asked_over link.old) (asked_over link.new) }
+{
     let mut signature = [0; 4];
     let read_sfdp = Command::Operate {
         out: &[0x5A, 0, 0, 0, 0],

@@ -1,5 +1,6 @@
 //! The serial port of a programmer as a `Port` of nor_serprog, over a device such as /dev/ttyACM0.
 ghost use Rattle.std.proofs.lemmas.Bool.{false≢true};
+ghost use Rattle.std.specs.Prelude.{◌≡◌, []};
 ghost use Rattle.nor_serprog.specs.Device.{unknown_port};
 ghost use Rattle.nor_serprog.specs.Wire.{asked_on, received_on};
 
@@ -36,7 +37,9 @@ pub struct DevicePort {
 
 impl DevicePort {
     /// Returns a port over `file`, which must be open for reading and writing.
-    pub fn new(file: File) -> DevicePort {
+    pub fn new(file: File) -> DevicePort
+        ensures unasked { asked_on result.wire ≡ [] }
+    {
         DevicePort {
             file,
             wire: Wire::new(),

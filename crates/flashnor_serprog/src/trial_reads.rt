@@ -1,6 +1,9 @@
 //! Reads of a few bytes before a job. They find a chip that takes four address bytes, and a programmer that doesn't
 //! send long frames as it should.
-ghost use Rattle.std.specs.Prelude.{◌≤◌, ◌<◌, ◌^◌, IfOk, IfSome, length};
+ghost use Rattle.std.specs.Prelude.{◌≡◌, ◌≤◌, ◌<◌, ◌^◌, false, IfOk, IfSome, length};
+ghost use Rattle.nor_model.specs.Command.{begins_change};
+ghost use Rattle.nor_serprog.specs.Harmless.{StaysHarmless};
+ghost use Rattle.flashnor_serprog.specs.Ports.{asked_over};
 
 use crate::port::{DevicePort, PortFault};
 use crate::trouble::ProgrammerFault;
@@ -45,7 +48,9 @@ const PROGRAM: usize = 260;
 pub fn try_reads(
     link: &mut Link<DevicePort>,
     programmer: &AnyProgrammer,
-) -> Result<(), ProgrammerFault> {
+) -> Result<(), ProgrammerFault>
+    ensures harmless { StaysHarmless (asked_over link.old) (asked_over link.new) }
+{
     let most = programmer.longest_read();
     let place = find_place(link, shorter(MOST, most))?;
     let len = shorter(PROGRAM, programmer.longest_part());
@@ -79,7 +84,8 @@ enum Overlap {
 fn find_place(link: &mut Link<DevicePort>, len: usize) -> Result<Option<u32>, ProgrammerFault>
     requires some { 1 ≤ len }
     requires most { len ≤ 32 }
-    ensures { IfOk result (λ place. IfSome place (λ address. address < 2 ^ 23)) }
+    ensures place { IfOk result (λ place. IfSome place (λ address. address < 2 ^ 23)) }
+    ensures harmless { StaysHarmless (asked_over link.old) (asked_over link.new) }
 {
     let mut differs_in_most = false;
     let mut always_differs = true;
@@ -109,6 +115,7 @@ fn try_overlap(
     requires address { address < 2 ^ 23 }
     requires some { 1 ≤ len }
     requires most { len ≤ 32 }
+    ensures harmless { StaysHarmless (asked_over link.old) (asked_over link.new) }
 {
     let mut first = [0; MOST];
     let mut second = [0; MOST];
@@ -159,6 +166,7 @@ fn try_long_frame(
     requires some { 5 ≤ len }
     requires most { len ≤ 260 }
     requires few { replies ≤ 4 }
+    ensures harmless { StaysHarmless (asked_over link.old) (asked_over link.new) }
 {
     let mut behind = [0; FEW];
     let mut direct = [0; FEW];
@@ -192,19 +200,13 @@ fn read_behind(
     requires some { 4 ≤ len }
     requires most { len ≤ 260 }
     requires few { length reply.old ≤ 4 }
+    ensures harmless { StaysHarmless (asked_over link.old) (asked_over link.new) }
 {
     // The padding does nothing if the programmer sends it in place of an opcode: no chip has an instruction 00h that
     // changes it.
     let mut out = [0; PROGRAM];
-    match place {
-        Some(address) => out[..4].copy_from_slice(&read_at(address)),
-        None => out[0] = READ_STATUS,
-    }
-    let long = Command::Operate {
-        out: &out[..len],
-        replies: reply.len() as u32,
-    };
-    match link.exchange(long, reply) {
+    out[..4].copy_from_slice(&first_bytes(place));
+    match operate(link, &out[..len], reply) {
         Ok(()) => Ok(true),
         Err(Failure::Refused(_)) => {
             send_only(link, &out[..len])?;
@@ -214,11 +216,28 @@ fn read_behind(
     }
 }
 
-fn send_only(link: &mut Link<DevicePort>, out: &[u8]) -> Result<(), ProgrammerFault> {
-    link.synchronize().map_err(|failure| of_long(failure))?;
-    let long = Command::Operate { out, replies: 0 };
-    link.exchange(long, &mut [])
-        .map_err(|failure| of_long(failure))
+// Returns the first bytes of a read at this place or, without a place, of status 1.
+fn first_bytes(place: Option<u32>) -> [u8; 4]
+    ensures reads { begins_change result ≡ false }
+{
+    match place {
+        Some(address) => read_at(address),
+        None => [READ_STATUS, 0, 0, 0],
+    }
+}
+
+fn send_only(link: &mut Link<DevicePort>, out: &[u8]) -> Result<(), ProgrammerFault>
+    requires reads { begins_change out.now ≡ false }
+    ensures harmless { StaysHarmless (asked_over link.old) (asked_over link.new) }
+{
+    synchronize(link).map_err(|failure| of_long(failure))?;
+    operate(link, out, &mut []).map_err(|failure| of_long(failure))
+}
+
+fn synchronize(link: &mut Link<DevicePort>) -> Result<(), Failure<PortFault>>
+    ensures harmless { StaysHarmless (asked_over link.old) (asked_over link.new) }
+{
+    link.synchronize()
 }
 
 // Reads what `read_behind` reads, in a short frame.
@@ -232,6 +251,7 @@ fn read_direct(
     requires some { 4 ≤ len }
     requires most { len ≤ 260 }
     requires few { length reply.old ≤ 4 }
+    ensures harmless { StaysHarmless (asked_over link.old) (asked_over link.new) }
 {
     match place {
         Some(address) => read(link, address + (len - 4) as u32, reply),
@@ -241,6 +261,7 @@ fn read_direct(
 
 fn read(link: &mut Link<DevicePort>, address: u32, reply: &mut [u8]) -> Result<(), ProgrammerFault>
     requires { length reply.old ≤ 32 }
+    ensures harmless { StaysHarmless (asked_over link.old) (asked_over link.new) }
 {
     exchange(link, &read_at(address), reply)
 }
@@ -250,19 +271,35 @@ fn exchange(
     out: &[u8],
     reply: &mut [u8],
 ) -> Result<(), ProgrammerFault>
-    requires { length reply.old ≤ 32 }
+    requires few { length reply.old ≤ 32 }
+    requires reads { begins_change out.now ≡ false }
+    ensures harmless { StaysHarmless (asked_over link.old) (asked_over link.new) }
+{
+    operate(link, out, reply).map_err(|failure| {
+        ProgrammerFault::Handshake(HandshakeFault::Failure(failure))
+    })
+}
+
+fn operate(
+    link: &mut Link<DevicePort>,
+    out: &[u8],
+    reply: &mut [u8],
+) -> Result<(), Failure<PortFault>>
+    requires few { length reply.old ≤ 32 }
+    requires reads { begins_change out.now ≡ false }
+    ensures harmless { StaysHarmless (asked_over link.old) (asked_over link.new) }
 {
     let command = Command::Operate {
         out,
         replies: reply.len() as u32,
     };
-    link.exchange(command, reply).map_err(|failure| {
-        ProgrammerFault::Handshake(HandshakeFault::Failure(failure))
-    })
+    link.exchange(command, reply)
 }
 
 // The bytes of a read at this address, which must be below 2^24.
-fn read_at(address: u32) -> [u8; 4] {
+fn read_at(address: u32) -> [u8; 4]
+    ensures reads { begins_change result ≡ false }
+{
     let [_, high, middle, low] = address.to_be_bytes();
     [READ, high, middle, low]
 }

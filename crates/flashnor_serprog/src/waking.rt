@@ -1,5 +1,8 @@
 //! Wakes the chip, and finds out whether the port changes bytes that are sent.
 
+ghost use Rattle.nor_serprog.specs.Harmless.{ModifiesNothing, StaysHarmless};
+ghost use Rattle.flashnor_serprog.specs.Ports.{asked_over};
+
 use crate::port::{DevicePort, PortFault};
 use crate::trouble::ProgrammerFault;
 use nor_serprog::{AnyProgrammer, Command, Failure, HandshakeFault, Link};
@@ -30,7 +33,9 @@ const WAKE_REPLIES: u32 = 10;
 pub fn wake(
     link: &mut Link<DevicePort>,
     programmer: &AnyProgrammer,
-) -> Result<[u8; WAKE_REPLIES as usize], ProgrammerFault> {
+) -> Result<[u8; WAKE_REPLIES as usize], ProgrammerFault>
+    ensures harmless { StaysHarmless (asked_over link.old) (asked_over link.new) }
+{
     let mut reply = [0xFF; WAKE_REPLIES as usize];
     if programmer.longest_part() < WAKE.len() as u32 || programmer.longest_read() < WAKE_REPLIES {
         let release = Command::Operate {
@@ -57,7 +62,10 @@ fn exchange(
     link: &mut Link<DevicePort>,
     command: Command<'_>,
     reply: &mut [u8],
-) -> Result<(), HandshakeFault<PortFault>> {
+) -> Result<(), HandshakeFault<PortFault>>
+    requires reads { ModifiesNothing command }
+    ensures harmless { StaysHarmless (asked_over link.old) (asked_over link.new) }
+{
     link.exchange(command, reply)
         .map_err(HandshakeFault::Failure)
 }

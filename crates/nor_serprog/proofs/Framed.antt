@@ -227,7 +227,10 @@ nop byte rest is nops = All-cons (λ (b : ℕ). (b ≡ 0x10) ⊎ (b ≡ 0x00)) b
 none : AreNops []
 none = All-nil (λ (byte : ℕ). (byte ≡ 0x10) ⊎ (byte ≡ 0x00))
 
-row_nops : AreNops nop_row
+pub first_nops : AreNops (0x00 ∷ [])
+first_nops = nop 0 [] (inr refl) none
+
+pub row_nops : AreNops nop_row
 row_nops =
     let at18 = nop 0 ([]) (inr refl) none in
     let at17 = nop 16 (0 ∷ []) (inl refl) at18 in

@@ -5,6 +5,7 @@ pub mod Synchronized
 pub mod Handshaken
 pub mod Stops
 pub mod Framed
+pub mod Harmless
 pub mod Enabling
 pub mod Enabled
 pub mod Batches

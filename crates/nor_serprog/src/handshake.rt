@@ -5,6 +5,7 @@ ghost use Rattle.nor_serprog.specs.Device.{with_settings};
 ghost use Rattle.nor_serprog.specs.Firmware.{Firmware, HasReply, ProgrammerSettings, has_command, is_in_map, reply_of, queried};
 ghost use Rattle.nor_serprog.specs.Firmware.{settings_after, taken};
 ghost use Rattle.nor_serprog.specs.Frame.{frame_of, three_of};
+ghost use Rattle.nor_serprog.specs.Harmless.{ModifiesNothing, StaysHarmless};
 ghost use Rattle.nor_serprog.specs.Link.{port_of, is_in_step, is_cut};
 ghost use Rattle.nor_serprog.specs.Replies.{AwaitsCommand};
 ghost use Rattle.nor_serprog.specs.Identify.{Asked, Concludes, IsInStepWith};
@@ -38,6 +39,7 @@ pub(crate) fn synchronize<P: Port + Drop>(
     ensures in_step { OnOk result (is_in_step link.new ≡ true) }
     ensures concludes { AwaitsCommand (P.state (port_of link.old)) → is_cut link.old ≡ false
         → Concludes 28 None (λ _. ⊤) result (P.state (port_of link.old)) (P.state (port_of link.new)) }
+    ensures harmless { StaysHarmless (P.state (port_of link.old)).asked (P.state (port_of link.new)).asked }
 {
     match link.synchronize() {
         Ok(()) => Ok(()),
@@ -54,6 +56,8 @@ pub(crate) fn ask<P: Port + Drop>(
     ensures asked { (firmware : Firmware) → IsInStepWith P.state firmware link.old → HasReply firmware command.entry
         → Asked firmware command.entry (length reply.old) reply.new result
         (P.state (port_of link.old)) (P.state (port_of link.new)) }
+    ensures harmless { ModifiesNothing command.entry
+        → StaysHarmless (P.state (port_of link.old)).asked (P.state (port_of link.new)).asked }
 {
     match link.exchange(command, reply) {
         Ok(()) => Ok(()),
@@ -75,6 +79,8 @@ fn query<P: Port + Drop, const LEN: usize>(
         → ((settings : ProgrammerSettings) → settings_after firmware query.entry settings ≡ settings)
         → Concludes 3 None (λ reply. reply ≡ (if has_command firmware opcode then Some bytes else None)) result
         (P.state (port_of link.old)) (P.state (port_of link.new)) }
+    ensures harmless { ModifiesNothing query.entry
+        → StaysHarmless (P.state (port_of link.old)).asked (P.state (port_of link.new)).asked }
 {
     if !offers(commands, opcode) {
         return Ok(None);
@@ -98,6 +104,8 @@ pub(crate) fn set<P: Port + Drop>(
         → Concludes 3 (refused opcode (has_command firmware opcode) accepts) (λ _. ⊤) result
         (with_settings (settings_if_offered firmware opcode setting.entry (P.state (port_of link.old)).device.settings)
         (P.state (port_of link.old))) (P.state (port_of link.new)) }
+    ensures harmless { ModifiesNothing setting.entry
+        → StaysHarmless (P.state (port_of link.old)).asked (P.state (port_of link.new)).asked }
 {
     if !offers(commands, opcode) {
         return Ok(());
@@ -112,6 +120,7 @@ pub(crate) fn require_version<P: Port + Drop>(
     ensures concludes { (firmware : Firmware) → IsInStepWith P.state firmware link.old
         → Concludes 3 (version_fault firmware) (λ _. ⊤) result
         (P.state (port_of link.old)) (P.state (port_of link.new)) }
+    ensures harmless { StaysHarmless (P.state (port_of link.old)).asked (P.state (port_of link.new)).asked }
 {
     let mut version = [0; 2];
     ask(link, Command::QueryInterface, &mut version)?;
@@ -130,6 +139,7 @@ pub(crate) fn query_commands<P: Port + Drop>(
     ensures concludes { (firmware : Firmware) → IsInStepWith P.state firmware link.old
         → Concludes 3 (operation_fault firmware) (λ commands. commands ≡ firmware.commands) result
         (P.state (port_of link.old)) (P.state (port_of link.new)) }
+    ensures harmless { StaysHarmless (P.state (port_of link.old)).asked (P.state (port_of link.new)).asked }
 {
     let mut commands = [0; 32];
     ask(link, Command::QueryCommands, &mut commands)?;
@@ -147,6 +157,7 @@ pub(crate) fn require_spi<P: Port + Drop>(
     ensures concludes { (firmware : Firmware) → IsInStepWith P.state firmware link.old
         → commands.now ≡ firmware.commands → Concludes 3 (buses_fault firmware) (λ _. ⊤) result
         (P.state (port_of link.old)) (P.state (port_of link.new)) }
+    ensures harmless { StaysHarmless (P.state (port_of link.old)).asked (P.state (port_of link.new)).asked }
 {
     let buses = query_buses(link, commands)?;
     if !can_select_spi(buses, offers(commands, 0x12)) {
@@ -163,6 +174,7 @@ fn query_buses<P: Port + Drop>(
     ensures concludes { (firmware : Firmware) → IsInStepWith P.state firmware link.old
         → commands.now ≡ firmware.commands → Concludes 3 None (λ buses. buses ≡ buses_of firmware) result
         (P.state (port_of link.old)) (P.state (port_of link.new)) }
+    ensures harmless { StaysHarmless (P.state (port_of link.old)).asked (P.state (port_of link.new)).asked }
 {
     let reply: Option<[u8; 1]> = query(link, commands, Command::QueryBuses, 0x05)?;
     match reply {
@@ -189,6 +201,7 @@ pub(crate) fn query_write_limit<P: Port + Drop>(
         → commands.now ≡ firmware.commands
         → Concludes 3 (write_fault firmware least) (λ limit. limit ≡ write_limit firmware) result
         (P.state (port_of link.old)) (P.state (port_of link.new)) }
+    ensures harmless { StaysHarmless (P.state (port_of link.old)).asked (P.state (port_of link.new)).asked }
 {
     let limit = limit_of(query(link, commands, Command::QueryLongestWrite, 0x08)?);
     if limit < least {
@@ -208,6 +221,7 @@ pub(crate) fn query_read_limit<P: Port + Drop>(
         → commands.now ≡ firmware.commands
         → Concludes 3 (read_fault firmware least) (λ limit. limit ≡ read_limit firmware) result
         (P.state (port_of link.old)) (P.state (port_of link.new)) }
+    ensures harmless { StaysHarmless (P.state (port_of link.old)).asked (P.state (port_of link.new)).asked }
 {
     let limit = limit_of(query(link, commands, Command::QueryLongestRead, 0x11)?);
     if limit < least {
@@ -245,6 +259,7 @@ pub(crate) fn query_buffer<P: Port + Drop>(
         → commands.now ≡ firmware.commands → Concludes 3 (buffer_fault firmware least)
         (λ size. size ≡ (if has_command firmware 0x04 then firmware.buffer else 0)) result
         (P.state (port_of link.old)) (P.state (port_of link.new)) }
+    ensures harmless { StaysHarmless (P.state (port_of link.old)).asked (P.state (port_of link.new)).asked }
 {
     let size = match query(link, commands, Command::QuerySerialBuffer, 0x04)? {
         Some(size) => u16::from_le_bytes(size),
@@ -268,6 +283,7 @@ pub(crate) fn query_name<P: Port + Drop>(
         → commands.now ≡ firmware.commands → Concludes 3 None
         (λ name. name ≡ (if has_command firmware 0x03 then firmware.name else replicate 16 0)) result
         (P.state (port_of link.old)) (P.state (port_of link.new)) }
+    ensures harmless { StaysHarmless (P.state (port_of link.old)).asked (P.state (port_of link.new)).asked }
 {
     let name = query(link, commands, Command::QueryName, 0x03)?;
     Ok(name.unwrap_or([0; 16]))
@@ -283,6 +299,7 @@ pub(crate) fn set_frequency<P: Port + Drop>(
         → commands.now ≡ firmware.commands → Concludes 3 (clock_fault firmware hertz)
         (λ set. set ≡ option_and_then firmware.clock hertz) result
         (P.state (port_of link.old)) (P.state (port_of link.new)) }
+    ensures harmless { StaysHarmless (P.state (port_of link.old)).asked (P.state (port_of link.new)).asked }
 {
     let hertz = match hertz {
         Some(hertz) => hertz,

@@ -1,6 +1,7 @@
 //! The handshake that identifies a programmer and prepares it for SPI, before the first transaction.
 ghost use Rattle.std.specs.Prelude.{◌≡◌, ◌≤◌, true, false, OnOk, IfOk, IsErr, ⊤};
 ghost use Rattle.nor_serprog.specs.Firmware.{Firmware, has_command};
+ghost use Rattle.nor_serprog.specs.Harmless.{StaysHarmless};
 ghost use Rattle.nor_serprog.specs.Link.{port_of, is_in_step, is_cut};
 ghost use Rattle.nor_serprog.specs.Replies.{AwaitsCommand};
 ghost use Rattle.nor_serprog.specs.Identify.{Concludes, IsInStepWith, IsAnyProgrammerOf, IsProgrammerOf, prepared_port};
@@ -43,6 +44,7 @@ impl AnyProgrammer {
             → Concludes 58 (narrow_fault (P.state (port_of link.old)).device.firmware hertz)
             (IsAnyProgrammerOf (P.state (port_of link.old)).device.firmware hertz) result
             (prepared_port (P.state (port_of link.old))) (P.state (port_of link.new)) }
+        ensures harmless { StaysHarmless (P.state (port_of link.old)).asked (P.state (port_of link.new)).asked }
     {
         let least = Least {
             write: 5,
@@ -71,6 +73,7 @@ impl AnyProgrammer {
             → self.now.selects ≡ has_command firmware 0x16
             → Concludes 3 (select_fault firmware number) (λ _. ⊤) result
             (P.state (port_of link.old)) (P.state (port_of link.new)) }
+        ensures harmless { StaysHarmless (P.state (port_of link.old)).asked (P.state (port_of link.new)).asked }
     {
         if !self.selects {
             return Err(HandshakeFault::Lacks(S_SPI_CS));
@@ -111,6 +114,7 @@ impl Programmer {
             → Concludes 58 (identify_fault (P.state (port_of link.old)).device.firmware hertz)
             (IsProgrammerOf (P.state (port_of link.old)).device.firmware hertz) result
             (prepared_port (P.state (port_of link.old))) (P.state (port_of link.new)) }
+        ensures harmless { StaysHarmless (P.state (port_of link.old)).asked (P.state (port_of link.new)).asked }
     {
         let least = Least {
             write: 260,
@@ -134,6 +138,7 @@ impl Programmer {
             → has_chip_selects self.now ≡ has_command firmware 0x16
             → Concludes 3 (select_fault firmware number) (λ _. ⊤) result
             (P.state (port_of link.old)) (P.state (port_of link.new)) }
+        ensures harmless { StaysHarmless (P.state (port_of link.old)).asked (P.state (port_of link.new)).asked }
     {
         self.reported.select_chip(link, number)
     }
@@ -153,6 +158,7 @@ fn identify_for<P: Port + Drop>(
         → Concludes 58 (least_fault least (P.state (port_of link.old)).device.firmware hertz)
         (IsAnyProgrammerOf (P.state (port_of link.old)).device.firmware hertz) result
         (prepared_port (P.state (port_of link.old))) (P.state (port_of link.new)) }
+    ensures harmless { StaysHarmless (P.state (port_of link.old)).asked (P.state (port_of link.new)).asked }
 {
     synchronize(link)?;
     require_version(link)?;

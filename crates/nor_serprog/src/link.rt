@@ -7,6 +7,7 @@ ghost use Rattle.nor_serprog.specs.Firmware.{HasReply, nak};
 ghost use Rattle.nor_serprog.specs.Frame.{frame_of, FitsFrame, IsFrame, ReadsAs};
 ghost use Rattle.nor_serprog.specs.Link.{port_of, sync_of, is_in_step, is_cut};
 ghost use Rattle.nor_serprog.specs.Asked.{acks, AsksSync};
+ghost use Rattle.nor_serprog.specs.Harmless.{ModifiesNothing, StaysHarmless};
 ghost use Rattle.nor_serprog.specs.Replies.{AwaitsCommand, EndsExchange, IsPortFailure, IsRefused, AsksUnlessFew};
 
 use crate::skipping::{ROW_ANSWERS_LEN, skip_past};
@@ -145,6 +146,8 @@ impl<P: Port + Drop> Link<P> {
             → HasReply (P.state (port_of self.old)).device.firmware command.entry → EndsExchange command.entry
             (length reply.old) reply.new result (P.state (port_of self.old)) (P.state (port_of self.new)) }
         ensures unread { (P.state (port_of self.old)).honest ≡ true → OnErr result (reply.new ≡ reply.old) }
+        ensures harmless { ModifiesNothing command.entry
+            → StaysHarmless (P.state (port_of self.old)).asked (P.state (port_of self.new)).asked }
     {
         match self.sync {
             Sync::InStep => self.exchange_in_step(command, reply),
