@@ -1,4 +1,3 @@
--- The effect of successive calls that begin no operation.
 use Rattle.std.proofs.Common.{◌≡◌, arith}
 use Rattle.nor_model.specs.declared.running.Running.{Running}
 use Rattle.nor_model.specs.Chip.{Chip, IsSame, KeptBits}

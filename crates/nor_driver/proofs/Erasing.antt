@@ -1,4 +1,3 @@
--- Derives the effect of an erase from the effect of an operation.
 use Rattle.std.proofs.Common.{◌≡◌, ◌<◌, ◌+◌, ◌*◌, ◌/◌, ◌&&◌, ◌∙◌, ℕ, Bool, true, false, not, cond, nat_lt, nat_le, List, [], ◌∷◌, drop, ap, sym, refl, arith}
 use Rattle.std.specs.Prelude.{if◌then◌else◌}
 use Rattle.std.proofs.lemmas.Bool.{eqb-true}

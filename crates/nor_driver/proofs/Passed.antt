@@ -1,4 +1,3 @@
--- The error that a function returns if the operator `?` passes on an error.
 use Rattle.std.proofs.Common.{◌≡◌, ap}
 use Rattle.std.specs.Prelude.{Result, Ok, Err, IsErrAnd}
 

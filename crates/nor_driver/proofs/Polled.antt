@@ -1,4 +1,3 @@
--- Lemmas about the polls of a wait, and about the number of polls in a history that showed BUSY.
 use Rattle.std.proofs.Common.{◌≡◌, ◌≤◌, ◌+◌, ◌%◌, ◌∙◌, ◌++◌, ℕ, cond, List, [], ◌∷◌, length, length-append, zero-add, refl, sym, ap, arith}
 use Rattle.std.specs.Prelude.{map}
 use Rattle.std.specs.List.{All}

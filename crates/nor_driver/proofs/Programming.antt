@@ -1,4 +1,3 @@
--- Derives the effect of a page program from the effect of an operation.
 use Rattle.std.proofs.Common.{◌≡◌, ◌<◌, ◌≤◌, ◌+◌, ◌*◌, ◌%◌, ℕ, true, false, cond, List, [], ◌∷◌, length, refl, arith}
 use Rattle.std.proofs.Math.Nat.{mod-eq_of_lt}
 use Rattle.std.proofs.Math.Bool.{or-false, and-true}

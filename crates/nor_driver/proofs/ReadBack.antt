@@ -1,4 +1,3 @@
--- Lemmas about the last replies to reads of sectors.
 use Rattle.std.proofs.Common.{◌≡◌, ◌≢◌, ◌*◌, ◌/◌, ◌++◌, ◌∙◌, ℕ, Bool, true, false, Option, List, [], ◌∷◌, length, refl, sym, ap, arith, inl, inr}
 use Rattle.std.proofs.lemmas.Bool.{cases_eq}
 use Rattle.std.specs.Prelude.{if◌then◌else◌}

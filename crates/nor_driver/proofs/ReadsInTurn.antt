@@ -1,4 +1,3 @@
--- The effect of successive calls that only read, at every exit of the last call.
 use Rattle.std.proofs.Common.{◌≤◌, ◌+◌, ℕ, arith}
 use Rattle.nor_model.specs.Bus.{BusState}
 use Rattle.nor_model.proofs.Nature.{nature_refl, nature_then}

@@ -1,4 +1,3 @@
--- The replies of an idle chip to reads of its unique ID, of SFDP bytes, and of a sector.
 use Rattle.std.proofs.Common.{◌≡◌, ◌<◌, ◌≤◌, ◌+◌, ◌*◌, ◌%◌, ◌∙◌, ℕ, List, [], ◌∷◌, length, slice_index, refl, ap, sym, arith}
 use Rattle.std.specs.Prelude.{map, slice_index_or}
 use Rattle.std.specs.List.{range_with_len}

@@ -1,4 +1,3 @@
--- The effect of successive reads that succeeded, and of a stop after them.
 use Rattle.std.proofs.Common.{◌≡◌, ◌<◌, ◌≤◌, ◌+◌, ℕ, true, arith}
 use mathlib.Core.Path.{fun_ext}
 use Rattle.nor_model.specs.Bus.{BusState}

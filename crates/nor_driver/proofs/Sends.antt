@@ -1,4 +1,3 @@
--- The effect of one transaction on what every bus records.
 use Rattle.std.proofs.Common.{◌≡◌, ◌∷◌, ℕ, List}
 use Rattle.std.specs.Prelude.{Result, Ok, Err, OnOk, OnErr}
 use Rattle.nor_model.specs.declared.bus.Stopped.{Stopped}

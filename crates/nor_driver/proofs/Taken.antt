@@ -1,4 +1,3 @@
--- The effect of an operation that the chip carries out or ignores, derived from the effect of its command.
 use Rattle.std.proofs.Common.{◌≡◌, ◌∙◌, ℕ, Bool, true, cond, List, drop, ap, subst, arith}
 use Rattle.nor_model.specs.declared.command.Command.{Command}
 use Rattle.nor_model.specs.declared.command.Command.TheVariants.{Ignored}

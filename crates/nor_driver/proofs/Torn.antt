@@ -1,4 +1,3 @@
--- The effect of a stop at which none, some or all bytes of the transaction had been sent.
 use Rattle.std.proofs.Common.{◌≡◌, ◌∙◌, ◌⊎◌, ◌||◌, ℕ, zero, suc, Bool, true, false, true≢false, List, [], ◌∷◌, length, take, refl, sym, ap, arith, inl, inr}
 use Rattle.std.proofs.Math.Seq.{take-nil}
 use Rattle.std.proofs.Math.Bool.{or-false}
@@ -71,7 +70,7 @@ enable_stays old new stops = elim (still_or_torn _ old new stops.at_stop) [
   | inr cut ↦ none_begun (6 ∷ []) old new cut.0 cut.1 (enable_part old.chip cut.1.count (length cut.1.read))
 ]
 
--- true if the command begins no operation and does not set the write enable latch
+-- True if the command begins no operation and does not set the write enable latch.
 abbrev pub is_quiet : Command → Bool
 is_quiet WriteEnable = false
 is_quiet (WriteStatus one two) = false

@@ -1,4 +1,3 @@
--- The effect of one poll, and of successive polls.
 use Rattle.std.proofs.Common.{◌≡◌, ◌<◌, ◌+◌, ◌%◌, ℕ, true, List, [], ◌∷◌, length, slice_index, refl, subst, arith}
 use Rattle.std.proofs.lemmas.List.{ext_get_or}
 use Rattle.nor_model.specs.History.{Answered, EndsBusy, replied}

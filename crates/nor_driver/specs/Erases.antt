@@ -1,4 +1,3 @@
--- The effect of an erase.
 use Rattle.std.specs.Prelude.{◌≡◌, ◌≢◌, ◌≤◌, ◌+◌, ◌*◌, ◌/◌, ◌&&◌, ◌||◌, ℕ, Bool, true, false, not, List, [], ◌∷◌, if◌then◌else◌}
 use Rattle.nor_model.specs.declared.running.Running.TheVariants as Runs
 use Rattle.nor_model.specs.Chip.{Chip}
@@ -39,13 +38,12 @@ is_sector_in_block erase chip s = erases_sector (sectors_of chip) s erase
 abbrev pub is_address_in_block : Erase → Chip → ℕ → Bool
 is_address_in_block erase chip a = is_sector_in_block erase chip (a / 4096)
 
--- True if the command of `erase` targets the sector `s`. C7h, which has no address, targets all 4,096 sectors, even
--- those past the end of the chip.
+-- True if the command of `erase` targets the sector `s`. C7h targets all 4,096 sectors, even those past the chip's end.
 abbrev pub is_sector_named : Erase → ℕ → Bool
 is_sector_named erase s = is_in_targeted (block_targeted (sectors_in 4096 erase.unit) erase.sector) s
 
--- The effect, on a well-behaved bus and at every exit, of an erase that the chip can carry out. On a steady bus each
--- byte of the block is as it was or FFh; on any other bus it may have any value.
+-- Holds at every exit of an erase that the chip of a well-behaved bus can carry out. On a steady bus each byte of the
+-- block is as it was or FFh; on any other bus it may have any value.
 pub record MayErase (erase : Erase) (old new : BusState) : Type 0 where
   pub config : new.chip.config ≡ old.chip.config
   pub bytes : ChangesOnly old.steady (is_address_in_block erase old.chip) (λ _. 255) old.chip.bytes new.chip.bytes

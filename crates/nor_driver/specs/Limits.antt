@@ -1,12 +1,11 @@
--- The effect of a call at every exit, and limits on the erases, page programs and status writes that it sends.
 use Rattle.std.specs.Prelude.{◌≡◌, ◌≤◌, ◌+◌, ◌++◌, ◌⊎◌, ℕ, Bool, true, false, List, if◌then◌else◌}
 use Rattle.nor_model.specs.Chip.{Chip}
 use Rattle.nor_model.specs.Sent.{Sent, targets, begins_erase, begins_program, begins_status_write, writes_status, is_targeted, has_written, has_unknown, erases_of, programs_of, status_writes_of}
 use Rattle.nor_model.specs.Bus.{BusState, KeepsNature}
 use Rattle.nor_driver.specs.OnlyReads.{Falls}
 
--- Limits on modifying commands: the sectors that erases and page programs may target, the two bytes that a status write
--- may send, and the numbers of these commands. Write enables are not limited.
+-- Limits on modifying commands other than write enables: the sectors that erases and page programs may target, the two
+-- bytes that a status write may send, and the numbers of these commands.
 pub record Limits : Type 0 where
   pub sectors : ℕ → Bool
   pub status : (one two : ℕ) → Bool

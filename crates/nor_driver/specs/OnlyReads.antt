@@ -1,4 +1,3 @@
--- The effect of functions that only read.
 use Rattle.std.specs.Prelude.{◌≡◌, ◌≢◌, ◌≤◌, ◌<◌, ◌+◌, ◌⊎◌, ℕ, true, false}
 use Rattle.nor_model.specs.Chip.{IsSame}
 use Rattle.nor_model.specs.Power.{is_in_work, KeptCut}
@@ -9,16 +8,15 @@ use Rattle.nor_model.specs.Bus.{BusState, KeepsNature}
 abbrev pub IsSteadyOrIdle : BusState → Type 0
 IsSteadyOrIdle state = (state.steady ≡ true) ⊎ (state.chip.busy ≡ 0)
 
--- The effect, on a well-behaved bus, of a call that neither began nor interrupted an operation.
+-- Holds after a call on a well-behaved bus, if the call neither began nor interrupted an operation.
 pub record Unchanged (old new : BusState) : Type 0 where
   pub same : IsSame old.chip new.chip
   pub running : new.chip.running ≡ old.chip.running
   pub busy : new.chip.busy ≤ old.chip.busy
   pub worn : (s : ℕ) → new.worn s ≡ old.worn s
 
--- The effect, on a well-behaved bus and at every exit, of a call that began no operation. Unless `IsSteadyOrIdle` held
--- before it, a stop may have interrupted the operation in progress. The bytes on which that operation works may then
--- have any value, and the non-volatile bits are as a power failure may leave them (`KeptCut`).
+-- Holds at every exit of a call on a well-behaved bus, if the call began no operation. Unless `IsSteadyOrIdle` held
+-- before the call, a stop may have interrupted the operation in progress.
 pub record KeepsChip (old new : BusState) : Type 0 where
   pub config : new.chip.config ≡ old.chip.config
   pub steady_or_idle : IsSteadyOrIdle old → IsSame old.chip new.chip
@@ -28,7 +26,7 @@ pub record KeepsChip (old new : BusState) : Type 0 where
   pub busy : new.chip.busy ≤ old.chip.busy
   pub worn : (s : ℕ) → new.worn s ≡ old.worn s
 
--- The effect, on a well-behaved bus, of reads that succeeded. They never set the write enable latch.
+-- Holds after reads that succeeded on a well-behaved bus.
 pub record Rested (old new : BusState) : Type 0 where
   pub unchanged : Unchanged old new
   pub latch : new.chip.latch ≡ true → old.chip.latch ≡ true
@@ -44,7 +42,6 @@ pub record HasFallen (most : ℕ) (old new : BusState) : Type 0 where
 abbrev pub Falls : (most : ℕ) → (old new : BusState) → Type 0
 Falls most old new = old.punctual ≡ true → HasFallen most old new
 
--- The effect, on a well-behaved bus and at every exit, of a call that only reads.
 pub record OnlyReadsHonest (most : ℕ) (old new : BusState) : Type 0 where
   pub stays : KeepsChip old new
   pub latch : new.chip.latch ≡ true → old.chip.latch ≡ true
@@ -64,7 +61,7 @@ pub record HasRunOut (needed : ℕ) (old new : BusState) : Type 0 where
 abbrev pub RanOut : (needed : ℕ) → (old new : BusState) → Type 0
 RanOut needed old new = old.punctual ≡ true → HasRunOut needed old new
 
--- Holds if the bus stopped at a call's last transaction. A punctual bus then had fewer than `needed` transactions left.
+-- Holds if the bus stopped at a call's last transaction. A punctual bus had fewer than `needed` left before the call.
 pub record HasStopped (needed : ℕ) (old new : BusState) : Type 0 where
   pub last : EndsStopped new.history
   pub ran_out : old.honest ≡ true → RanOut needed old new

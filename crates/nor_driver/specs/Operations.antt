@@ -1,4 +1,3 @@
--- The effect of any operation, which consists of a write enable, a command, and a wait.
 use Rattle.std.specs.Prelude.{◌≡◌, ◌≢◌, ◌≤◌, ◌+◌, ◌*◌, ◌⊎◌, ◌||◌, ℕ, Bool, true, false, List, [], ◌∷◌, length, drop, take, slice_index}
 use Rattle.nor_model.specs.declared.config.Config.{Config}
 use Rattle.nor_model.specs.declared.command.Command.{Command}
@@ -15,7 +14,7 @@ use Rattle.nor_driver.specs.OnlyReads.{KeepsChip, Spent}
 use Rattle.nor_driver.specs.Polls.{PollsUntilReady}
 use Rattle.nor_driver.specs.Limits.{Limits, limits_of, SendsExactly, Leaves}
 
--- the greatest number of transactions of an operation: one write enable, one command and 65,536 polls
+-- The greatest number of transactions of an operation: one write enable, one command and 65,536 polls.
 abbrev pub most_operation : ℕ
 most_operation = 65538
 
@@ -33,8 +32,7 @@ is_operation_or_none (Erase start len) = true
 is_operation_or_none Ignored = true
 is_operation_or_none _ = false
 
--- Holds if the bytes `out` ask every chip for an operation or for nothing, and each prefix of `out` for the same
--- operation or for nothing.
+-- Holds if `out` (at most 260 bytes) asks each chip for one operation or none, and each prefix for the same or none.
 pub record AsksForOperation (out : List ℕ) : Type 0 where
   pub known : is_unknown_to_model out ≡ false
   pub whole : (config : Config) → is_operation_or_none (command_of config out 0) ≡ true
@@ -47,8 +45,7 @@ abbrev pub ChangesOnly : Bool → (ℕ → Bool) → (wanted old new : ℕ → �
 ChangesOnly steady addresses wanted old new =
     (a : ℕ) → (new a ≡ old a) ⊎ ((addresses a ≡ true) × (steady ≡ true → new a ≡ wanted a))
 
--- The effect, on a well-behaved bus, of an operation that the chip ignored. The write enable latch is set if the chip
--- was idle before the operation, and clear if the chip was busy.
+-- Holds after an operation that the chip of a well-behaved bus ignored.
 pub record HasIgnored (old new : BusState) : Type 0 where
   pub same : IsSame old.chip new.chip
   pub worn : (s : ℕ) → new.worn s ≡ old.worn s
@@ -73,9 +70,8 @@ pub record EndsWaiting (old new : BusState) (sent : ℕ) : Type 0 where
 abbrev pub operation_of : Chip → List ℕ → Command
 operation_of chip out = done_of (record chip { latch = true }) out 0
 
--- The effect, on a well-behaved bus and at every exit, of an operation that an idle chip can carry out. On a steady bus
--- each byte on which the operation works is as before or after it; on any other bus it may have any value. The
--- non-volatile bits are those from before or those from after the operation.
+-- Holds at every exit of an operation that the idle chip of a well-behaved bus can carry out. On a steady bus each byte
+-- on which the operation works is as before or as after; on any other bus such a byte may have any value.
 pub record MayOperate (command : Command) (sent : List ℕ) (old new : BusState) : Type 0 where
   pub config : new.chip.config ≡ old.chip.config
   pub bytes : ChangesOnly old.steady (is_in_work (running_after old.chip command))
@@ -105,13 +101,13 @@ pub record ChipOperation : Type 1 where
   pub may : (old new : BusState) → Type 0
   pub has : (old new : BusState) → Type 0
 
--- The effect of `operation` at every exit.
+-- Holds at every exit of `operation`.
 pub record LeavesOperation (operation : ChipOperation) (old new : BusState) : Type 0 where
   pub leaves : Leaves most_operation operation.limits operation.can operation.may old new
   pub stirred : is_stirred new.sent ≡ true
   pub ignored : old.honest ≡ true → operation.ignores old.chip → KeepsChip old new
 
--- The effect of `operation` if it succeeded with `sent` transactions.
+-- Holds after `operation` succeeded with `sent` transactions.
 pub record Operates (operation : ChipOperation) (old new : BusState) (sent : ℕ) : Type 0 where
   pub ends : EndsWaiting old new sent
   pub sends : SendsExactly operation.limits.erases operation.limits.programs operation.limits.status_writes old new

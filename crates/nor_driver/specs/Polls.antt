@@ -1,4 +1,3 @@
--- The polls in a history: those that showed BUSY, and those of one wait.
 use Rattle.std.specs.Prelude.{◌≡◌, ◌+◌, ◌≤◌, ◌%◌, ◌&&◌, ◌++◌, ℕ, Bool, not, List, [], ◌∷◌, length, map}
 use Rattle.std.specs.List.{All, count_by}
 use Rattle.nor_model.specs.Exchange.{Exchange}

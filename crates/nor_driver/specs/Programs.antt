@@ -1,4 +1,3 @@
--- The effect of a page program.
 use Rattle.std.specs.Prelude.{◌≡◌, ◌≢◌, ◌≤◌, ◌<◌, ◌+◌, ◌-◌, ◌/◌, ◌==◌, ◌&&◌, ℕ, Bool, false, not, nat_le, nat_lt, List, length, slice_index, bit_and, if◌then◌else◌}
 use Rattle.nor_model.specs.declared.running.Running.TheVariants as Runs
 use Rattle.nor_model.specs.Chip.{Chip}
@@ -28,8 +27,8 @@ is_sector_of at s = is_in_targeted (block_targeted 1 (at / 4096)) s
 abbrev pub is_in_page : (at a : ℕ) → Bool
 is_in_page at a = a / 256 == at / 256
 
--- The effect, on a well-behaved bus and at every exit, of a program that the chip can carry out. On a steady bus each
--- byte in the page is as it was or as programmed; on any other bus it may have any value.
+-- Holds at every exit of a program that the chip of a well-behaved bus can carry out. On a steady bus each byte in the
+-- page is as it was or as programmed; on any other bus it may have any value.
 pub record MayProgram (at : ℕ) (sent : List ℕ) (old new : BusState) : Type 0 where
   pub config : new.chip.config ≡ old.chip.config
   pub bytes : ChangesOnly old.steady (is_in_page at) (programmed at sent old.chip.bytes) old.chip.bytes new.chip.bytes

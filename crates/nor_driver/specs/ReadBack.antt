@@ -1,10 +1,9 @@
--- Replies to reads of sectors. The definitions apply to the history of any bus.
 use Rattle.std.specs.Prelude.{◌≡◌, ◌≢◌, ◌<◌, ◌*◌, ◌/◌, ◌%◌, ◌++◌, ℕ, Bool, true, List, length, slice_index, Some}
 use Rattle.std.specs.List.{All}
 use Rattle.nor_model.specs.Exchange.{Exchange}
 use Rattle.nor_model.specs.History.{Continues, last_reply, names}
 
--- The reply to the last read (03h) from the start of the sector of `a`: `[]` if there was none or the bus stopped.
+-- The reply to the last read (03h) from the start of the sector of `a`: `[]` without such a read or if the bus stopped.
 abbrev pub sector_read : List Exchange → (a : ℕ) → List ℕ
 sector_read history a = last_reply (names 0x03 (4096 * (a / 4096))) history
 

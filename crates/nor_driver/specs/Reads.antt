@@ -1,4 +1,3 @@
--- The results of commands that only read.
 use Rattle.std.specs.Prelude.{◌≡◌, ◌≤◌, ◌<◌, ◌+◌, ◌*◌, ◌%◌, ℕ, Bool, true, false, List, [], ◌∷◌, length, map, slice_index, slice_index_or}
 use Rattle.std.specs.List.{range_with_len}
 use Rattle.nor_model.specs.declared.config.Config.{Config}
@@ -11,7 +10,7 @@ use Rattle.nor_model.specs.History.{Answered, replied, begins_with, names}
 use Rattle.nor_model.specs.Bus.{BusState}
 use Rattle.nor_driver.specs.OnlyReads.{Rested, Spent}
 
--- true if the command changes nothing, not even the write enable latch or `busy`
+-- True if the command changes nothing, not even the write enable latch or `busy`.
 abbrev pub changes_nothing : Command → Bool
 changes_nothing ReadStatus2 = true
 changes_nothing (ReadData at) = true
@@ -38,15 +37,15 @@ pub record Replies (out : List ℕ) (old new : BusState) (reply : List ℕ) : Ty
   pub replied : old.honest ≡ true → (i : ℕ) → i < length reply
       → slice_index reply i ≡ reply_byte old.chip (done_of old.chip out (length reply)) i
 
--- the ID: the first three bytes that 9Fh reads (W25Q64FV datasheet, Read JEDEC ID)
+-- The ID: the first three bytes that 9Fh reads (W25Q64FV datasheet, Read JEDEC ID).
 abbrev pub id_of : Config → List ℕ
 id_of config = slice_index_or config.id 0 255 ∷ slice_index_or config.id 1 255 ∷ slice_index_or config.id 2 255 ∷ []
 
--- the unique ID: the first eight bytes that 4Bh reads (W25Q64FV datasheet, Read Unique ID Number)
+-- The unique ID: the first eight bytes that 4Bh reads (W25Q64FV datasheet, Read Unique ID Number).
 abbrev pub unique_of : Config → List ℕ
 unique_of config = map (λ (i : ℕ). slice_index_or config.unique i 255) (0 ∷ 1 ∷ 2 ∷ 3 ∷ 4 ∷ 5 ∷ 6 ∷ 7 ∷ [])
 
--- the `len` SFDP bytes that 5Ah reads from the address `at`, which the chip takes modulo its size
+-- The `len` SFDP bytes that 5Ah reads from the address `at`, which the chip takes modulo its size.
 unfoldable pub shown : Config → (at len : ℕ) → List ℕ
 shown config at len = map (sfdp_byte config) (range_with_len (at % config.size) len)
 

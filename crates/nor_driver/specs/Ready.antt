@@ -1,4 +1,3 @@
--- The effect of a call on `polled_ready`, which is true if the last poll showed that the chip is ready.
 use Rattle.std.specs.Prelude.{◌≡◌, true}
 use Rattle.nor_model.specs.Bus.{BusState}
 

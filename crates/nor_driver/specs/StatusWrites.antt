@@ -1,4 +1,3 @@
--- The effect of a status write, which sends the protection bits `code` and all other bits as in `status`.
 use Rattle.std.specs.Prelude.{◌≡◌, ◌≢◌, ◌+◌, ◌*◌, ◌/◌, ◌%◌, ◌==◌, ◌&&◌, ◌⊎◌, ℕ, Bool, false, not}
 use Rattle.nor_model.specs.declared.running.Running.TheVariants as Runs
 use Rattle.nor_model.specs.declared.status.Status.{Status}
@@ -9,7 +8,7 @@ use Rattle.nor_model.specs.Bus.{BusState}
 use Rattle.nor_driver.specs.Limits.{writing}
 use Rattle.nor_driver.specs.Operations.{HasEnded, ChipOperation}
 
--- the non-volatile bits other than the protection bits: SRP0, and the bits from LB3 down to SRP1
+-- The non-volatile bits other than the protection bits: SRP0, and the bits from LB3 down to SRP1.
 abbrev pub fixed_of : KeptBits → ℕ × ℕ
 fixed_of kept = (srp0_bit kept, lb3_to_srp1 kept)
 
@@ -37,7 +36,7 @@ pub record CanWriteStatus (status : Status) (chip : Chip) : Type 0 where
 abbrev pub takes_status : Chip → Bool
 takes_status chip = is_idle chip && not (is_locked chip.kept)
 
--- The effect, on a well-behaved bus and at every exit, of a status write that the chip can carry out.
+-- Holds at every exit of a status write that the chip of a well-behaved bus can carry out.
 pub record MayWriteStatus (code : ℕ) (old new : BusState) : Type 0 where
   pub config : new.chip.config ≡ old.chip.config
   pub bytes : (a : ℕ) → new.chip.bytes a ≡ old.chip.bytes a

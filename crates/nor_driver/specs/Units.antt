@@ -1,11 +1,10 @@
--- Erase blocks. `total` is the number of 4 KiB sectors of the chip.
+-- Definitions for erase blocks. `total` is the number of 4 KiB sectors of the chip.
 use Rattle.std.specs.Prelude.{◌==◌, ◌+◌, ◌%◌, ◌&&◌, ℕ, Bool, true, nat_le, nat_lt}
 use Rattle.nor_model.specs.declared.config.Config.{Config}
 use Rattle.nor_driver.specs.declared.units.Erase.{Erase}
 use Rattle.nor_driver.specs.declared.units.EraseBlock.{EraseBlock}
 use Rattle.nor_driver.specs.declared.units.EraseBlock.TheVariants.{Sector, Block32, Block64, Chip}
 
--- the opcode that erases the block (W25Q64FV datasheet, instruction set table)
 abbrev pub opcode_of : EraseBlock → ℕ
 opcode_of Sector = 0x20
 opcode_of Block32 = 0x52

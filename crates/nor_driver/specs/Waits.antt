@@ -1,4 +1,3 @@
--- The results of polls and waits.
 use Rattle.std.specs.Prelude.{◌≡◌, ◌≤◌, ◌<◌, ◌+◌, ◌-◌, ◌%◌, ◌==◌, ℕ, Bool, true, false, List, [], ◌∷◌, if◌then◌else◌, ⊤}
 use Rattle.nor_model.specs.Chip.{Chip, status1_of}
 use Rattle.nor_model.specs.Exchange.{Exchange}
@@ -11,7 +10,7 @@ use Rattle.nor_driver.specs.declared.waits.Waited.{Waited}
 use Rattle.nor_driver.specs.OnlyReads.{Rested, Spent, RanOut}
 use Rattle.nor_driver.specs.Polls.{PollsUntilReady}
 
--- The effect, on a well-behaved bus, of one poll. `status` is status 1 before the poll.
+-- Holds after one poll on a well-behaved bus. `status` is status 1 before the poll.
 pub record HasPolled (old new : BusState) (status : ℕ) : Type 0 where
   pub rested : Rested old new
   pub status1 : status ≡ status1_of old.chip
@@ -23,7 +22,7 @@ pub record Polls (old new : BusState) (status : ℕ) : Type 0 where
   pub history : new.history ≡ replied (0x05 ∷ []) (status ∷ []) ∷ old.history
   pub done : old.honest ≡ true → HasPolled old new status
 
--- The write enable latch of `chip` after a wait. The end of an operation in progress clears it.
+-- The write enable latch of `chip` after a wait. The end of an operation in progress clears the latch.
 abbrev pub latch_when_idle : Chip → Bool
 latch_when_idle chip = if chip.busy == 0 then chip.latch else false
 
@@ -53,8 +52,8 @@ abbrev pub EndsAt : OperationError → List Exchange → Type 0
 EndsAt Stopped history = EndsStopped history
 EndsAt (Timeout address) history = EndsBusy history
 
--- Holds if a call that waits returned `error`. Nothing was sent after the transaction that caused it. On a well-behaved
--- bus the error is `Stopped`; a punctual bus had fewer than `needed` transactions left.
+-- Holds if a call that waits returned `error`, and sent nothing after the transaction that caused the error. A punctual
+-- bus had fewer than `needed` transactions left before the call.
 pub record OperationFails (needed : ℕ) (old new : BusState) (error : OperationError) : Type 0 where
   pub last : EndsAt error new.history
   pub stopped : old.honest ≡ true → error ≡ Stopped

@@ -1,6 +1,5 @@
-//! Sends commands to a flash chip, over any bus. The crate has one function for each kind of read, one for a poll, one
-//! for a wait, and one for each operation. A function for an operation sends a write enable and the command, and waits
-//! until the chip is ready.
+//! Sends commands to a flash chip, over any bus. A function for an operation (program, erase or status write) sends a
+//! write enable and the command, and waits until the chip is ready.
 //!
 //! ```rust
 //! use nor_chip::{Config, Delays, Meter, SimBus};

@@ -16,10 +16,7 @@ use nor_model::{Bus, Status};
 
 /// Programs `bytes` from `address` on (02h; W25Q64FV datasheet, Page Program), and waits until the chip is ready.
 /// `address` must be below 16 MiB, and `bytes` must not be empty and must lie in one page of 256 bytes. Returns the
-/// number of transactions, even if a busy chip or one that protects `address` ignores the program.
-///
-/// Returns `Stopped` if the bus stopped, and `Timeout` with `address` after 65,536 polls that showed BUSY, which
-/// doesn't occur on a well-behaved bus.
+/// number of transactions, even if the program is ignored because the chip is busy or protects `address`.
 pub fn program_page<B: Bus>(bus: &mut B, address: u32, bytes: &[u8]) -> Result<u32, OperationError>
     requires reachable { address < 2 ^ 24 }
     requires some { 0 < length bytes.now }
@@ -33,13 +30,9 @@ pub fn program_page<B: Bus>(bus: &mut B, address: u32, bytes: &[u8]) -> Result<u
     operation(bus, &command, address)
 }
 
-/// Erases an erase block (20h, 52h, D8h or C7h; W25Q64FV datasheet, erase instructions), and waits until the chip is
-/// ready. The block must be aligned (`Erase::is_aligned`), and `erase.sector` must be below 4,096. Returns the number
-/// of transactions, even if the chip ignores the erase because it is busy, lacks the erase type or protects an address
-/// of the block.
-///
-/// Returns `Stopped` if the bus stopped, and `Timeout` with the block's first address after 65,536 polls that showed
-/// BUSY, which doesn't occur on a well-behaved bus.
+/// Erases a block (20h, 52h, D8h or C7h; W25Q64FV datasheet, erase instructions), and waits until the chip is ready.
+/// `erase.is_aligned()` must be true, and `erase.sector` below 4,096. Returns the number of transactions, even if the
+/// erase is ignored because the chip is busy, lacks the erase type or protects an address of the block.
 pub fn erase<B: Bus>(bus: &mut B, erase: Erase) -> Result<u32, OperationError>
     requires reachable { erase.sector < 4096 }
     requires aligned { is_aligned erase.unit erase.sector ≡ true }
@@ -61,9 +54,6 @@ pub fn erase<B: Bus>(bus: &mut B, erase: Erase) -> Result<u32, OperationError>
 /// Writes the status registers (01h; W25Q64FV datasheet, Write Status Register), and waits until the chip is ready.
 /// Sends the protection bits `code` (below 64), all other non-volatile bits as in `status`, and BUSY, WEL and SUS as 0.
 /// Returns the number of transactions, even if the chip ignores the write because it is busy or has SRP0 or SRP1 set.
-///
-/// Returns `Stopped` if the bus stopped, and `Timeout` with address 0 after 65,536 polls that showed BUSY, which
-/// doesn't occur on a well-behaved bus.
 pub fn write_status<B: Bus>(bus: &mut B, status: Status, code: u8) -> Result<u32, OperationError>
     requires { code < 64 }
     ensures leaves { LeavesOperation (status_write status code) (B.state bus.old) (B.state bus.new) }

@@ -9,8 +9,7 @@ use nor_geometry::SECTOR_LEN;
 use nor_model::opcodes::{READ_DATA, READ_ID, READ_SFDP, READ_STATUS2, READ_UNIQUE};
 use nor_model::{Bus, Stopped};
 
-/// Reads the three bytes of the ID (9Fh; W25Q64FV datasheet, Read JEDEC ID). On a well-behaved bus the result is the
-/// chip's ID if the chip is idle. Returns `Stopped` if the bus stopped.
+/// Reads the ID (9Fh; W25Q64FV datasheet, Read JEDEC ID). An idle chip on a well-behaved bus returns its own ID.
 pub fn read_id<B: Bus>(bus: &mut B) -> Result<[u8; 3], Stopped>
     ensures leaves { OnlyReads 1 (B.state bus.old) (B.state bus.new) }
     ensures does { IfOk result (ReadsId (B.state bus.old) (B.state bus.new)) }
@@ -22,8 +21,7 @@ pub fn read_id<B: Bus>(bus: &mut B) -> Result<[u8; 3], Stopped>
     Ok(id)
 }
 
-/// Reads status 2 (35h; W25Q64FV datasheet, Read Status Register-2). On a well-behaved bus the result is the chip's
-/// status 2, even if the chip is busy. Returns `Stopped` if the bus stopped.
+/// Reads status 2 (35h; W25Q64FV datasheet, Read Status Register-2). The result is correct if the bus is well-behaved.
 pub fn read_status2<B: Bus>(bus: &mut B) -> Result<u8, Stopped>
     ensures leaves { OnlyReads 1 (B.state bus.old) (B.state bus.new) }
     ensures does { IfOk result (ReadsStatus2 (B.state bus.old) (B.state bus.new)) }
@@ -35,8 +33,8 @@ pub fn read_status2<B: Bus>(bus: &mut B) -> Result<u8, Stopped>
     Ok(reply[0])
 }
 
-/// Reads the eight bytes of the unique ID (4Bh; W25Q64FV datasheet, Read Unique ID Number). On a well-behaved bus the
-/// result is the chip's unique ID if the chip is idle. Returns `Stopped` if the bus stopped.
+/// Reads the unique ID (4Bh; W25Q64FV datasheet, Read Unique ID Number). The result is correct if the bus is
+/// well-behaved and the chip idle.
 pub fn read_unique<B: Bus>(bus: &mut B) -> Result<[u8; 8], Stopped>
     ensures leaves { OnlyReads 1 (B.state bus.old) (B.state bus.new) }
     ensures does { IfOk result (ReadsUnique (B.state bus.old) (B.state bus.new)) }
@@ -49,8 +47,8 @@ pub fn read_unique<B: Bus>(bus: &mut B) -> Result<[u8; 8], Stopped>
 }
 
 /// Fills `bytes` (at most 4,096) with the SFDP bytes from `address` on (5Ah; JESD216). `address` must be below 16 MiB,
-/// and the chip takes it modulo its size. On a well-behaved bus the bytes are the chip's if the chip is idle. Returns
-/// `Stopped` if the bus stopped; a punctual bus then leaves `bytes` as they were.
+/// and the chip takes it modulo its size. The bytes are correct if the bus is well-behaved and the chip idle. If a
+/// punctual bus stops, `bytes` is unchanged.
 pub fn read_parameters<B: Bus>(bus: &mut B, address: u32, bytes: &mut [u8]) -> Result<(), Stopped>
     requires reachable { address < 2 ^ 24 }
     requires short { length bytes.old ≤ 4096 }
@@ -65,9 +63,9 @@ pub fn read_parameters<B: Bus>(bus: &mut B, address: u32, bytes: &mut [u8]) -> R
     read(bus, &[READ_SFDP, high, middle, low, 0], bytes)
 }
 
-/// Reads the 4,096 bytes of the sector with the number `sector` (below 4,096) into `bytes` (03h; W25Q64FV datasheet,
-/// Read Data). On a well-behaved bus they are the chip's if the chip is idle and has the sector. Returns `Stopped` if
-/// the bus stopped; a punctual bus then leaves `bytes` as they were.
+/// Reads the sector with the number `sector` (below 4,096) into `bytes`, which must have 4,096 bytes (03h; W25Q64FV
+/// datasheet, Read Data). The result is correct if the bus is well-behaved and the chip is idle and has the sector.
+/// If a punctual bus stops, `bytes` is unchanged.
 pub fn read_sector<B: Bus>(bus: &mut B, sector: u32, bytes: &mut [u8]) -> Result<(), Stopped>
     requires reachable { sector < 4096 }
     requires whole { length bytes.old ≡ 4096 }

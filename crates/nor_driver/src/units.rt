@@ -47,8 +47,7 @@ impl Erase {
         SECTOR_LEN * u32::from(self.sector)
     }
 
-    /// Returns whether the block may begin at its first sector, `self.sector`. A 4 KiB block may begin at any sector, a
-    /// 32 or 64 KiB block at a multiple of its size, and the whole chip only at sector 0.
+    /// Returns whether the block is aligned: 32 and 64 KiB blocks to their size, and the whole chip to sector 0.
     pub fn is_aligned(self) -> bool
         ensures { result ≡ is_aligned self.unit self.sector }
     {

@@ -12,8 +12,7 @@ use thiserror::Error;
 
 const MOST_POLLS: u32 = 65536;
 
-/// Reads status 1 with one poll (05h; W25Q64FV datasheet, Read Status Register-1). Returns `Stopped` if the bus
-/// stopped.
+/// Reads status 1 with one poll (05h; W25Q64FV datasheet, Read Status Register-1).
 pub fn poll<B: Bus>(bus: &mut B) -> Result<u8, Stopped>
     ensures leaves { OnlyReads 1 (B.state bus.old) (B.state bus.new) }
     ensures does { IfOk result (Polls (B.state bus.old) (B.state bus.new)) }
@@ -30,8 +29,8 @@ pub fn poll<B: Bus>(bus: &mut B) -> Result<u8, Stopped>
 pub enum OperationError {
     #[error("the bus stopped")]
     Stopped,
-    /// Status 1 showed BUSY in 65,536 polls in a row. `address` is the address of the operation's command, or 0 for a
-    /// chip erase or a status write. In an error from `wait`, it is the address that the caller passed.
+    /// Status 1 showed BUSY in 65,536 polls in a row, which doesn't occur on a well-behaved bus. `address` is that of
+    /// the operation's command (0 for a chip erase or a status write), or the one that was passed to `wait`.
     #[error("the chip stayed busy after the command for address 0x{address:06x}")]
     Timeout { address: u32 },
 }
@@ -52,9 +51,8 @@ pub struct Waited {
     pub polls: u32,
 }
 
-/// Polls until a reply shows that the chip is ready. Returns `Stopped` if the bus stopped, and `Timeout` with `address`
-/// if 65,536 polls showed BUSY, which doesn't occur on a well-behaved bus. Pass as `address` the address of the command
-/// that the wait follows, or 0.
+/// Polls until a reply shows that the chip is ready. `address` is reported in `OperationError::Timeout`: pass the
+/// address of the command that the wait follows, or 0.
 pub fn wait<B: Bus>(bus: &mut B, address: u32) -> Result<Waited, OperationError>
     ensures leaves { OnlyReads 65536 (B.state bus.old) (B.state bus.new) }
     ensures does { IfOk result (Waits (B.state bus.old) (B.state bus.new)) }

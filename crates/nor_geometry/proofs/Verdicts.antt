@@ -1,4 +1,3 @@
--- Lemmas about a truth value that decides `any_below`, and about one more number that passes the test of `count_below`.
 use Rattle.std.proofs.Common.{◌≡◌, ◌<◌, ◌+◌, ◌||◌, ◌∙◌, ℕ, zero, suc, Bool, true, false, ap, sym, arith, inl, inr}
 use Rattle.std.specs.Prelude.{MatchBool, ◌==◌}
 use Rattle.std.proofs.lemmas.Bool.{cases_eq, or_left, ne_eqb, eq-eqb}

@@ -1,4 +1,4 @@
--- Whether any number below a bound passes a test, and how many of them do.
+-- Whether any number below `n` passes a test, and how many of these numbers do.
 use Rattle.std.specs.Prelude.{ℕ, Bool, count_by}
 use Rattle.std.specs.List.{list_any, range_with_len}
 

@@ -1,4 +1,3 @@
--- Counts of sectors.
 use Rattle.std.specs.Prelude.{ℕ, Bool}
 use Rattle.nor_geometry.specs.Below.{count_below}
 

@@ -1,4 +1,3 @@
--- The sizes that a chip may have.
 use Rattle.std.specs.Prelude.{ℕ, Bool, ◌==◌, ◌^◌}
 use Rattle.std.specs.List.{list_any, range_with_len}
 

@@ -11,8 +11,7 @@ pub const MOST_SECTORS: u32 = 4096;
 /// The length of a page in bytes. One program command writes within one page.
 pub const PAGE_LEN: usize = 256;
 
-/// Returns whether a chip may have `size` bytes: a power of two from 64 KiB to 16 MiB, the most that three address
-/// bytes reach.
+/// Returns whether a chip may have `size` bytes: a power of two from 64 KiB to 16 MiB.
 pub fn is_chip_size(size: u32) -> bool
     ensures { result ≡ is_chip_size size }
 {

@@ -1,4 +1,3 @@
--- Lemmas about `cut_at`, which splits a text at a byte.
 use Rattle.std.proofs.Common.{◌≡◌, ◌≢◌, ℕ, zero, suc, ◌+◌, ◌-◌, ◌<◌, List, [], ◌∷◌, length, get_or, take, drop, Some}
 use Rattle.std.proofs.Common.{None, refl, add-one, arith}
 use Rattle.std.proofs.lemmas.Bool.{eq-eqb}

@@ -1,4 +1,3 @@
--- A lemma about ranges of positions in ascending order.
 use Rattle.std.proofs.Common.{◌≡◌, ℕ, ◌<◌, false, List, [], ◌∷◌, refl, arith}
 use Rattle.std.proofs.lemmas.Bool.Decides.{nat_tests}
 use Rattle.nor_layout.specs.declared.positions.Positions.{Positions}

@@ -1,4 +1,3 @@
--- A line defines a region if and only if it is in the grammar.
 use Rattle.std.proofs.Common.{◌≡◌, ◌∙◌, ℕ, ◌⊎◌, Bool, true, false, not, ◌&&◌, leb, eqb, ltb, List, [], ◌∷◌, ◌++◌}
 use Rattle.std.proofs.Common.{length, Option, Some, None, Result, Ok, Err, IfSome, if◌then◌else◌, refl, ap, inl, inr}
 use Rattle.std.proofs.Common.{arith}

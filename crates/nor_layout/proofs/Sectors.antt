@@ -1,4 +1,3 @@
--- Lemmas about whether a set of spans has an address in a sector, or an address that is `size` or greater.
 use Rattle.std.proofs.Common.{◌≡◌, ◌∙◌, ℕ, ◌+◌, ◌*◌, ◌/◌, ◌%◌, ◌≤◌, Bool, true, ◌&&◌, leb, max, List, [], ◌∷◌, Option}
 use Rattle.std.proofs.Common.{Some, ap, inl, inr, arith}
 use Rattle.std.specs.Prelude.{MatchBool}

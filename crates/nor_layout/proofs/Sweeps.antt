@@ -1,4 +1,4 @@
--- No set can have the addresses of more than 64 disjoint spans, because these are the fewest that have them.
+-- No set can have the addresses of more than 64 disjoint spans, because no shorter list of such spans has them.
 use Rattle.std.proofs.Common.{◌≡◌, ℕ, ◌+◌, ◌<◌, ◌≤◌, true, ◌&&◌, ltb, List, [], ◌∷◌, length, inl, inr, arith}
 use Rattle.std.proofs.lemmas.Bool.{false≢true, or_cases}
 use Rattle.std.proofs.lemmas.Bool.Decides.{nat_tests}
@@ -19,7 +19,6 @@ record AreCut (low limit : ℕ) (few many : List Span) : Type 0 where
 
 module _ (low limit : ℕ) (s : Span) (ss : List Span) (b : Span) (bs : List Span) (apart : AreDisjoint (s ∷ ss))
     (apart_b : AreDisjoint (b ∷ bs)) (cut : AreCut low limit (s ∷ ss) (b ∷ bs)) where
-  -- No address of `ss` is in `b`: otherwise `b` would also contain the address after `s`, which isn't in `s ∷ ss`.
   rests : is_in_span b s.first ≡ true → AreCut (s.last + 1) limit ss bs
   rests begins = record {
     within = λ a holds. grind (arith, nat_tests, above s ss a apart, cut.within a);

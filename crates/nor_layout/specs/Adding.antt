@@ -1,4 +1,3 @@
--- The result of adding a region to a layout: the regions with the added one, or the reason why it can't be added.
 use Rattle.std.specs.Prelude.{◌≡◌, ℕ, ◌++◌, nat_lt, not, if◌then◌else◌, List, [], ◌∷◌, length, Result, Ok, Err, ⊤}
 use Rattle.nor_layout.specs.declared.region.Region.{Region}
 use Rattle.nor_layout.specs.declared.layout.adding.RegionFault.{RegionFault}
@@ -13,8 +12,7 @@ with_region regions region =
     else if nat_lt (length regions) 64 then Ok (regions ++ region ∷ [])
     else Err TooMany
 
--- Holds if a call that adds `region` may have this result: what `with_region` defines, or `Memory`, which is possible
--- only if the region has no fault. An error changes nothing.
+-- Holds if adding `region` may have this result: what `with_region` defines or, if the region has no fault, `Memory`.
 abbrev pub Adds : (old new : List Region) → Region → Result ⊤ RegionFault → Type 0
 Adds old new region (Ok x) = with_region old region ≡ Ok new
 Adds old new region (Err Memory) = (new ≡ old) × (with_region old region ≡ Ok (old ++ region ∷ []))

@@ -1,4 +1,3 @@
--- The numbers of the faults of layout texts and of names of regions.
 use Rattle.std.specs.Prelude.{ℕ, Option, Some, None}
 use Rattle.nor_layout.specs.declared.fault.LineFault.{LineFault}
 use Rattle.nor_layout.specs.declared.fault.LineFault.TheVariants.{Line, Address, Backwards, Name, Twice}

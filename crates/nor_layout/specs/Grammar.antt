@@ -1,4 +1,3 @@
--- The grammar of layout texts.
 use Rattle.std.specs.Prelude.{◌≡◌, ◌≤◌, ℕ, true, not, ◌==◌, List, ◌∷◌, ◌++◌, length, filter, ◌⊎◌}
 use Rattle.std.specs.List.{list_all, AllZip}
 use Rattle.nor_layout.specs.declared.region.Region.{Region}
@@ -12,8 +11,7 @@ pub record IsAddress (text : List ℕ) (address : ℕ) : Type 0 where
   pub hexadecimal : are_digits digits ≡ true
   pub address_is : digits_number digits ≡ address
 
--- Holds if the line defines `region`: an address, a `:`, an address not below the first one, one or more spaces, and a
--- name.
+-- Holds if the line defines `region`: an address, a `:`, an address that isn't lower, one or more spaces, and a name.
 pub record IsLine (line : List ℕ) (region : Region) : Type 0 where
   pub start_text : List ℕ
   pub end_text : List ℕ
@@ -28,7 +26,7 @@ pub record IsLine (line : List ℕ) (region : Region) : Type 0 where
 abbrev pub full_lines : List ℕ → List (List ℕ)
 full_lines text = filter (λ line. not (length line == 0)) (lines_of text)
 
--- Holds if the nonempty lines of the text define the regions, in the same order.
+-- Holds if the nonempty lines of the text define the regions in the same order: at most 64, no two with the same name.
 pub record IsLayout (text : List ℕ) (regions : List Region) : Type 0 where
   pub lines : AllZip IsLine (full_lines text) regions
   pub few : length regions ≤ 64

@@ -1,4 +1,3 @@
--- One line of a layout text: its parts, and the region or fault that they define.
 use Rattle.std.specs.Prelude.{ℕ, Bool, not, ◌&&◌, ◌==◌, nat_le, nat_lt, if◌then◌else◌, List, [], ◌∷◌, length, Option, Some, None, Result, Ok, Err}
 use Rattle.std.specs.Option.{option_map}
 use Rattle.std.specs.List.{list_all}
@@ -21,7 +20,6 @@ pub record Parts : Type 0 where
   pub end : List ℕ
   pub name : List ℕ
 
--- The parts of a line with this start. The pair is the text after the first `:`, split at its first space.
 abbrev pub with_start : List ℕ → Option (List ℕ × List ℕ) → Option Parts
 with_start start None = None
 with_start start (Some parts) = Some (record { start = start; end = parts.0; name = without_spaces parts.1 })
@@ -30,19 +28,18 @@ abbrev pub parts_after : Option (List ℕ × List ℕ) → Option Parts
 parts_after None = None
 parts_after (Some parts) = with_start parts.0 (cut_at 32 parts.1)
 
--- The parts of a line: the start ends at the first `:`, the end at the next space, and the name follows one or more
--- spaces.
+-- The parts of a line: the start ends at the first `:`, the end at the next space, and the name follows the spaces.
 abbrev pub parts_of : List ℕ → Option Parts
 parts_of line = parts_after (cut_at 58 line)
 
--- true for a visible ASCII character except `,` and `:`
+-- True for a visible ASCII character except `,` and `:`.
 abbrev pub is_name_byte : ℕ → Bool
 is_name_byte b = nat_le 33 b && nat_le b 126 && not (b == 44) && not (b == 58)
 
 abbrev pub is_name : List ℕ → Bool
 is_name name = nat_le 1 (length name) && nat_le (length name) 32 && list_all is_name_byte name
 
--- The region with this start, end and name, or the first fault of these. `None` stands for a text that is no address.
+-- The region with this start, end and name, or its first fault. `None` stands for a text that is no address.
 abbrev pub region_of : (start end : Option ℕ) → (name : List ℕ) → Result Region LineFault
 region_of None end name = Err Address
 region_of (Some start) None name = Err Address

@@ -1,4 +1,3 @@
--- The positions in a sector, in bytes from its beginning, whose addresses are in a set.
 use Rattle.std.specs.Prelude.{◌≡◌, ℕ, ◌+◌, ◌*◌, ◌/◌, ◌%◌, ◌<◌, ◌≤◌, Bool, ◌&&◌, ◌||◌, nat_le, nat_lt, if◌then◌else◌, List, [], ◌∷◌, Option, Some, None, ⊤}
 use Rattle.std.specs.List.{list_any, filter_map}
 use Rattle.nor_layout.specs.declared.ranges.Span.{Span}

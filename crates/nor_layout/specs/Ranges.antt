@@ -1,4 +1,3 @@
--- Sets of addresses, which are given by lists of spans.
 use Rattle.std.specs.Prelude.{◌≡◌, ◌⊎◌, ℕ, ◌+◌, ◌<◌, ◌≤◌, Bool, true, ◌&&◌, nat_le, nat_lt, List, [], ◌∷◌, length, ⊤}
 use Rattle.std.specs.List.{list_any}
 use Rattle.nor_layout.specs.declared.ranges.Span.{Span}
@@ -13,12 +12,11 @@ abbrev pub IsApartFrom : Span → List Span → Type 0
 IsApartFrom span [] = ⊤
 IsApartFrom span (next ∷ spans) = span.last + 1 < next.first
 
--- True if no span ends before it begins, the spans ascend, and at least one address is between each two neighbours.
+-- Holds if no span ends before it begins, the spans ascend, and at least one address is between each two neighbours.
 abbrev pub AreDisjoint : List Span → Type 0
 AreDisjoint [] = ⊤
 AreDisjoint (span ∷ spans) = (span.first ≤ span.last) × IsApartFrom span spans × AreDisjoint spans
 
--- The invariant of `Ranges`.
 pub record AreRanges (spans : List Span) : Type 0 where
   pub few : length spans ≤ 64
   pub apart : AreDisjoint spans
@@ -30,6 +28,6 @@ pub record IsSetOf (spans set : List Span) : Type 0 where
   pub ranges : AreRanges set
   pub same : (address : ℕ) → contains set address ≡ contains spans address
 
--- True if a span ends before it begins, or no valid set has exactly the addresses of the spans.
+-- Holds if a span ends before it begins, or no list of at most 64 disjoint spans has the same addresses.
 abbrev pub MakeNoSet : List Span → Type 0
 MakeNoSet spans = (has_backwards spans ≡ true) ⊎ ((set : List Span) → ¬ IsSetOf spans set)

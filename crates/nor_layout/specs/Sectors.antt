@@ -1,4 +1,4 @@
--- The addresses that a request includes, by sector. Sector s has the 4,096 addresses from 4096 * s on.
+-- The addresses that a request includes, by sector. Sector `s` has the 4,096 addresses from `4096 * s` on.
 use Rattle.std.specs.Prelude.{◌≡◌, ℕ, ◌+◌, ◌*◌, ◌/◌, ◌<◌, ◌≤◌, Bool, true, false, List, slice_index, Option, Some, None, if◌then◌else◌}
 use Rattle.nor_layout.specs.declared.ranges.Span.{Span}
 use Rattle.nor_geometry.specs.Below.{any_below, count_below}

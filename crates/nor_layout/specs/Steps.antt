@@ -1,4 +1,3 @@
--- The results of private functions. No contract of a public function uses these definitions.
 use Rattle.std.specs.Prelude.{◌≡◌, ◌≢◌, ◌<◌, ◌≤◌, ℕ, Bool, true, false, ◌&&◌, nat_le, nat_lt, min, max, if◌then◌else◌, Option, Some, None, MatchOption, List, [], ◌∷◌, ◌++◌, length, slice_index, Result, Ok, Err, ⊤}
 use Rattle.std.specs.Str.{bytes_eq}
 use Rattle.std.specs.List.{list_any}
@@ -14,8 +13,7 @@ pub record IsFirst (byte : ℕ) (text : List ℕ) (at : ℕ) : Type 0 where
   pub here : slice_index text at ≡ byte
   pub before : (k : ℕ) → k < at → slice_index text k ≢ byte
 
--- Holds if a call that adds the region of a line may have this result: what `with_line` defines (`said`), or `Memory`,
--- which is possible only if the line adds a region.
+-- Holds if adding a line may have this result: that of `with_line` (`said`), or `Memory` if the line adds a region.
 abbrev pub AddsRegion : (old new : List Region) → Result ⊤ LayoutFault → Result (List Region) LayoutFault → Type 0
 AddsRegion old new (Ok x) said = said ≡ Ok new
 AddsRegion old new (Err Memory) said = (region : Region) × (said ≡ Ok (old ++ region ∷ []))
@@ -34,8 +32,7 @@ join a b = record { first = min a.first b.first; last = max a.last b.last }
 abbrev pub EndBelow : (done : ℕ) → List Span → Type 0
 EndBelow done spans = (address : ℕ) → done ≤ address → contains spans address ≡ false
 
--- Holds if `next` lies in `spans`, ends at `done` or above, and begins at or below each address of `spans` from `done`
--- on.
+-- Holds if `next` lies in `spans`, reaches `done`, and begins at or below each address of `spans` from `done` on.
 pub record IsNext (done : ℕ) (spans : List Span) (next : Span) : Type 0 where
   pub forward : next.first ≤ next.last
   pub reaches : done ≤ next.last

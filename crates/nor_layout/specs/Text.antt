@@ -1,4 +1,3 @@
--- The regions of a layout text, or its first fault.
 use Rattle.std.specs.Prelude.{◌≡◌, ◌≢◌, ℕ, ◌+◌, ◌≤◌, ◌==◌, Bool, false, nat_lt, if◌then◌else◌, List, [], ◌∷◌, ◌++◌, length, Result, Ok, Err, ⊤}
 use Rattle.std.specs.Str.{bytes_eq}
 use Rattle.std.specs.List.{slice_split, list_any, AllByRecursion}
@@ -35,7 +34,7 @@ abbrev pub ◌>>=◌ : {A B : Type 0} → Result A LayoutFault → (A → Result
 (Ok x) >>= f = f x
 (Err fault) >>= f = Err fault
 
--- The regions of all lines, or the first fault. `lines` are those from line n on, `regions` those of earlier lines.
+-- The regions of all lines, or the first fault. The lines are those from `n` on; earlier lines defined `regions`.
 unfoldable pub lines_say : List Region → ℕ → List (List ℕ) → Result (List Region) LayoutFault
 lines_say regions n [] = Ok regions
 lines_say regions n (line ∷ lines) = with_line regions n line >>= λ more. lines_say more (n + 1) lines
@@ -47,7 +46,6 @@ abbrev pub AreNamedApart : List Region → Type 0
 AreNamedApart [] = ⊤
 AreNamedApart (region ∷ regions) = (is_region_named regions region.name.items ≡ false) × AreNamedApart regions
 
--- The invariant of `Layout`.
 pub record AreRegions (regions : List Region) : Type 0 where
   pub few : length regions ≤ 64
   pub forward : AllByRecursion (λ region. region.start ≤ region.end) regions

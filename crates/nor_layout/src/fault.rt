@@ -16,7 +16,6 @@ pub enum LineFault {
     Line = 1,
     /// The start or the end isn't an address.
     Address,
-    /// The end is below the start.
     Backwards,
     /// The name is empty, is longer than 32 bytes, or contains `,`, `:` or a byte that is no visible ASCII character.
     Name,
@@ -45,9 +44,8 @@ pub enum LayoutFault {
     InLine { line: usize, fault: LineFault },
     /// The text has more than 64 regions.
     TooMany,
-    /// An allocation failed.
     Memory,
-    /// A name isn't the name of a region.
+    /// A name given to `Layout::include` isn't the name of a region.
     NoRegion,
 }
 

@@ -44,8 +44,7 @@ pub fn reaches_past(included: Option<&Ranges>, size: u32) -> bool
     }
 }
 
-/// Replaces the bytes of the sector whose addresses aren't included by those of `other`. Both slices must have 4,096
-/// bytes. If `bytes` are those of an image, and `other` those of a chip, the result is the target of a write.
+/// Copies from `other` to `bytes` the bytes of `sector` whose addresses aren't included. Both must have 4,096 bytes.
 pub fn fill_excluded(included: Option<&Ranges>, sector: u32, bytes: &mut [u8], other: &[u8])
     requires long { length bytes.old ≡ 4096 }
     requires other_long { length other.now ≡ 4096 }

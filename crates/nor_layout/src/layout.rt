@@ -17,7 +17,7 @@ pub use adding::RegionFault;
 use std::alloc::Global;
 use std::marker::Model;
 
-/// Regions in order, which were read from a layout text or added. There are at most 64, and no two have the same name.
+/// Regions in the order in which they were read from a layout text or added: at most 64, no two with the same name.
 #[derive(Debug, Drop)]
 pub struct Layout {
     regions: Vec<Region>,
@@ -80,19 +80,16 @@ fn add_line(regions: &mut Vec<Region>, number: usize, line: &[u8]) -> Result<(),
 }
 
 impl Layout {
-    /// Reads a layout text (flashrom's manual page, layout files).
+    /// Reads a layout text (flashrom's manual page, layout files). Every line that isn't empty is `start:end name`,
+    /// with one or more spaces before the name. An address is 1 to 8 hexadecimal digits, with or without `0x`. A name
+    /// has 1 to 32 visible ASCII characters except `,` and `:`. Regions include their ends and may overlap.
     ///
-    /// Every line that isn't empty is `start:end name`, with one or more spaces before the name. An address is 1 to 8
-    /// hexadecimal digits, with or without `0x`. The region includes its start and its end. A name has 1 to 32 visible
-    /// ASCII characters except `,` and `:`. Regions may overlap.
-    ///
-    /// Returns the fault of the first line that has one. The faults of a line are checked in the order of `LineFault`,
-    /// and `TooMany` after them. Returns `Memory` if an allocation fails at a line that adds a region.
+    /// Returns the fault of the first line that has one. A line is checked in the order of `LineFault`, and then for
+    /// `TooMany`. Returns `Memory` if an allocation fails at a line that adds a region.
     pub fn read(alloc: Global, text: &[u8]) -> Result<Layout, LayoutFault>
         ensures exact { ReadsLayout result (layout_says text.now) }
         ensures asks { IfErr result (λ fault. fault ≡ LayoutFault.Memory → AsksMemory text.now) }
 
-        // Every text in the grammar is read, unless memory runs out.
         ensures found { IfOk result (λ layout. IsLayout text.now layout) }
         ensures taken { (regions : List Region) → IsLayout text.now regions → ReadsLayout result (Ok regions) }
     {
@@ -105,7 +102,7 @@ impl Layout {
         Ok(Layout { regions })
     }
 
-    /// Returns the regions in order: at most 64, and no two with the same name.
+    /// Returns the regions in the order in which they were read or added.
     pub fn regions(&self) -> &[Region]
         ensures same { result.now ≡ self.now }
         ensures regions { AreRegions self.now }
@@ -113,8 +110,7 @@ impl Layout {
         self.regions.as_slice()
     }
 
-    /// Returns the set of all addresses of the regions with the comma-separated `names`, which may be repeated.
-    /// Allocates nothing. Returns `NoRegion` if one of the names isn't the name of a region.
+    /// Returns the addresses of the regions with the comma-separated `names`, or `NoRegion` if a name is unknown.
     pub fn include(&self, names: &str) -> Result<Ranges, LayoutFault>
         ensures known { IsOk result ↔ IsTrue (are_known self.now names.now) }
         ensures unknown { IfErr result (λ fault. fault ≡ LayoutFault.NoRegion) }

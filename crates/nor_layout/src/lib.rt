@@ -1,7 +1,5 @@
-//! Layout files, which name regions of a flash chip, and the sets of addresses that a request includes.
-//!
-//! A layout file has one region per line: `start:end name` (flashrom's manual page, layout files). A request that names
-//! regions includes their addresses. A request without ranges includes the whole chip.
+//! Layout files, which name regions of a flash chip, and the sets of addresses that a request includes: those of the
+//! named regions or, if the request has no ranges, the whole chip.
 //!
 //! ```rust
 //! use nor_layout::{Layout, LayoutFault, Ranges, Span};

@@ -23,8 +23,7 @@ pub struct Span {
 // One span more than a set may have, because the number of spans is checked only after a span was added.
 const ROOM: usize = REGIONS + 1;
 
-/// A set of addresses: at most 64 spans in ascending order, neither overlapping nor adjacent. The time of a query
-/// depends on the number of spans, not on the number of addresses.
+/// A set of addresses: at most 64 spans in ascending order, neither overlapping nor adjacent.
 #[derive(Clone, Debug, Drop)]
 pub struct Ranges {
     spans: ArrayVec<Span, ROOM>,
@@ -113,8 +112,7 @@ fn with_span(spans: &[Span], added: Span) -> ArrayVec<Span, ROOM>
 
 impl Ranges {
     /// Returns the set of the addresses in the given spans, which may be in any order, and may be adjacent or overlap.
-    /// Returns `None` if a span ends before it begins, or if more than 64 spans are left after joining. Allocates
-    /// nothing. The time grows at most with the square of the number of spans.
+    /// Returns `None` if a span ends before it begins, or if more than 64 spans are left after joining.
     pub fn of(spans: &[Span]) -> Option<Ranges>
         ensures { MatchOption result (MakeNoSet spans.now)
             (λ ranges. (has_backwards spans.now ≡ false) × IsSetOf spans.now ranges) }
@@ -164,7 +162,6 @@ impl Ranges {
         self.spans.as_slice()
     }
 
-    /// Returns true if `address` is in the set.
     pub fn contains(&self, address: u32) -> bool
         ensures { result ≡ contains self.now address }
     {

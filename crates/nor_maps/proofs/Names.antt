@@ -1,4 +1,3 @@
--- The names of a descriptor's regions are valid and differ, so a layout can have them.
 use Rattle.std.proofs.Common.{◌≡◌, ℕ, zero, suc, ◌+◌, ◌<◌, ◌≤◌, ◌⊎◌, Bool, true, false, not, ◌&&◌, List, [], ◌∷◌, ◌++◌}
 use Rattle.std.proofs.Common.{drop, length, get_or, ltb, Result, Ok, Err, IfErr, refl, inl, inr, arith}
 use Rattle.std.specs.Prelude.{⊤}

@@ -1,7 +1,5 @@
--- The flash descriptor of Intel's chipsets, the first 4 KiB of an image (the SPI programming guides of the chipsets;
--- flashrom's ich_descriptors.c). Numbers are little-endian, of 4 bytes. FLVALSIG, the signature, is followed by FLMAP0
--- and FLMAP1. Their fields say how many regions there are, and where tables are, in units of 16 bytes from the first
--- byte of the image:
+-- The flash descriptor of Intel's chipsets, the first 4 KiB of an image (SPI programming guides of the chipsets).
+-- FLMAP0 and FLMAP1 follow the signature. Numbers have 4 bytes, little-endian; FRBA and FMBA are in units of 16 bytes:
 --
 --   FLMAP0: bits 23:16 region table (FRBA), bits 26:24 number of regions minus one (NR)
 --   FLMAP1: bits 7:0 masters' section (FMBA)
@@ -14,7 +12,7 @@ use Rattle.nor_maps.specs.declared.fault.MapFault.TheVariants.{Missing, Short, R
 use Rattle.nor_layout.specs.declared.layout.adding.RegionFault.TheVariants.{Name, Twice, TooMany}
 use Rattle.nor_maps.specs.Records.{with_found, records_say, AsksAt}
 
--- the index of the signature: 10h, or 0 in descriptors up to the ICH10, or None if it is at neither
+-- The index of the signature: 10h, or 0 in descriptors up to the ICH10, or `None` if the signature is at neither.
 abbrev pub signature_at : List ℕ → Option ℕ
 signature_at bytes =
     if little_from 16 4 bytes == 0x0FF0A55A then Some 16
@@ -27,14 +25,12 @@ region_table signature bytes = 16 * (little_from (signature + 4) 4 bytes / 2 ^ 1
 abbrev pub masters_at : (signature : ℕ) → List ℕ → ℕ
 masters_at signature bytes = 16 * (little_from (signature + 8) 4 bytes % 2 ^ 8)
 
--- The number of entries of the region table: 16 if that many fit before the masters' section, else the number that the
--- descriptor states, but at least 5.
+-- The number of entries in the table: 16 if these fit before the masters' section, else the stated number, at least 5.
 unfoldable pub entry_count : (signature : ℕ) → List ℕ → ℕ
 entry_count signature bytes =
     if nat_le (region_table signature bytes + 64) (masters_at signature bytes) then 16
     else max (little_from (signature + 4) 4 bytes / 2 ^ 24 % 2 ^ 3 + 1) 5
 
--- flashrom's names of the regions, in the order of the entries that describe them
 abbrev pub region_names : List (List ℕ)
 region_names =
     codes "fd" ∷ codes "bios" ∷ codes "me" ∷ codes "gbe" ∷ codes "pd" ∷ codes "reg5" ∷ codes "bios2" ∷ codes "reg7"
@@ -50,8 +46,7 @@ base_of entry = entry % 2 ^ 15
 abbrev pub limit_of : (entry : ℕ) → ℕ
 limit_of entry = entry / 2 ^ 16 % 2 ^ 15
 
--- True if an entry describes no region: its base is above its limit, it is erased, or it is 0. Only the first entry may
--- be 0, because it describes the descriptor, which is the first 4 KiB of the image.
+-- True if an entry describes no region: its base is above its limit, it is erased, or it is 0 and not the first entry.
 abbrev pub is_unused : (index entry : ℕ) → Bool
 is_unused index entry =
     nat_lt (limit_of entry) (base_of entry) || entry == 2 ^ 32 - 1 || (entry == 0 && not (index == 0))
@@ -80,16 +75,14 @@ abbrev pub descriptor_says : (size : ℕ) → (image : List ℕ) → Result (Lis
 descriptor_says size image =
     if nat_lt (length image) 4096 then Err Short else entries_say size image (signature_at image)
 
--- Holds for the faults that a descriptor may have. None of these is about a name or the number of regions, because the
--- names (at most 16) are valid and differ.
+-- Holds if a descriptor may have this fault. The at most 16 names of its regions are valid and differ.
 abbrev pub IsDescriptorFault : MapFault → Type 0
 IsDescriptorFault (InRecord index Name) = ⊥
 IsDescriptorFault (InRecord index Twice) = ⊥
 IsDescriptorFault (InRecord index TooMany) = ⊥
 IsDescriptorFault fault = ⊤
 
--- Holds if entry `index` describes a region, and no entry up to it has a fault, so that memory may run out at this
--- entry.
+-- Holds if entry `index` describes a region, and no entry up to it has a fault: memory may run out at this entry.
 abbrev pub AsksInDescriptor : (size : ℕ) → (image : List ℕ) → (index : ℕ) → Type 0
 AsksInDescriptor size image index =
     (signature : ℕ) × (signature_at image ≡ Some signature)

@@ -1,4 +1,3 @@
--- The numbers of the faults of flash descriptors and FMAPs.
 use Rattle.std.specs.Prelude.{ℕ, ◌+◌}
 use Rattle.nor_layout.specs.Adding.{region_fault_number}
 use Rattle.nor_maps.specs.declared.fault.MapFault.{MapFault}

@@ -21,12 +21,11 @@ area_count header = little_from 54 2 header
 abbrev pub fmap_length : (header : List ℕ) → ℕ
 fmap_length header = 56 + 42 * area_count header
 
--- true for a name of visible ASCII characters that ends with NUL within its field
+-- True for a name of visible ASCII characters that ends with NUL within its field.
 abbrev pub is_ended_name : (field : List ℕ) → Bool
 is_ended_name field = nat_lt (length (before_nul field)) 32 && list_all is_visible (before_nul field)
 
--- True if the bytes begin with a valid header: the signature, major version 1, a valid name, and a size of the image
--- that is not less than the length of the FMAP.
+-- True if the bytes begin with a valid header, whose size of the image is not less than the length of the FMAP.
 unfoldable pub is_fmap_header : List ℕ → Bool
 is_fmap_header bytes =
     nat_le 56 (length bytes) && bytes_eq (slice_range bytes 0 8) (codes "__FMAP__") && slice_index bytes 8 == 1

@@ -1,4 +1,3 @@
--- Tables in an image, which have records of one length. Each record may describe a region.
 use Rattle.std.specs.Prelude.{◌≡◌, ℕ, zero, suc, ◌+◌, ◌*◌, ◌==◌, nat_lt, if◌then◌else◌, List, [], ◌∷◌, ◌++◌, drop, Result, Ok, Err, ⊤}
 use Rattle.nor_layout.specs.declared.region.Region.{Region}
 use Rattle.nor_layout.specs.declared.layout.adding.RegionFault.{RegionFault}
@@ -19,8 +18,7 @@ abbrev pub with_found : (size : ℕ) → List Region → (number : ℕ) → Regi
 with_found size regions number region =
     if nat_lt region.end size then in_record number (with_region regions region) else Err (Outside number)
 
--- A function that reads a record. Its arguments are the regions of earlier records, the record's number, and the bytes
--- from the record's start on. It returns these regions with that of the record added, or the record's fault.
+-- A function that reads a record: it returns the earlier regions with that of the record added, or the record's fault.
 abbrev pub Reading : Type 0
 Reading = List Region → ℕ → List ℕ → Result (List Region) MapFault
 
@@ -29,16 +27,14 @@ abbrev pub if_read : (next : List Region → Result (List Region) MapFault) → 
 if_read next (Ok regions) = next regions
 if_read next (Err fault) = Err fault
 
--- The regions of `count` records of `len` bytes each, or the fault of the first record that has one. `regions` are
--- those of earlier records, and `number` is the number of the first record.
+-- The earlier `regions` and those of `count` records of `len` bytes, or the fault of the first record that has one.
 unfoldable pub records_say : Reading → (len : ℕ) → (regions : List Region) → (number count : ℕ) → List ℕ
     → Result (List Region) MapFault
 records_say reading len regions number zero bytes = Ok regions
 records_say reading len regions number (suc count) bytes =
     if_read (λ more. records_say reading len more (number + 1) count (drop len bytes)) (reading regions number bytes)
 
--- Holds if record `number` describes a region, and no record up to it has a fault, so that memory may run out at this
--- record.
+-- Holds if record `number` describes a region, and no record up to it has a fault: memory may run out at this record.
 pub record AsksAt (reading : Reading) (len first : ℕ) (bytes : List ℕ) (number : ℕ) : Type 0 where
   pub before : ℕ
   pub number_is : number ≡ before + first

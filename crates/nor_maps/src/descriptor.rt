@@ -114,16 +114,12 @@ fn read_entries(alloc: Global, table: &[u8], count: u16, size: u32) -> Result<La
 }
 
 /// Reads the Intel flash descriptor at the beginning of an image as the layout of a chip of `size` bytes (the SPI
-/// programming guides of Intel's chipsets; flashrom's ich_descriptors.c, and its manual page, `--ifd`). The regions are
-/// named as flashrom names them: `fd`, `bios`, `me`, `gbe`, `pd`, `reg5`, `bios2`, `reg7`, `ec`, `reg9`, `ie`, `10gbe`,
-/// and `reg12` to `reg15`.
+/// programming guides of Intel's chipsets; flashrom's manual page, `--ifd`). The regions have flashrom's names: `fd`,
+/// `bios`, `me`, `gbe`, `pd`, `reg5`, `bios2`, `reg7`, `ec`, `reg9`, `ie`, `10gbe`, and `reg12` to `reg15`. If 16
+/// entries fit before the masters' section, the table has 16. Otherwise it has the stated number, but at least five.
 ///
-/// If 16 entries fit before the masters' section, the table has 16, as in descriptors of the 100 series and later,
-/// whose stated number isn't valid. Otherwise it has the stated number of entries, but at least five, because
-/// descriptors may state fewer than they use.
-///
-/// Returns `Short` if there are fewer than 4,096 bytes, `Missing` if the signature is at neither 10h nor 0, and `Short`
-/// if the table runs past the descriptor. Otherwise returns the fault of the first entry that has one: `Outside`, or
+/// Returns `Short` if there are fewer than 4,096 bytes or the table runs past the descriptor, and `Missing` if the
+/// signature is at neither 10h nor 0. Otherwise returns the fault of the first entry that has one: `Outside`, or
 /// `Region` with the fault `Memory`.
 pub fn read_descriptor(alloc: Global, bytes: &[u8], size: u32) -> Result<Layout, MapFault>
     ensures reads { ReadsTable (descriptor_says size bytes.now) (AsksInDescriptor size bytes.now) result }

@@ -22,8 +22,7 @@ pub enum MapFault {
 }
 
 impl MapFault {
-    /// Returns the number of the fault, 1 to 7, which messages print: 1 `Missing`, 2 `Short`, 3 `Outside`, 4 a name
-    /// that no region may have, 5 a name that an earlier record has, 6 more than 64 regions, 7 out of memory.
+    /// Returns the number of the fault, 1 to 7, which messages print. For `Region` it is 3 plus the number of `fault`.
     pub fn number(self) -> u8
         ensures { result ≡ map_fault_number self }
     {

@@ -86,16 +86,13 @@ fn read_areas(alloc: Global, areas: &[u8], count: u16, size: u32) -> Result<Layo
 }
 
 /// Reads the first FMAP of an image as the layout of a chip of `size` bytes (Chromium's flashmap, lib/fmap.h;
-/// flashrom's manual page, `--fmap`). The regions are the areas, in their order and at their offsets, except those of
-/// size 0. They may overlap.
+/// flashrom's manual page, `--fmap`). The regions are the areas in their order, except those of size 0, and may
+/// overlap. An area's name ends before the first NUL in its field, if any.
 ///
 /// An FMAP begins with a valid header: the signature `__FMAP__`, major version 1, a name of visible ASCII characters
-/// that ends with NUL, and a stated size of the image that is not less than the length of the FMAP. The FMAP at the
-/// lowest address is read, without its minor version, base address and flags. The name of an area ends before the first
-/// NUL in its field, if any.
-///
-/// Returns `Missing` if there is no valid header, or `Short` if the bytes end before the last area does. Otherwise
-/// returns the fault of the first area that has one: `Outside`, or `Region` with the reason why a layout can't have it.
+/// that ends with NUL, and a size of the image that is not less than the length of the FMAP. Returns `Missing` if there
+/// is no valid header, and `Short` if the bytes end before the last area does. Otherwise returns the fault of the first
+/// area that has one: `Outside` or `Region`.
 pub fn read_fmap(alloc: Global, bytes: &[u8], size: u32) -> Result<Layout, MapFault>
     ensures { ReadsTable (fmap_says size bytes.now) (AsksInFmap size bytes.now) result }
 {

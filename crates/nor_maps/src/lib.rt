@@ -1,8 +1,5 @@
 //! Layouts that an image itself contains: the flash descriptor of Intel's chipsets, and Chromium's FMAP.
 //!
-//! Both are tables of named regions, which `read_descriptor` and `read_fmap` turn into a `Layout` of nor_layout. A
-//! request can then include regions by their names.
-//!
 //! ```rust
 //! use nor_maps::{MapFault, read_descriptor, read_fmap};
 //!

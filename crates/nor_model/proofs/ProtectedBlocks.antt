@@ -1,4 +1,3 @@
--- Lemmas about the protected addresses and erase blocks of a chip, for the crates that depend on this one.
 use Rattle.std.proofs.Common.{◌≡◌, ℕ, ◌*◌, ◌/◌, ◌<◌, ◌≤◌, inl, arith, refl, sym, ◌∙◌}
 use Rattle.std.specs.Prelude.{Bool, true, false, ◌&&◌}
 use Rattle.std.proofs.Math.Bool.{and-false}

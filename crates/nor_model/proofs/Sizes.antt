@@ -1,4 +1,3 @@
--- Properties that all allowed chip sizes have, and a lemma about equal truth values.
 use Rattle.std.proofs.Common.{◌≡◌}
 use Rattle.std.specs.Prelude.{Bool, true}
 pub use Rattle.nor_geometry.proofs.Sizes.{IsInBlocks, is_chip_size-in_blocks, is_chip_size-from}

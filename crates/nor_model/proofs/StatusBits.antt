@@ -1,4 +1,3 @@
--- The bits of the status registers, computed by arithmetic on the register values.
 use Rattle.std.proofs.Common.{◌≡◌, ℕ, ◌+◌, ◌*◌, ◌/◌, ◌%◌, ◌<◌, arith, ◌∙◌}
 use Rattle.std.specs.Prelude.{bit_and, bit_or, ◌==◌}
 use Rattle.std.proofs.lemmas.Bool.Decides.{nat_tests}

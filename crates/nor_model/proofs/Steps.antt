@@ -1,4 +1,3 @@
--- The command that the chip carries out at a transaction depends neither on the chip's bytes nor on `running`.
 use Rattle.std.proofs.Common.{◌≡◌, ℕ, List, [], refl, arith}
 use Rattle.nor_model.specs.declared.command.Command.{Command}
 use Rattle.nor_model.specs.declared.command.Command.TheVariants.{Poll}
@@ -19,6 +18,6 @@ carried-agrees x y _ same = cc
 pub done-agrees : (x y : Chip) (out : List ℕ) (replies : ℕ) → Agrees x y → done_of y out replies ≡ done_of x out replies
 done-agrees x y out replies same = cc (carried-agrees x y (command_of y.config out replies) same)
 
--- A transaction that sends and reads no bytes leaves the chip as it is, so a bus may stop before the first byte.
+-- If a transaction sends and reads no bytes, the chip stays as it is.
 pub nothing_sent : (chip : Chip) → Step chip [] [] chip
 nothing_sent chip = search arith

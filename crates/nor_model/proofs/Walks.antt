@@ -1,5 +1,4 @@
--- A step that the proofs of `History::new` and `History::with` (`src/history.rt`) share: a struct without fields can be
--- made from nothing. The step is proved from the laws of the separation logic (`Logic`).
+-- A step of the proofs of `History::new` and `History::with`: a struct without fields can be made from nothing.
 use Rattle.std.proofs.Common.{List, [], ◌∷◌, refl}
 use seplogic.Ra.Ura.{Ura}
 use mir.Val.{Val, vstruct, vnil}

@@ -1,4 +1,3 @@
--- The addresses that a decoded command may have on a chip of a given size.
 use Rattle.std.specs.Prelude.{◌≡◌, ◌<◌, ◌≤◌, ◌+◌, ◌%◌, ℕ, ⊤}
 use Rattle.nor_model.specs.declared.command.Command.{Command}
 use Rattle.nor_model.specs.declared.command.Command.TheVariants.{Program, Erase, ReadData, ReadSfdp}
@@ -9,7 +8,7 @@ pub record IsSectorRange (size start len : ℕ) : Type 0 where
   pub not_empty : 0 < len
   pub within : start + len ≤ size
 
--- Holds if the command's address, if it has one, is below `size`, and an erase covers whole sectors of the chip.
+-- Holds for a program or a read at an address below `size`, an erase of whole sectors of the chip, and other commands.
 abbrev pub HasValidAddress : ℕ → Command → Type 0
 HasValidAddress size (Program at) = at < size
 HasValidAddress size (ReadData at) = at < size

@@ -13,32 +13,25 @@ use Rattle.nor_model.specs.Step.{Step, done_of, wears}
 
 pub record BusState : Type 0 where
   pub chip : Chip
-  -- On a punctual bus: how many transactions it will still carry out unless `allow` is called. Code can't read this.
+  -- The number of transactions that a punctual bus will still carry out unless `allow` is called. Code can't read it.
   pub left : ℕ
-  -- Whether the bus is well-behaved. If it is, it carries out each transaction of a length that it takes
-  -- (`IsHonestFor`) as the modelled chip would, or stops.
+  -- Whether the bus is well-behaved. The trait `Bus` explains this and `steady`, `unlimited`, `longer` and `punctual`.
   pub honest : Bool
   -- All transactions that the bus was asked to carry out, each with its reply, the last one first.
   pub history : List Exchange
-  -- The bytes of each transaction that the bus was asked to send and that may modify a chip, the last one first.
+  -- The bytes of each transaction that the bus was asked to carry out and that may modify a chip, the last one first.
   pub sent : Sent
-  -- The allowances that were set, the last one first.
   pub allowances : List ℕ
-  -- On a well-behaved bus: the sectors that the chip has erased so far, over this bus.
+  -- The sectors that the chip of a well-behaved bus has erased so far, over this bus.
   pub worn : ℕ → Bool
-  -- On a well-behaved bus: whether a stop sends no byte of its transaction and keeps the chip's power.
   pub steady : Bool
-  -- On a well-behaved bus: whether the bus takes transactions of any length.
   pub unlimited : Bool
-  -- On a well-behaved bus that isn't unlimited: how many bytes more than 4,096 a transaction may read.
   pub longer : ℕ
-  -- On a well-behaved bus: whether it stops only if no transaction is left. Any other well-behaved bus may stop at any
-  -- transaction, and `left` means nothing. Clauses and comments that count transactions (as in "no transaction is
-  -- left", or "too few were left") are about punctual buses, even if a comment doesn't say so.
+  -- Whether the bus is punctual. Comments that count transactions are about punctual buses, even if they don't say so.
   pub punctual : Bool
   -- Whether the last poll that received at least one reply byte showed that the chip is ready.
   pub polled_ready : Bool
-  -- Whether the chip may be of a further type, which only programs for real chips know. Never on a well-behaved bus.
+  -- Whether the chip may be of a further type, which only programs for real chips know.
   pub further : Bool
 
 pub record SameNature (old new : BusState) : Type 0 where
@@ -49,7 +42,7 @@ pub record SameNature (old new : BusState) : Type 0 where
   pub punctual : new.punctual ≡ old.punctual
   pub config : old.honest ≡ true → new.chip.config ≡ old.chip.config
 
--- Holds after any sequence of transactions on any bus.
+-- Holds for the states before and after any sequence of transactions on any bus.
 pub record KeepsNature (old new : BusState) : Type 0 where
   pub honest : new.honest ≡ old.honest
   pub steady : new.steady ≡ old.steady
@@ -60,13 +53,12 @@ pub record KeepsNature (old new : BusState) : Type 0 where
   pub history : Continues old.history new.history
   pub allowances : new.allowances ≡ old.allowances
 
--- Holds if the bus is well-behaved and takes a transaction that sends `out` and reads `replies` bytes. The limits of a
--- bus that isn't unlimited fit a page program (260 bytes) and a read of a sector (4,096).
+-- Holds if the bus is well-behaved and takes a transaction that sends `out` and reads `replies` bytes.
 pub record IsHonestFor (out : List ℕ) (replies : ℕ) (bus : BusState) : Type 0 where
   pub honest : bus.honest ≡ true
   pub fits : (bus.unlimited ≡ true) ⊎ ((length out ≤ 260) × (replies ≤ 4096 + bus.longer))
 
--- The effect of a transaction on what every bus records, even a faulty one.
+-- Holds after a transaction on any bus, even a faulty one, that ended with `outcome` and left `answer` in the buffer.
 pub record Records (out answer : List ℕ) (outcome : Result Unit Stopped) (old new : BusState) : Type 0 where
   pub history : new.history ≡ exchange_of out answer outcome ∷ old.history
   pub sent : new.sent ≡ with_sent out old.sent
@@ -74,9 +66,8 @@ pub record Records (out answer : List ℕ) (outcome : Result Unit Stopped) (old 
   pub returned : OnOk outcome (new.polled_ready ≡ polled_ready_after out answer old.polled_ready)
   pub stopped : OnErr outcome (new.polled_ready ≡ old.polled_ready)
 
--- The effect of a stop. The first `count` bytes of the transaction were sent, and any number of reply bytes (`read`)
--- may have been lost. The chip treated the bytes sent as a whole transaction, which took it to `reached`, and then may
--- have lost its power. On a steady bus no byte was sent, and the chip is as it was.
+-- Holds if a stop at the transaction `out` can take the bus from `old` to `new`. The chip carried out the first `count`
+-- bytes as a whole transaction with the reply `read`, and then may have lost its power. A steady bus sent no byte.
 pub record AtStop (out : List ℕ) (old new : BusState) : Type 0 where
   pub count : ℕ
   pub read : List ℕ
@@ -92,14 +83,14 @@ pub record Stops (out : List ℕ) (old new : BusState) : Type 0 where
   pub left : old.punctual ≡ true → new.left ≡ old.left
   pub at_stop : AtStop out old new
 
--- The effect of a transaction that was carried out: the chip made one step.
+-- Holds if the bus carried out the transaction: the chip made one step.
 pub record Carries (out answer : List ℕ) (old new : BusState) : Type 0 where
   pub left : old.punctual ≡ true → old.left ≡ new.left + 1
   pub step : Step old.chip out answer new.chip
   pub worn : (s : ℕ) → new.worn s ≡ (old.worn s || wears (done_of old.chip out (length answer)) s)
 
--- The effect of a transaction, which sends `out` and changes the reply buffer from `before` to `answer`. `nature` and
--- `records` hold on every bus, the other fields only if a well-behaved bus takes a transaction of this length.
+-- Holds after a transaction that sends `out` and changes the reply buffer from `before` to `answer`. The fields except
+-- `nature` and `records` are about well-behaved buses that take a transaction of this length.
 pub record Transfers (out before answer : List ℕ) (outcome : Result Unit Stopped) (old new : BusState) : Type 0 where
   pub nature : SameNature old new
   pub stops : IsHonestFor out (length before) old → OnErr outcome (Stops out old new)
@@ -117,7 +108,7 @@ pub record Allows (n : ℕ) (old new : BusState) : Type 0 where
   pub polled_ready : new.polled_ready ≡ old.polled_ready
   pub worn : (s : ℕ) → new.worn s ≡ old.worn s
 
--- An arbitrary chip, which `unknown_bus` uses because nothing is known about the chip of that bus.
+-- An arbitrary chip, for a bus about whose chip nothing is known.
 abbrev pub unknown_chip : Chip
 unknown_chip = record {
   config = record {
@@ -136,8 +127,7 @@ unknown_chip = record {
   running = Unknown;
 }
 
--- The state of a bus that isn't well-behaved, for a chip outside the model. Only the history is known, and `sent` and
--- `polled_ready`, which follow from it.
+-- The state of a bus that isn't well-behaved and of which only the history is known.
 abbrev pub unknown_bus : List Exchange → BusState
 unknown_bus history = record {
   chip = unknown_chip;

@@ -1,4 +1,3 @@
--- The state of a chip.
 use Rattle.std.specs.Prelude.{◌≡◌, ◌<◌, ◌+◌, ◌*◌, ◌/◌, ◌%◌, ◌==◌, ◌||◌, [], ◌∷◌, ℕ, Bool, List, slice_index, slice_index_or, if◌then◌else◌}
 use Rattle.nor_model.specs.declared.config.Config.{Config}
 use Rattle.nor_model.specs.declared.running.Running.{Running}
@@ -16,7 +15,6 @@ kept_in status = record { one = slice_index status 0 / 4; two = slice_index stat
 -- The state of a chip, whose values `IsChip` limits. (W25Q64FV and W25Q128FV datasheets, status registers.)
 pub record Chip : Type 0 where
   pub config : Config
-  -- The byte at each address below the chip's size.
   pub bytes : ℕ → ℕ
   pub kept : KeptBits
   -- The write enable latch (WEL).
@@ -35,7 +33,7 @@ pub record IsChip (chip : Chip) : Type 0 where
 abbrev pub status1_of : Chip → ℕ
 status1_of chip = 4 * chip.kept.one + (if chip.latch then 2 else 0) + (if chip.busy == 0 then 0 else 1)
 
--- the byte that 35h reads, status 2; its highest bit, SUS, reads as 0
+-- Status 2, as 35h reads it. Its highest bit, SUS, reads as 0.
 abbrev pub status2_of : Chip → ℕ
 status2_of chip = chip.kept.two
 

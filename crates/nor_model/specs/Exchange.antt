@@ -1,4 +1,4 @@
--- The type of a transaction over a bus, with its reply.
+-- A transaction over a bus, with its reply.
 use Rattle.std.specs.Prelude.{ℕ, List, Option}
 use Rattle.std.specs.Coded.{Coded, code_by, coded×, coded_list, coded_option, coded_ℕ}
 use Rattle.std.proofs.Common.{refl}
@@ -8,7 +8,6 @@ pub record Exchange : Type 0 where
   -- The bytes of the reply, or `None` if the bus stopped at the transaction.
   pub reply : Option (List ℕ)
 
--- how the prover's logic encodes a list of transactions
 abbrev pub exchanges_code : Coded (List Exchange)
 exchanges_code = coded_list (code_by (List ℕ × Option (List ℕ))
     (coded× (coded_list coded_ℕ) (coded_option (coded_list coded_ℕ)))

@@ -1,5 +1,4 @@
--- The addresses that the block protection bits protect from programs and erases. A *code* is a value of the six
--- protection bits. (After the status register protection tables of the W25Q64FV and W25Q128FV datasheets.)
+-- The addresses that a *code*, a value of the six protection bits, protects from programs and erases.
 use Rattle.std.specs.Prelude.{◌+◌, ◌-◌, ◌*◌, ◌/◌, ◌%◌, ◌^◌, ◌==◌, ◌&&◌, ◌||◌, ℕ, Bool, not, nat_lt, nat_le, if◌then◌else◌}
 use Rattle.nor_model.specs.Chip.{Chip, KeptBits, cmp_bit, sec_to_bp0}
 
@@ -7,19 +6,18 @@ use Rattle.nor_model.specs.Chip.{Chip, KeptBits, cmp_bit, sec_to_bp0}
 abbrev pub code_of : KeptBits → ℕ
 code_of kept = 32 * cmp_bit kept + sec_to_bp0 kept
 
--- BP2, BP1 and BP0 as a number below 8, which determines the length of the selected range
 abbrev pub bp_of : (code : ℕ) → ℕ
 bp_of code = code % 8
 
--- true if TB is set, so that the selected range is at the start of the chip instead of its end
+-- True if TB is set: the selected range is at the start of the chip instead of its end.
 abbrev pub is_bottom : (code : ℕ) → Bool
 is_bottom code = code / 8 % 2 == 1
 
--- true if SEC is set, so that BP 001 to 101 select 4 to 32 KiB instead of a fraction of the chip
+-- True if SEC is set: BP 001 to 101 select 4 to 32 KiB instead of a fraction of the chip.
 abbrev pub names_sectors : (code : ℕ) → Bool
 names_sectors code = code / 16 % 2 == 1
 
--- true if CMP is set, so that a code that is defined protects the addresses outside the selected range
+-- True if CMP is set: a code that is defined protects the addresses outside the selected range.
 abbrev pub is_complement : (code : ℕ) → Bool
 is_complement code = code / 32 % 2 == 1
 
@@ -38,7 +36,7 @@ named_length size code =
     else if bp_of code == 3 then 16384
     else 32768
 
--- True if the address `a` is in the selected range. A range at the end of the chip includes all addresses past it.
+-- True if the address `a` is in the selected range. A range at the chip's end includes all addresses past the chip.
 abbrev pub is_address_named : (size code a : ℕ) → Bool
 is_address_named size code a =
     if is_bottom code then nat_lt a (named_length size code) else nat_le (size - named_length size code) a

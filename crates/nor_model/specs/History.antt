@@ -1,4 +1,4 @@
--- The history of a bus: the transactions over it, each with its reply, the last one first.
+-- The history of a bus: its transactions, each with its reply, the last one first.
 use Rattle.std.specs.Prelude.{◌≡◌, ◌+◌, ◌*◌, ◌/◌, ◌%◌, ◌==◌, ◌&&◌, ◌++◌, ℕ, Bool, true, false, List, [], ◌∷◌, Option, Some, None, Result, Ok, Err, if◌then◌else◌}
 use Rattle.nor_model.specs.Exchange.{Exchange}
 use Rattle.nor_model.specs.declared.bus.Stopped.{Stopped}
@@ -41,13 +41,12 @@ abbrev pub begins_with : (opcode : ℕ) → (out : List ℕ) → Bool
 begins_with opcode [] = false
 begins_with opcode (first ∷ rest) = first == opcode
 
--- true if `out` begins with the byte `opcode` and the three bytes of `address`, high byte first
+-- True if `out` begins with the byte `opcode` and the three bytes of `address`, high byte first.
 abbrev pub names : (opcode address : ℕ) → (out : List ℕ) → Bool
 names opcode address (first ∷ x ∷ y ∷ z ∷ rest) = first == opcode && 65536 * x + 256 * y + z == address
 names opcode address _ = false
 
--- Holds if `old` and `new` have the same last replies, except to transactions that satisfy `may`. For example, if `may`
--- is the test for 9Fh, the last reply to a poll is the same.
+-- Holds if `old` and `new` have the same last replies, except to transactions that satisfy `may`.
 pub record KeepsReplies (may : List ℕ → Bool) (old new : List Exchange) : Type 0 where
   pub same : (is : List ℕ → Bool) → ((out : List ℕ) → may out ≡ true → is out ≡ false)
       → last_reply is new ≡ last_reply is old

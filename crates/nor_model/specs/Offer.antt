@@ -1,4 +1,3 @@
--- The ranges that a code (a value of the protection bits) can protect, and the code that is used for each range.
 use Rattle.std.specs.Prelude.{◌≡◌, ◌<◌, ◌≤◌, ◌+◌, ◌↔◌, ℕ, true, false}
 use Rattle.nor_model.specs.Guard.{protected_by, is_undefined}
 

@@ -1,4 +1,3 @@
--- The iterator over the ranges that can be protected, in the order of their codes (values of the protection bits).
 use Rattle.std.specs.Prelude.{◌≡◌, ◌<◌, ◌≤◌, ◌+◌, ℕ, Option, None, Some}
 use Rattle.nor_model.specs.declared.guard.walk.Offered.{Offered}
 use Rattle.nor_model.specs.Offer.{IsLeastCode}
@@ -6,7 +5,7 @@ use Rattle.nor_model.specs.Offer.{IsLeastCode}
 abbrev pub size_of : Offered → ℕ
 size_of walk = walk.size
 
--- the position of the iterator: the first code that it has not passed
+-- The first code that the iterator has not passed.
 abbrev pub next_code : Offered → ℕ
 next_code walk = walk.next
 

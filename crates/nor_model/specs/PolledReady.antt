@@ -7,7 +7,7 @@ is_poll [] = false
 is_poll (opcode ∷ []) = opcode == 0x05
 is_poll (opcode ∷ next ∷ rest) = false
 
--- true if BUSY (bit 0) is clear in the last byte of `answer`, or if `answer` is empty
+-- True if BUSY (bit 0) is clear in the last byte of `answer`, or if `answer` is empty.
 abbrev pub shows_ready : (answer : List ℕ) → Bool
 shows_ready answer = slice_index answer (length answer - 1) % 2 == 0
 

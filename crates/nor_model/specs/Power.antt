@@ -1,4 +1,3 @@
--- The effect of a power failure on a chip.
 use Rattle.std.specs.Prelude.{◌≡◌, ◌<◌, ◌≤◌, ◌+◌, ◌*◌, ◌/◌, ◌%◌, ◌==◌, ◌&&◌, ◌⊎◌, ℕ, Bool, true, false, not, nat_lt, nat_le, if◌then◌else◌, ⊤}
 use Rattle.nor_model.specs.declared.running.Running.{Running}
 use Rattle.nor_model.specs.declared.running.Running.TheVariants.{Program, Erase, StatusWrite, Unknown}
@@ -21,14 +20,14 @@ pub record RunsInside (size : ℕ) (running : Running) : Type 0 where
   pub kept2 : (one two : ℕ) → running ≡ StatusWrite one two → two < 128
 
 -- Holds if a power failure during the operation may change the non-volatile status bits from `old` to `new`. During a
--- status write, `old` are already the bits that were written, and `new` may be those from before it.
+-- status write, `old` already has the bits that were written, and `new` may have those from before the write.
 abbrev pub KeptCut : Running → (old new : KeptBits) → Type 0
 KeptCut (StatusWrite one two) old new = (new ≡ old) ⊎ (new ≡ record { one = one; two = two })
 KeptCut Unknown old new = ⊤
 KeptCut _ old new = new ≡ old
 
--- The effect of a power failure, after which the chip is idle. On a busy chip, each byte on which the operation works
--- may have any value, and `KeptCut` describes the non-volatile bits.
+-- Holds if a power failure can take the chip from `old` to `new`, which is idle. If the chip was busy, each byte on
+-- which the operation worked may have any value.
 pub record PowerLost (old new : Chip) : Type 0 where
   pub config : new.config ≡ old.config
   pub latch : new.latch ≡ false
@@ -43,8 +42,8 @@ is_interrupted chip a = not (chip.busy == 0) && is_known_running chip.running &&
 abbrev pub kept_before : Chip → KeptBits
 kept_before chip = elim chip.running [ StatusWrite one two ↦ record { one = one; two = two } | _ ↦ chip.kept ]
 
--- The effect of a power failure on a simulated chip. Each byte on which a known operation in progress works is `fill`.
--- A status write is undone if `fill` is even, and completed if it is odd. An unknown operation changes nothing.
+-- Holds if a power failure takes a simulated chip from `old` to `new`. Each byte on which a known operation worked
+-- becomes `fill`. A status write is undone if `fill` is even, and completed if it is odd.
 pub record PowerLostWith (fill : ℕ) (old new : Chip) : Type 0 where
   pub config : new.config ≡ old.config
   pub latch : new.latch ≡ false

@@ -1,5 +1,4 @@
--- The transactions that may modify a chip: modifying commands, and transactions that the model does not know. This
--- depends only on the bytes sent, not on what the chip carries out. (W25Q64FV datasheet, instruction set table.)
+-- The transactions that may modify a chip: all except empty ones and those with a quiet opcode (`is_quiet_opcode`).
 use Rattle.std.specs.Prelude.{◌≡◌, ◌+◌, ◌*◌, ◌/◌, ◌==◌, ◌&&◌, ◌||◌, not, ℕ, Bool, true, false, List, [], ◌∷◌, nat_le, nat_lt, if◌then◌else◌}
 use Rattle.nor_model.specs.Exchange.{Exchange}
 use Rattle.nor_model.specs.Command.{begins_change, begins_quiet, is_change, is_erase_opcode}
@@ -56,9 +55,8 @@ abbrev pub writes_status : (out : List ℕ) → (one two : ℕ) → Bool
 writes_status (opcode ∷ x ∷ y ∷ []) one two = opcode == 0x01 && x == one && y == two
 writes_status _ one two = false
 
--- True if the model does not know a transaction that sends `out`. The model knows each transaction that sends nothing,
--- that begins with a quiet opcode, or that has the form of a modifying command. A real chip may carry out others: 60h
--- erases the chip, 31h writes status 2, and 01h with one data byte clears bits of status 2.
+-- True if the model doesn't know a transaction that sends `out`. A real chip may carry it out: for example, 60h erases
+-- the chip, and 31h writes status 2.
 abbrev pub is_unknown_to_model : (out : List ℕ) → Bool
 is_unknown_to_model out = not (begins_quiet out || is_change out)
 

@@ -1,4 +1,3 @@
--- The two status registers as bytes.
 use Rattle.std.specs.Prelude.{◌+◌, ◌*◌, ◌/◌, ◌%◌, ℕ, List, [], ◌∷◌}
 use Rattle.nor_model.specs.declared.status.Status.{Status}
 

@@ -1,6 +1,5 @@
 -- One step of the chip: its reply to a transaction, and the effect. An operation has its whole effect at once, and the
--- chip is then busy for any number of polls below 65,536. A busy chip carries out only status reads, so no read of data
--- shows when the effect took place. (W25Q64FV datasheet, instruction descriptions.)
+-- chip is then busy for any number of polls below 65,536. (W25Q64FV datasheet, instruction descriptions.)
 use Rattle.std.specs.Prelude.{◌≡◌, ◌<◌, ◌+◌, ◌-◌, ◌*◌, ◌/◌, ◌%◌, ◌==◌, ◌&&◌, ℕ, Bool, true, false, not, Option, None, Some, List, [], ◌∷◌, length, drop, slice_index, slice_index_or, bit_and, bit_or, nat_lt, nat_le, if◌then◌else◌}
 use Rattle.nor_model.specs.declared.command.Command.{Command}
 use Rattle.nor_model.specs.declared.command.Command.TheVariants.{WriteEnable, WriteDisable, Poll, ReadStatus2, WriteStatus, Program, Erase, ReadData, ReadId, ReadSfdp, ReadUnique, Ignored}
@@ -13,9 +12,8 @@ use Rattle.nor_model.specs.Command.{command_of}
 abbrev pub is_idle : Chip → Bool
 is_idle chip = chip.busy == 0
 
--- True if the chip carries the command out. A busy chip carries out only the two status reads. For a program only the
--- address `at` is tested, which is enough because protected ranges begin and end at whole KiB, and a program stays
--- within one page of 256 bytes.
+-- True if the chip carries the command out. A busy chip carries out only the two status reads. A program stays within
+-- one page, which is protected as a whole or not at all, so only its address `at` is tested.
 abbrev pub is_carried_out : Chip → Command → Bool
 is_carried_out chip Poll = true
 is_carried_out chip ReadStatus2 = true
@@ -68,8 +66,7 @@ lb3_to_lb1 = 0b0111000
 abbrev pub lb3_to_reserved : ℕ
 lb3_to_reserved = 0b0111100
 
--- The non-volatile status bits after the command. A status write sets BP, TB, SEC, SRP0, SRP1, QE and CMP to the values
--- sent. A status write can set an LB bit but not clear it, and does not change the reserved bit.
+-- The non-volatile status bits after the command. A status write can't clear an LB bit or change the reserved bit.
 abbrev pub kept_after : Chip → Command → KeptBits
 kept_after chip (WriteStatus one two) = record {
   one = one / 4;
@@ -90,8 +87,8 @@ BusyAfter chip (Erase start len) busy = busy < 65536
 BusyAfter chip Poll busy = busy ≡ chip.busy - 1
 BusyAfter chip _ busy = busy ≡ chip.busy
 
--- The write enable latch after the command. An operation clears it when it ends: at once if `busy` is 0, otherwise at
--- the poll that shows the last BUSY.
+-- The write enable latch after the command. An operation clears the latch when it ends: at once if `busy` is 0,
+-- otherwise at the poll that shows the last BUSY.
 abbrev pub latch_after : Chip → Command → (busy : ℕ) → Bool
 latch_after chip WriteEnable busy = true
 latch_after chip WriteDisable busy = false
@@ -107,7 +104,7 @@ running_after chip (Program at) = Runs.Program (at / 256)
 running_after chip (Erase start len) = Runs.Erase start len
 running_after chip _ = chip.running
 
--- The effect of a command that is carried out, or of `Ignored`: its reply `answer`, and the chip `new` after it.
+-- Holds if the chip carries out `command` (or nothing, for `Ignored`), replies `answer`, and goes from `old` to `new`.
 pub record Does (command : Command) (sent : List ℕ) (old : Chip) (answer : List ℕ) (new : Chip) : Type 0 where
   pub replies : (i : ℕ) → i < length answer → slice_index answer i ≡ reply_byte old command i
   pub config : new.config ≡ old.config

@@ -1,5 +1,3 @@
--- Tests (functions from addresses to Booleans) that are true in one range at one end of a chip. An example is the test
--- whether an address is protected.
 use Rattle.std.specs.Prelude.{◌≡◌, ◌<◌, ◌≤◌, ◌+◌, ◌%◌, ◌⊎◌, ℕ, Bool, true, nat_lt, nat_le}
 
 pub record HoldsSomewhere (test : ℕ → Bool) (start len : ℕ) : Type 0 where

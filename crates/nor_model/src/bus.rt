@@ -5,8 +5,7 @@ ghost use Rattle.nor_model.specs.Bus.{BusState, Transfers, Allows};
 
 use std::fmt;
 
-/// The error of a transaction that failed, for example because the connection failed or the allowance was used up. The
-/// chip may have carried out all of the transaction, a part of it, or nothing.
+/// The error of a failed transaction. The chip may have carried out all of the transaction, a part of it, or nothing.
 #[derive(Clone, Copy, Debug, PartialEq, Eq)]
 pub struct Stopped;
 
@@ -20,13 +19,11 @@ impl std::error::Error for Stopped {}
 
 /// A bus to a chip. A transaction sends the bytes `out`, and then fills `reply` with the bytes that it reads.
 ///
-/// Contracts see a bus as a `BusState`. On every bus, even a faulty one, `nature` and `records` of `Transfers` hold.
-/// The other clauses depend on these properties:
+/// Contracts see a bus as a `BusState`. Their clauses depend on these properties:
 ///
 /// - A *well-behaved* bus (`honest`) carries out each transaction that it takes as the modelled chip would, or stops.
-/// - A *punctual* bus stops if and only if it has no transaction left. Any other bus may stop at any transaction.
-/// - If a *steady* bus stops, it sends no byte of the transaction and keeps the chip's power. Any other bus may have
-///   sent the first bytes and lost bytes of the reply, and the chip may have lost its power.
+/// - A *punctual* bus stops if and only if it has no transaction left. Other buses may stop at any transaction.
+/// - If a *steady* bus stops, it sends no byte of the transaction and keeps the chip's power.
 /// - An *unlimited* bus takes transactions of any length. Any other well-behaved bus takes those that send at most 260
 ///   bytes (a page program) and read at most 4,096 (a sector) plus `longer`.
 pub trait Bus {
@@ -43,7 +40,6 @@ pub trait Bus {
         ensures further { result ≡ (state self.now).further }
         ensures honest { (state self.now).honest ≡ true → result ≡ false };
 
-    /// Proves that the chip of a well-behaved bus satisfies `IsChip`.
     ghost reaches: { (bus : Self) → (state bus).honest ≡ true → IsChip (state bus).chip };
 }
 

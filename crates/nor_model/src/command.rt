@@ -8,35 +8,29 @@ use nor_geometry::SECTOR_LEN;
 /// The command for which a transaction asks. (W25Q64FV datasheet, instruction set table.)
 #[derive(Clone, Copy, Debug, PartialEq, Eq)]
 pub enum Command {
-    /// 06h: sets the write enable latch.
     WriteEnable,
-    /// 04h: clears the write enable latch.
     WriteDisable,
     /// 05h: polls. Every reply byte is status 1.
     Poll,
-    /// 35h: reads status 2. Every reply byte is status 2.
     ReadStatus2,
     /// 01h: writes status 1 and status 2. The fields are the two bytes, status 1 first.
     WriteStatus(u8, u8),
     /// 02h: programs bytes of one page, beginning at this address.
     Program(u32),
-    /// 20h, 52h, D8h or C7h: erases a block. The fields are its first address and its length in bytes.
+    /// 20h, 52h, D8h or C7h: erases a block or the chip. The fields are the first address and the length in bytes.
     Erase(u32, u32),
     /// 03h: reads the chip's bytes from this address on.
     ReadData(u32),
-    /// 9Fh: reads the ID.
     ReadId,
     /// 5Ah: reads the SFDP bytes from this address on.
     ReadSfdp(u32),
-    /// 4Bh: reads the unique ID.
     ReadUnique,
     /// Any other transaction. A modelled chip ignores it.
     Ignored,
 }
 
 impl Command {
-    /// Returns the command for which a transaction that sends `out` and receives `replies` bytes asks a chip. Addresses
-    /// are taken modulo the chip's size. A transaction that fits no command is `Ignored`.
+    /// Decodes a transaction that sends `out` and receives `replies` bytes. Addresses are taken modulo the chip's size.
     pub fn of(config: &Config, out: &[u8], replies: usize) -> Command
         ensures { result ≡ command_of config.now out.now replies }
     {
@@ -96,8 +90,7 @@ fn address(config: &Config, x: u8, y: u8, z: u8) -> u32
     u32::from_be_bytes([0, x, y, z]) % config.size
 }
 
-/// Returns whether `out` begins with one of the seven modifying opcodes: 06h, 01h, 02h, 20h, 52h, D8h or C7h. (W25Q64FV
-/// datasheet, instruction set table.)
+/// Returns whether `out` begins with a modifying opcode: 06h, 01h, 02h, 20h, 52h, D8h or C7h.
 pub fn is_changing(out: &[u8]) -> bool
     ensures { result ≡ begins_change out.now }
 {

@@ -5,8 +5,7 @@ ghost use Rattle.nor_model.specs.Sfdp.{sfdp_with};
 
 use nor_geometry::is_chip_size;
 
-/// The SFDP bytes of the emulated chip `TINY64`, from address 0 on (JESD216). The other emulated chips differ only in
-/// the size in double word 2. The bytes were made for this project; a real Winbond chip has others.
+/// The SFDP bytes of the emulated chip `TINY64`, from address 0 on (JESD216). They were made for this project.
 pub const TINY64_SFDP: [u8; 52] = [
     0x53, 0x46, 0x44, 0x50, 0x00, 0x01, 0x00, 0xFF, // signature, revision 1.0, one header
     0x00, 0x00, 0x01, 0x09, 0x10, 0x00, 0x00, 0xFF, // basic table, nine double words, at 10h
@@ -27,14 +26,12 @@ pub struct Kinds {
     pub k64: bool,
 }
 
-/// All erase types.
 pub const ALL_KINDS: Kinds = Kinds {
     k32: true,
     k64: true,
 };
 
-/// The properties of a chip that never change. `scheme` says whether it has block protection. 5Ah reads all SFDP bytes
-/// past the first 256 as FFh.
+/// The properties of a chip that never change. `size` is in bytes. `scheme` is true if the chip has block protection.
 #[derive(Clone, Copy)]
 pub struct Config {
     pub id: [u8; 3],
@@ -49,9 +46,8 @@ pub struct Config {
 impl Config {
     ghost use Rattle.nor_model.specs.Makers.{HasParts, IsEmulatedWith, IsTiny64, IsW25q64fv, IsW25q128fv};
 
-    /// Returns a configuration with these properties and a unique ID of zeros. `sfdp` is padded with FFh to 256 bytes.
-    /// Returns `None` if the size is not a power of two from 65,536 to 16,777,216, or if there are more than 256 SFDP
-    /// bytes.
+    /// Returns a configuration with a unique ID of zeros, and with `sfdp` padded with FFh to 256 bytes. Returns `None`
+    /// if `size` isn't a power of two from 65,536 to 16,777,216, or if `sfdp` has more than 256 bytes.
     pub fn new(
         id: [u8; 3],
         size: u32,
@@ -76,24 +72,21 @@ impl Config {
         })
     }
 
-    /// Returns the emulated chip `TINY64`: 64 KiB, ID `FE 10 10`, all erase types, no block protection. The table of
-    /// chips has no row for this ID, so a probe identifies the chip by its SFDP bytes.
+    /// Returns the emulated chip `TINY64`: 64 KiB, ID `FE 10 10`, all erase types, no block protection.
     pub fn tiny64() -> Config
         ensures { IsTiny64 result }
     {
         Self::emulated([0xFE, 0x10, 0x10], 65_536, ALL_KINDS, false)
     }
 
-    /// Returns the emulated chip `W25Q64FV`: 8 MiB, ID `EF 40 17`, all erase types, with block protection. (Winbond
-    /// W25Q64FV datasheet.)
+    /// Returns the emulated chip `W25Q64FV` (Winbond): 8 MiB, ID `EF 40 17`, all erase types, block protection.
     pub fn w25q64fv() -> Config
         ensures { IsW25q64fv result }
     {
         Self::emulated([0xEF, 0x40, 0x17], 8_388_608, ALL_KINDS, true)
     }
 
-    /// Returns the emulated chip `W25Q128FV`: 16 MiB, ID `EF 40 18`, all erase types, with block protection. (Winbond
-    /// W25Q128FV datasheet.)
+    /// Returns the emulated chip `W25Q128FV` (Winbond): 16 MiB, ID `EF 40 18`, all erase types, block protection.
     pub fn w25q128fv() -> Config
         ensures { IsW25q128fv result }
     {

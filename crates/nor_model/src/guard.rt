@@ -1,5 +1,5 @@
-//! The addresses that the block protection bits protect from programs and erases. (W25Q64FV and W25Q128FV datasheets,
-//! status register memory protection.) A *code* is a value of the six protection bits.
+//! The addresses that a *code*, a value of the six protection bits, protects from programs and erases. (W25Q64FV and
+//! W25Q128FV datasheets, status register memory protection.)
 ghost use Rattle.std.specs.Prelude.{◌≡◌, ◌≤◌, ◌<◌, ◌+◌, ◌-◌, ◌*◌, ◌/◌, ◌%◌, ◌==◌, ◌||◌, ◌↔◌, ℕ, true, false, if◌then◌else◌, IsTrue, IfSome, IfNone, MatchOption};
 ghost use Rattle.nor_model.specs.Chip.{kept_in};
 ghost use Rattle.nor_model.specs.Size.{is_chip_size};
@@ -73,9 +73,8 @@ fn is_named(size: u32, code: u8, at: u32) -> bool
     }
 }
 
-/// Returns whether the protection bits `code` protect the address `at`, on a chip of `size` bytes that has block
-/// protection. A code that the datasheets don't define protects every address of the chip. An address past the end is
-/// not protected.
+/// Returns whether `code` protects the address `at` of a chip of `size` bytes that has block protection. A code that
+/// the datasheets don't define protects every address of the chip. Addresses past its end are unprotected.
 #[tactic(auto, unfolding(crate::specs::Guard::protected_by))]
 pub fn is_protected(size: u32, code: u8, at: u32) -> bool
     ensures { result ≡ protected_by size code at }
@@ -83,9 +82,8 @@ pub fn is_protected(size: u32, code: u8, at: u32) -> bool
     at < size && (is_undefined(code) || is_named(size, code, at) != is_complement(code))
 }
 
-/// Returns whether the protection bits in the two status bytes protect the address `at`, on a chip of `size` bytes (a
-/// power of two from 65,536 to 16,777,216) that has block protection. An address past the end is not protected. The
-/// result is the same for all addresses of a page, so the chip ignores every program of a protected page.
+/// Returns whether `status` (status 1 first) protects the address `at` of a chip of `size` bytes (a power of two from
+/// 65,536 to 16,777,216) that has block protection. The result is the same for all addresses of a page.
 pub fn protected(status: [u8; 2], size: u32, at: u32) -> bool
     requires { IsTrue (is_chip_size size) }
     ensures value { result ≡ protected_by size (code_of (kept_in status)) at }
@@ -96,10 +94,8 @@ pub fn protected(status: [u8; 2], size: u32, at: u32) -> bool
     is_protected(size, Status::of(status).code(), at)
 }
 
-/// Returns whether the protection bits in the two status bytes protect some address from `start` to `start + len - 1`,
-/// on a chip of `size` bytes (a power of two from 65,536 to 16,777,216) that has block protection. The range must not
-/// be empty and must lie on the chip. Only its first and last address are tested, because the protected addresses are
-/// at one end of the chip.
+/// Returns whether `status` (status 1 first) protects any of the `len` (at least 1) addresses from `start` on. All must
+/// lie on the chip, which has block protection and `size` bytes, a power of two from 65,536 to 16,777,216.
 pub fn unit_protected(status: [u8; 2], size: u32, start: u32, len: u32) -> bool
     requires sized { IsTrue (is_chip_size size) }
     requires some { 0 < len }
@@ -140,9 +136,9 @@ fn addresses_of(size: u32, code: u8) -> AddressRange
     AddressRange { start, len }
 }
 
-/// Returns the first address and the length of the range that the protection bits in `status` protect, or two zeros for
-/// none. The chip has block protection and `size` bytes, a power of two from 65,536 to 16,777,216. Returns `None` if
-/// the datasheets don't define the bits; the model then protects every address.
+/// Returns the first address and the length of the range that `status` protects (two zeros for none) on a chip with
+/// block protection and `size` bytes, a power of two from 65,536 to 16,777,216. Returns `None` if the datasheets don't
+/// define the value of the protection bits; a modelled chip then protects every address.
 pub fn protected_range(status: Status, size: u32) -> Option<(u32, u32)>
     requires { IsTrue (is_chip_size size) }
     ensures { MatchOption result (is_undefined (code_of (kept_in (bytes_of status))) ≡ true)
@@ -198,8 +194,7 @@ fn least_at(size: u32, code: u8) -> Option<AddressRange>
     }
 }
 
-/// Returns an iterator over the ranges that defined codes protect on a chip of `size` bytes, a power of two from 65,536
-/// to 16,777,216. It yields each range once, in the order of the least codes. The empty range starts at 0.
+/// Returns the ranges that block protection offers on a chip of `size` bytes, a power of two from 65,536 to 16,777,216.
 pub fn offered(size: u32) -> Offered
     requires { IsTrue (is_chip_size size) }
     ensures { IsStart size result }

@@ -51,8 +51,7 @@ impl History {
         self.with(&Event::Stopped(out))
     }
 
-    /// Returns this history with one more transaction, which sent `out`: with the reply `reply` after Ok, or as one at
-    /// which the bus stopped.
+    /// Returns this history with the transaction that ended with `outcome`, as `replied` or `stopped` does.
     pub fn ended(&self, out: &[u8], reply: &[u8], outcome: Result<(), Stopped>) -> History
         ensures exchanges { result.exchanges ≡ exchange_of out.now reply.now outcome ∷ self.now.exchanges }
         ensures allowances { result.allowances ≡ self.now.allowances }
@@ -71,7 +70,6 @@ impl History {
         self.with(&Event::Allowed(n))
     }
 
-    // Does nothing at run time, because the lists exist only in the proof.
     #[inline(always)]
     fn with(&self, _event: &Event<'_>) -> History
         ensures { (result.exchanges ≡ exchanges_with _event.now self.now.exchanges)

@@ -4,7 +4,7 @@
 //! use nor_model::{Config, code_for, protected};
 //!
 //! let chip = Config::w25q64fv();
-//! // the last 128 KiB: only BP0 is set, so status 1 is 04h
+//! // If only BP0 is set (status 1 is 04h), the last 128 KiB are protected.
 //! assert_eq!(rt; code_for(0x7E0000, 0x20000, chip.size), Some(1));
 //! assert!(rt; protected([0x04, 0x00], chip.size, 0x7E0000));
 //! assert!(rt; !protected([0x04, 0x00], chip.size, 0x7DFFFF));

@@ -7,8 +7,7 @@ pub enum Running {
     Program(u32),
     /// An erase, given by its first address and its length in bytes.
     Erase(u32, u32),
-    /// A status write. The fields have the non-volatile bits from before it: status 1 / 4 and status 2 % 128.
+    /// A status write. The fields are the non-volatile bits from before the write: status 1 / 4 and status 2 % 128.
     StatusWrite(u8, u8),
-    /// An operation about which nothing is known.
     Unknown,
 }

@@ -6,7 +6,7 @@ ghost use Rattle.nor_model.specs.Guard.{is_undefined, code_of};
 use crate::guard;
 use bitflags::{Flag, Flags, bitflag_items};
 
-/// Status register 1, as 05h reads it.
+/// Status register 1, as 05h reads it. (W25Q64FV datasheet, status registers.)
 #[derive(Clone, Copy, Debug, PartialEq, Eq)]
 pub struct Status1(u8);
 
@@ -16,9 +16,7 @@ pub struct Status2(u8);
 
 bitflag_items! {
     impl Status1: u8 {
-        /// Set while an operation is running.
         const BUSY = 0x01;
-        /// The write enable latch.
         const WEL = 0x02;
         const BP0 = 0x04;
         const BP1 = 0x08;
@@ -27,22 +25,18 @@ bitflag_items! {
         const TB = 0x20;
         /// If set, BP 001 to 101 select 4, 8, 16, 32 and 32 KiB; if clear, they select 1/64 to 1/4 of the chip.
         const SEC = 0x40;
-        /// Locks the status registers if set. (On a real chip with only SRP0 set, they are locked only while the WP#
-        /// pin is low; the model assumes that it is low.)
+        /// Locks the status registers if set. (If SRP1 is clear, a real chip locks them only while its WP# pin is low.)
         const SRP0 = 0x80;
     }
     impl Status2: u8 {
-        /// Locks the status registers if set.
         const SRP1 = 0x01;
-        /// Set if quad transfers are enabled.
         const QE = 0x02;
         const LB1 = 0x08;
         const LB2 = 0x10;
         const LB3 = 0x20;
-        /// If set, the protected addresses are those outside the selected range; if clear, those inside it. If the
-        /// datasheets don't define the protection bits, the model protects every address.
+        /// If set, the addresses outside the selected range are protected instead of those inside it. A value of the
+        /// protection bits that the datasheets don't define protects every address.
         const CMP = 0x40;
-        /// Set while an operation is suspended.
         const SUS = 0x80;
     }
 }
@@ -145,7 +139,6 @@ impl Status2 {
     }
 }
 
-/// The two status registers.
 #[derive(Clone, Copy, Debug, PartialEq, Eq)]
 pub struct Status {
     pub one: Status1,
@@ -194,8 +187,7 @@ impl Status {
         }
     }
 
-    /// Returns this status with its protection bits replaced by those of `code`, which must be below 64, and with BUSY,
-    /// WEL and SUS clear.
+    /// Returns this status with the protection bits of `code` (below 64), and with BUSY, WEL and SUS clear.
     #[tactic(auto, using(crate::proofs::StatusBits::coded_one, crate::proofs::StatusBits::coded_two))]
     pub fn with_code(self, code: u8) -> Status
         requires { code < 64 }
@@ -210,8 +202,7 @@ impl Status {
         }
     }
 
-    /// Returns whether the datasheets leave the protection bits of this status undefined. On a chip with block
-    /// protection, the model then protects every address.
+    /// Returns whether the value of the protection bits is one that the datasheets don't define: SEC set and BP 110.
     pub fn is_undefined(self) -> bool
         ensures { result ≡ is_undefined (code_of (kept_in (bytes_of self))) }
     {

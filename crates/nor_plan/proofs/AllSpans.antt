@@ -1,4 +1,3 @@
--- The list `spans_of` satisfies `AreSpans`.
 use Rattle.std.proofs.Common.{ℕ, zero, suc, ◌≡◌, ◌<◌, ◌≤◌, ◌+◌, ◌-◌, ◌*◌, ◌/◌, min, Bool, true, cond, List, [], ◌∷◌, All, Option, Some, None, filter, length, get_or, refl, sym, ap, ◌∙◌, inl, inr, arith}
 use Rattle.std.specs.Prelude.{AllPairs, is_some, count_by}
 use Rattle.std.specs.List.{cons_option, list_any, range_with_len}

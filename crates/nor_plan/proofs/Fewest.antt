@@ -84,7 +84,6 @@ module _ (whole : Bool) (kinds : Kinds) (total : ℕ) (set : ℕ → Bool) (can 
       some_begins others covers q (and_parts (list_any (nat_eq q) sectors) (begins q) (sym kept ∙ member)).1) in
       omega (arith, length-map others sector, length-map (filter begins sectors) (erase_at whole kinds set))
 
--- The planned erases begin at different sectors of the set.
 pub planned_few : (whole : Bool) (kinds : Kinds) (set : SectorSet) (from : ℕ)
     → length (planned_from whole kinds (has set) from) ≤ length (members_from set from)
 unfolding planned_from members_from

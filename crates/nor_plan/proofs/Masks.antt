@@ -1,4 +1,3 @@
--- Masks that comparisons of 32 lanes return. A mask has one bit per lane.
 use Rattle.std.proofs.Common.{ℕ, suc, ◌*◌, inl, inr, w64, ◌≡◌, ◌<◌, ◌≤◌, ◌+◌, ◌^◌, ◌-◌, ◌%◌, ◌/◌, Bool, true, false, not, cond, nat_eq, ◌≢◌, List, length, get_or, map, sym, ◌∙◌, ap, arith, w8}
 use Rattle.std.specs.Int.{bit_at, trailing_zeros}
 use lib.Lanes.{mask_l, top, zip2}

@@ -1,4 +1,3 @@
--- The span of a page. The code cuts the page out of both slices and looks for the differences in these parts.
 use Rattle.std.proofs.Common.{ℕ, ◌≡◌, ◌<◌, ◌≤◌, ◌+◌, ◌-◌, ◌*◌, ◌/◌, min, Bool, not, nat_eq, List, [], ◌∷◌, length, get_or, Some, None, sym, ap, ◌∙◌, arith, suc}
 use lib.Lanes.{chunk}
 use Rattle.std.specs.Int.{div_ceil}

@@ -1,4 +1,3 @@
--- The planned erases that begin at or after the sector `from`, compared with those that begin at or after `from + 1`.
 use Rattle.std.proofs.Common.{ℕ, suc, ◌≡◌, ◌<◌, ◌≤◌, ◌+◌, ◌-◌, Bool, true, false, [], ◌∷◌, arith}
 use Rattle.nor_model.specs.declared.config.Kinds.{Kinds}
 use Rattle.nor_plan.specs.Planned.{begins_block, erase_at, planned_from}

@@ -1,5 +1,3 @@
--- The erase block planned for a sector: which aligned blocks that contain the sector lie in the set, and where they
--- begin.
 use Rattle.std.proofs.Common.{ℕ, ◌≡◌, ◌<◌, ◌≤◌, ◌+◌, ◌-◌, ◌%◌, Bool, true, false, ◌&&◌, refl, sym, ap, ◌∙◌, inl, inr, arith}
 use Rattle.std.specs.List.{range_with_len}
 use Rattle.std.proofs.lemmas.Bool.{cases_Bool, both_ways, eq-eqb, eqb-true}
@@ -55,8 +53,8 @@ first_of-holds total Block64 s below = (omega arith, omega arith)
 first_of-holds total Chip s below = (omega arith, omega arith)
 
 module _ (whole : Bool) (kinds : Kinds) (set : ℕ → Bool) where
-  -- True if the aligned erase block of this kind that contains the sector `s` is fit, which means that it may be used
-  -- for an erase: the chip has its erase type, and the block lies in the set.
+  -- True for a sector `s` of the set if the aligned block of this kind with `s` may be erased: the chip has its erase
+  -- type, and the block lies in the set.
   abbrev pub is_fit : ℕ → EraseBlock → Bool
   is_fit s Sector = true
   is_fit s Block32 = kinds.k32 && holds_block set 8 s

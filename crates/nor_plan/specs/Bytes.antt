@@ -1,4 +1,3 @@
--- Two slices of equal length, compared byte by byte. `old` has the chip's bytes, and `target` those that it must have.
 use Rattle.std.specs.Prelude.{ℕ, ◌≡◌, ◌≢◌, ◌<◌, ◌≤◌, bit_and, List, length, slice_index, SomeIndex, EachIndex}
 
 abbrev pub AllAgree : (a b : List ℕ) → Type 0

@@ -11,7 +11,7 @@ must_rise old wanted = not (bit_and wanted old == wanted)
 unfoldable pub is_touched : (old wanted : ℕ → ℕ) → (sector : ℕ) → Bool
 is_touched old wanted sector = any_below 4096 (λ i. is_other (old (4096 * sector + i)) (wanted (4096 * sector + i)))
 
--- true if `sector` is raised: some bit of it is 1 in `wanted` and 0 in `old`, which needs an erase
+-- True if some bit of `sector` is 1 in `wanted` and 0 in `old`, which needs an erase.
 unfoldable pub is_raised : (old wanted : ℕ → ℕ) → (sector : ℕ) → Bool
 is_raised old wanted sector = any_below 4096 (λ i. must_rise (old (4096 * sector + i)) (wanted (4096 * sector + i)))
 

@@ -7,8 +7,6 @@ use Rattle.nor_driver.specs.declared.units.Erase.{Erase}
 use Rattle.nor_driver.specs.declared.units.EraseBlock.{EraseBlock}
 use Rattle.nor_driver.specs.declared.units.EraseBlock.TheVariants.{Sector, Block32, Block64, Chip}
 
--- True if a chip with the erase types `kinds` can erase blocks of this kind. (`has_block` takes a configuration
--- instead.)
 abbrev pub is_offered : Kinds → EraseBlock → Bool
 is_offered kinds Sector = true
 is_offered kinds Block32 = kinds.k32
@@ -23,8 +21,7 @@ pub record IsErase (kinds : Kinds) (total : ℕ) (erase : Erase) : Type 0 where
 abbrev pub erased_by : (total : ℕ) → List Erase → (sector : ℕ) → Bool
 erased_by total erases sector = list_any (erases_sector total sector) erases
 
--- Holds if the chip can carry out each of `erases`, and together they erase exactly the sectors of `set`. They may be
--- in any order and may overlap.
+-- Holds if the chip can carry out each of `erases`, and together they erase exactly the sectors of `set`.
 pub record Covers (kinds : Kinds) (total : ℕ) (erases : List Erase) (set : ℕ → Bool) : Type 0 where
   pub units : All (IsErase kinds total) erases
   pub union : (sector : ℕ) → erased_by total erases sector ≡ set sector

@@ -1,4 +1,3 @@
--- The state of the iterator over erases.
 use Rattle.std.specs.Prelude.{List}
 use Rattle.nor_driver.specs.declared.units.Erase.{Erase}
 use Rattle.nor_plan.specs.declared.erase.iter.Erases.{Erases}

@@ -1,4 +1,3 @@
--- Vectors of 32 lanes of one byte, and masks with one bit per lane.
 use Rattle.std.specs.Prelude.{ℕ, ◌≡◌, ◌≢◌, ◌<◌, ◌^◌, ◌+◌, List, length, slice_index, Bool, if◌then◌else◌}
 use Rattle.std.specs.Int.{bit_at}
 use Rattle.nor_plan.specs.Bytes.{AgreeWithin, SomeDiffer}

@@ -1,4 +1,3 @@
--- The plan of a sector: whether it must be written, and whether it must be erased first.
 use Rattle.std.specs.Prelude.{ℕ, ◌≡◌, ◌≢◌, ◌<◌, true, MatchBool, EachIndex, List, slice_index}
 use Rattle.nor_plan.specs.declared.plan.SectorPlan.{SectorPlan}
 use Rattle.nor_plan.specs.Bytes.{IsWithinBits}
@@ -10,7 +9,6 @@ AreBytesOf content bytes = EachIndex bytes (λ i. slice_index bytes i ≡ conten
 pub record IsPlan (content wanted : ℕ → ℕ) (count : ℕ) (plan : SectorPlan) : Type 0 where
   pub touched : MatchBool plan.touched ((i : ℕ) × (i < count) × (content i ≢ wanted i))
       ((i : ℕ) → i < count → content i ≡ wanted i)
-  -- If `raised` is false, programs without an erase are enough.
   pub raised : MatchBool plan.raised
       ((i : ℕ) × (i < count) × ¬ IsWithinBits (wanted i) (content i))
       ((i : ℕ) → i < count → IsWithinBits (wanted i) (content i))

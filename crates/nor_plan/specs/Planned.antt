@@ -1,4 +1,3 @@
--- The erases that `erases` plans for a set of sectors.
 use Rattle.std.specs.Prelude.{ℕ, ◌≡◌, ◌≤◌, ◌-◌, ◌%◌, Bool, ◌&&◌, if◌then◌else◌, List, length, map, filter, Option, MatchOption, [], ◌∷◌}
 use Rattle.std.specs.List.{list_all, range_with_len}
 use Rattle.nor_model.specs.declared.config.Kinds.{Kinds}
@@ -33,8 +32,7 @@ unfoldable pub planned_from : Bool → Kinds → (ℕ → Bool) → ℕ → List
 planned_from whole kinds set from =
     map (erase_at whole kinds set) (filter (begins_block whole kinds set) (range_with_len from (4096 - from)))
 
--- Holds if `head` is the first planned erase from the sector `from` on, paired with the sector from which the others
--- follow. If there is none, `head` is `None`.
+-- Holds if `head` is the first planned erase from sector `from` on, with the sector where the rest begins, or `None`.
 abbrev pub HeadsPlanned : Bool → Kinds → (ℕ → Bool) → ℕ → Option (Erase × ℕ) → Type 0
 HeadsPlanned whole kinds set from head =
     MatchOption head (planned_from whole kinds set from ≡ [])
@@ -43,8 +41,7 @@ HeadsPlanned whole kinds set from head =
 abbrev pub planned : Kinds → ℕ → (ℕ → Bool) → List Erase
 planned kinds total set = planned_from (holds_run set 0 total) kinds set 0
 
--- The number of erases planned for `set`. `fewest_is_least` proves that no list of erases for the set is shorter, if
--- the set lies on a chip of at most 4,096 sectors.
+-- The number of erases planned for `set`. It is the least possible if `set` lies on a chip of at most 4,096 sectors.
 abbrev pub fewest_erases : Kinds → ℕ → (ℕ → Bool) → ℕ
 fewest_erases kinds total set = length (planned kinds total set)
 

@@ -1,4 +1,3 @@
--- A set of sectors, and what contracts say about the sectors in it.
 use Rattle.std.specs.Prelude.{ℕ, ◌≡◌, ◌==◌, ◌<◌, ◌-◌, ◌/◌, ◌%◌, Bool, true, false, List, length, slice_index, filter, ◌||◌}
 use Rattle.std.specs.Int.{bit_at}
 use Rattle.std.specs.List.{range_with_len}

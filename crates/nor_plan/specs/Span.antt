@@ -1,5 +1,3 @@
--- The spans of a sector. The span of a page of 256 bytes reaches from its first to its last differing byte, and is what
--- must be programmed.
 use Rattle.std.specs.Prelude.{ℕ, ◌≡◌, ◌==◌, ◌-◌, ◌*◌, min, not, Bool, List, [], ◌∷◌, Option, Some, None, MatchOption, length, filter, count_by, slice_index}
 use Rattle.std.specs.List.{filter_map, list_any, range_with_len}
 use Rattle.std.specs.Int.{div_ceil}
@@ -17,7 +15,7 @@ abbrev pub ends : List ℕ → Option PageSpan
 ends [] = None
 ends (k ∷ ks) = Some (record { first = k; last = last_of k ks })
 
--- The span of the page with the number `page`, or `None` if no byte of it differs. The last page may be shorter.
+-- The span of the page with the number `page`: from its first to its last differing byte, or `None` if no byte differs.
 abbrev pub page_span : (old target : List ℕ) → ℕ → Option PageSpan
 page_span old target page = ends (differences old target (page * 256) (min 256 (length old - page * 256)))
 
@@ -33,8 +31,7 @@ spans_from old target page = spans_in old target page (page_count old - page)
 abbrev pub spans_of : (old target : List ℕ) → List PageSpan
 spans_of old target = spans_from old target 0
 
--- Holds if `head` is the first span from the page `page` on, paired with the page from which the others follow. If
--- there is none, `head` is `None`.
+-- Holds if `head` is the first span from the page `page` on, with the page where the rest begins, or `None`.
 abbrev pub HeadsSpans : (old target : List ℕ) → ℕ → Option (PageSpan × ℕ) → Type 0
 HeadsSpans old target page head =
     MatchOption head (spans_from old target page ≡ [])

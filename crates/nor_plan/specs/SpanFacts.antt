@@ -1,4 +1,3 @@
--- The properties of spans: a span reaches from the first to the last differing byte of a page.
 use Rattle.std.specs.Prelude.{ℕ, ◌≡◌, ◌<◌, ◌≤◌, ◌/◌, Bool, false, ◌&&◌, nat_le, List, length, slice_index, All, Any, AllPairs}
 use Rattle.std.specs.List.{list_any}
 use Rattle.nor_plan.specs.declared.page.PageSpan.{PageSpan}

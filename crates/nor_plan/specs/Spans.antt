@@ -1,4 +1,3 @@
--- The state of the iterator over spans.
 use Rattle.std.specs.Prelude.{List}
 use Rattle.nor_plan.specs.declared.page.PageSpan.{PageSpan}
 use Rattle.nor_plan.specs.declared.page.iter.Spans.{Spans}

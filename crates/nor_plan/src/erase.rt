@@ -20,11 +20,9 @@ mod iter;
 pub use iter::Erases;
 
 /// Returns the fewest erases that together erase exactly the sectors of `set`, on a chip of `size` bytes with the erase
-/// types `kinds`. All sectors of `set` must lie on the chip.
-///
-/// If the set contains all sectors of the chip, the result is one chip erase (C7h). Otherwise the erases are in
-/// ascending order: D8h for each aligned 64 KiB block in the set, 52h for each such 32 KiB block of the rest, if the
-/// chip has these erase types, and 20h for each other sector.
+/// types `kinds`. All sectors of `set` must lie on the chip. If the set contains all sectors of the chip, the result is
+/// one chip erase (C7h). Otherwise the erases are in ascending order: D8h for each aligned 64 KiB block in the set, 52h
+/// for each such 32 KiB block of the rest, if the chip has these erase types, and 20h for each other sector.
 pub fn erases(set: &SectorSet, kinds: Kinds, size: u32) -> Erases
     requires { LiesBelow set.now (size / 4096) }
     ensures covers { Covers kinds (size / 4096) (erases_left result) (has set.now) }

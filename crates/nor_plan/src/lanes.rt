@@ -19,7 +19,7 @@ pub fn differs(a: &[u8], b: &[u8]) -> bool
     blocks_differ(a, b) || first_from(a, b, a.len() / BLOCK * BLOCK).is_some()
 }
 
-// Tests the differences of all blocks once, at the end, which for equal slices avoids a test per block.
+// Combines the differences of all blocks and tests them at the end, which for equal slices avoids a test per block.
 fn blocks_differ(a: &[u8], b: &[u8]) -> bool
     requires { length a.now ≡ length b.now }
     ensures { MatchBool result (SomeDiffer a.now b.now) (AgreeWithin a.now b.now 0 (length a.now / 256 * 256)) }
@@ -103,8 +103,7 @@ fn last_difference(a: &[u8], b: &[u8]) -> Option<usize>
     None
 }
 
-/// Returns whether an erase is needed, because some bit is 1 in `target` and 0 in `old`. The slices must have equal
-/// lengths.
+/// Returns whether some bit is 1 in `target` and 0 in `old`, which needs an erase. The slices must have equal lengths.
 pub fn raises(old: &[u8], target: &[u8]) -> bool
     requires { length old.now ≡ length target.now }
     ensures { MatchBool result (SomeRise old.now target.now) (NoneRises old.now target.now) }

@@ -1,6 +1,5 @@
-//! Plans how to change sectors. For one sector, the crate decides whether it must be written or erased, and which span
-//! of each page must be programmed. For a set of sectors, it finds the fewest erases. The crate sends nothing and
-//! allocates no memory.
+//! Plans how to change sectors: whether a sector must be written or erased, which span of each of its pages must be
+//! programmed, and which erases are the fewest for a set of sectors.
 //!
 //! ```rust
 //! use nor_plan::{PageSpan, raises, spans};

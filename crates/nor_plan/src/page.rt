@@ -12,8 +12,7 @@ mod iter;
 
 pub use iter::Spans;
 
-/// A range of bytes within one page, from the position `first` to the position `last`, inclusive. Positions count from
-/// the start of the compared slices.
+/// The bytes of one page from `first` to `last`, inclusive. Both are positions in the slices that `spans` compares.
 #[derive(Clone, Copy, Debug, PartialEq, Eq)]
 pub struct PageSpan {
     pub first: usize,

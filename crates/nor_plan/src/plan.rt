@@ -20,15 +20,13 @@ pub struct SectorPlan {
 }
 
 impl Plan {
-    /// Returns the plan of a sector with the bytes `old` that must get the bytes `target`. Both must have equal
-    /// lengths.
+    /// Returns the plan of a sector with the bytes `old` that must get the bytes `target`. The lengths must be equal.
     #[tactic(auto, using(crate::proofs::Agreement::agreed_NoneRises, crate::proofs::Plans::plan_anywhere))]
     pub fn of(old: &[u8], target: &[u8]) -> SectorPlan
         requires { length old.now ≡ length target.now }
         ensures touched { MatchBool result.touched (SomeDiffer old.now target.now) (AllAgree old.now target.now) }
         ensures raised { MatchBool result.raised (SomeRise old.now target.now) (NoneRises old.now target.now) }
         ensures needed { result.raised ≡ true → result.touched ≡ true }
-        // `IsPlan` holds for all functions from positions to bytes that begin with the bytes of the two slices.
         ensures anywhere { (content wanted : ℕ → ℕ) → AreBytesOf content old.now → AreBytesOf wanted target.now
             → IsPlan content wanted (length old.now) result }
     {

@@ -1,6 +1,6 @@
 //! Sets of sectors. A set is a bitmap of 512 bytes in a fixed array, so copying it is cheap.
 
-/// A set of sector numbers below 4,096.
+/// A set of sector numbers below 4,096, stored as a bitmap of 512 bytes.
 #[derive(Clone, Copy, Debug, PartialEq, Eq)]
 pub struct SectorSet {
     words: [u64; 64],

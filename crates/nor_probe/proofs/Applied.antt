@@ -1,4 +1,3 @@
--- Properties of the row that applies to an ID on a bus with or without further types (`part_for`).
 use Rattle.std.proofs.Common.{◌≡◌, ◌∙◌, ◌==◌, ℕ, Bool, true, false, List, refl, inl}
 use Rattle.std.specs.Prelude.{Option, None, Some, bytes_eq}
 use Rattle.std.specs.List.{list_all}

@@ -38,7 +38,6 @@ tiny64_known config tiny = record {
   shown = rw (tiny64_shown config tiny) refl;
 }
 
--- A chip with a row in the table is known whatever its SFDP says.
 listed_known : (config : Config) (part : Part)
     → part_with_id (id_of config) ≡ Some part → is_no_chip (id_of config) ≡ false
     → config.size ≡ part.size → config.kinds ≡ part.kinds → config.scheme ≡ part.scheme → IsKnown config

@@ -1,4 +1,3 @@
--- The errors of a probe after the ID was read.
 use Rattle.std.proofs.Common.{◌≡◌, ◌+◌, ◌<◌, ◌≤◌, ◌∙◌, ◌↔◌, ℕ, Bool, true, false, true≢false, None, Some, Option, sym, ap, arith}
 use Rattle.std.specs.Prelude.{IsTrue, List, if◌then◌else◌}
 use Rattle.nor_model.specs.declared.config.Config.{Config}

@@ -1,4 +1,3 @@
--- Lemmas on the replies by which a chip was identified.
 use Rattle.std.proofs.Common.{◌≡◌, ◌∙◌, ◌==◌, ℕ, Bool, true, false, true≢false, arith, None, Ok, List, [], ◌∷◌, refl, sym}
 use Rattle.std.proofs.lemmas.Bool.{eqb-true}
 use Rattle.nor_model.specs.Exchange.{Exchange}

@@ -1,4 +1,3 @@
--- The emulated chips are those of the table and TINY64, and no two of them have the same ID.
 use Rattle.std.proofs.Common.{◌≡◌, ◌&&◌, ℕ, Bool, true, false, not, List, [], ◌∷◌, refl, cond}
 use Rattle.std.specs.Prelude.{Some, find, bytes_eq}
 use Rattle.std.specs.List.{list_all}

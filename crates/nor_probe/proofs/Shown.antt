@@ -1,4 +1,3 @@
--- If the SFDP bytes that a probe read are those of the chip, they describe the same geometry as the chip's SFDP.
 use Rattle.std.proofs.Common.{◌≡◌, refl}
 use Rattle.nor_model.specs.declared.config.Config.{Config}
 use Rattle.nor_probe.specs.declared.probes.Parameters.{Parameters}

@@ -1,4 +1,3 @@
--- Properties of every size that a chip may have.
 use Rattle.std.proofs.Common.{ℕ, ◌%◌, ◌≤◌, ◌≡◌, true, arith}
 use Rattle.std.proofs.lemmas.Bool.Decides.{nat_tests}
 use Rattle.nor_model.specs.Size.{is_chip_size}

@@ -1,4 +1,3 @@
--- The result of a probe: the chip that it found, or the reason why it returned none.
 use Rattle.std.specs.Prelude.{◌≡◌, ◌+◌, ◌%◌, ◌≤◌, ◌⊎◌, ℕ, Bool, true, false, List, if◌then◌else◌, ⊤}
 use Rattle.std.specs.Prelude.{Option, None, Some, Result, Ok, Err, IfOk, IfErr, OnOk}
 use Rattle.nor_model.specs.declared.config.Config.{Config}
@@ -19,7 +18,7 @@ use Rattle.nor_probe.specs.Known.{id_of, is_no_chip, shown_as, IsKnown}
 pub use Rattle.nor_probe.specs.Known.{part_in}
 use Rattle.nor_probe.specs.Replied.{IsFoundBy, ProbeEndsAt}
 
--- the greatest number of transactions of a probe: 65,536 polls, one read of the ID and three reads of SFDP
+-- The greatest number of transactions of a probe: 65,536 polls, one read of the ID and three reads of SFDP.
 abbrev pub most_probe : ℕ
 most_probe = 65540
 
@@ -31,7 +30,7 @@ abbrev pub BlamesName : Option ChipName → ProbeFault → Type 0
 BlamesName None OtherName = ⊥
 BlamesName named fault = ⊤
 
--- the number of reads that identify a chip: one of its ID (9Fh), and three of its SFDP (5Ah) if no row applies
+-- The number of reads that identify a chip: one of its ID (9Fh), and three of its SFDP (5Ah) if no row applies.
 abbrev pub reads_by : Option Part → ℕ
 reads_by (Some part) = 1
 reads_by None = 4
@@ -42,7 +41,7 @@ reads_of of_id = if is_no_chip of_id then 1 else reads_by (part_with_id of_id)
 abbrev pub reads_for : (further : Bool) → List ℕ → ℕ
 reads_for further of_id = if is_no_chip of_id then 1 else reads_by (part_for further of_id)
 
--- the number of transactions that a probe of this chip needs; each BUSY that the chip still shows takes one poll
+-- The number of transactions that a probe of this chip needs; each BUSY that the chip still shows takes one poll.
 abbrev pub needed : Chip → ℕ
 needed chip = chip.busy + 1 + reads_of (id_of chip.config)
 
@@ -61,7 +60,6 @@ pub record IsCounted (old : BusState) (probed : Probed) : Type 0 where
   pub most : probed.transactions ≤ most_probe
   pub sent : old.honest ≡ true → probed.transactions ≡ needed old.chip
 
--- Holds after a probe on a well-behaved bus that found a chip.
 pub record Finds (old new : BusState) (found : Found) : Type 0 where
   pub rested : Rested old new
   pub part : shown_as old.chip.config ≡ Ok (part_in found)
@@ -91,7 +89,7 @@ pub record HasProbed (old new : BusState) : Type 0 where
   pub rested : Rested old new
   pub count : Spent (needed old.chip) old new
 
--- The meaning of each fault on a well-behaved bus.
+-- Holds if a probe on a well-behaved bus may return this fault.
 abbrev pub ProbeErrors : Option ChipName → (old new : BusState) → ProbeFault → Type 0
 ProbeErrors named old new NoChip = (shown_as old.chip.config ≡ Err NoChip) × HasProbed old new
 ProbeErrors named old new (UnknownChip fault) = (shown_as old.chip.config ≡ Err (UnknownChip fault)) × HasProbed old new
@@ -99,7 +97,6 @@ ProbeErrors named old new OtherName = HasOtherName named old.chip.config × HasP
 ProbeErrors named old new Stopped = RanOut (needed old.chip) old new × RanOut most_probe old new
 ProbeErrors named old new Timeout = ⊥
 
--- The promises of a probe on every bus.
 pub record ProbeAlways (named : Option ChipName) (old new : BusState) (result : Result Found ProbeFault) : Type 0 where
   pub only_reads : OnlyReads most_probe old new
   pub part : IfOk result (IsPart old.further)
@@ -109,7 +106,6 @@ pub record ProbeAlways (named : Option ChipName) (old new : BusState) (result : 
   pub replied : IfOk result (IsFoundBy old.further new.history)
   pub last_transaction : IfErr result (ProbeEndsAt new.history)
 
--- The promises of a probe on a well-behaved bus.
 pub record ProbeHonest (named : Option ChipName) (old new : BusState) (result : Result Found ProbeFault) : Type 0 where
   pub finds : IfOk result (Finds old new)
   pub errors : IfErr result (ProbeErrors named old new)

@@ -1,4 +1,3 @@
--- The properties that a chip shows (ID, SFDP), and the definitions of genuine and known chips.
 use Rattle.std.specs.Prelude.{◌≡◌, ◌+◌, ◌*◌, ◌||◌, ℕ, Bool, true, false, Option, None, Some, Result, Ok, Err, List, [], ◌∷◌, bytes_eq, slice_index, IsOk, if◌then◌else◌}
 use Rattle.nor_model.specs.declared.config.Config.{Config}
 use Rattle.nor_model.specs.Bus.{BusState}
@@ -21,7 +20,7 @@ part_in found =
 abbrev pub is_no_chip : (of_id : List ℕ) → Bool
 is_no_chip of_id = bytes_eq of_id (0xFF ∷ 0xFF ∷ 0xFF ∷ []) || bytes_eq of_id (0x00 ∷ 0x00 ∷ 0x00 ∷ [])
 
--- the address of the table that a parameter header contains: three bytes, little-endian (JESD216)
+-- The address of the table that a parameter header contains: three bytes, little-endian (JESD216).
 abbrev pub pointer_in : (first : List ℕ) → ℕ
 pointer_in first = slice_index first 4 + 256 * slice_index first 5 + 65536 * slice_index first 6
 
@@ -40,8 +39,7 @@ abbrev pub listed_or : (by_sfdp : Result Part ProbeFault) → Option Part → Re
 listed_or by_sfdp (Some part) = Ok part
 listed_or by_sfdp None = by_sfdp
 
--- The chip type that a chip shows: the row of the table with its ID or, without a row, the type that its SFDP
--- describes.
+-- The chip type that a chip shows: the row of the table with its ID or, without a row, the type by its SFDP.
 abbrev pub shown_as : Config → Result Part ProbeFault
 shown_as config =
     if is_no_chip (id_of config) then Err NoChip
@@ -51,8 +49,8 @@ pub record HasGeometry (geometry : Geometry) (config : Config) : Type 0 where
   pub size : config.size ≡ geometry.size
   pub kinds : config.kinds ≡ geometry.kinds
 
--- Holds for the configuration of a genuine chip. Without a row for its ID, it has no block protection and, if its SFDP
--- is accepted, the size and the erase types that the SFDP describes.
+-- Holds for the configuration of a genuine chip. Without a row for its ID, a genuine chip has no block protection and,
+-- if its SFDP is accepted, the size and the erase types that the SFDP describes.
 pub record IsGenuine (config : Config) : Type 0 where
   pub listed : (part : Part) → part_with_id (id_of config) ≡ Some part
       → HasGeometry (record { size = part.size; kinds = part.kinds }) config × (config.scheme ≡ part.scheme)

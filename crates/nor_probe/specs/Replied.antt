@@ -1,4 +1,3 @@
--- The replies by which a chip was identified, on every bus.
 use Rattle.std.specs.Prelude.{◌≡◌, ℕ, Bool, None, Ok, List, [], ◌∷◌, ⊤}
 use Rattle.nor_model.specs.Exchange.{Exchange}
 use Rattle.nor_model.specs.History.{Continues, Answered, EndsStopped, EndsBusy, last_reply, begins_with, names}
@@ -12,8 +11,7 @@ use Rattle.nor_probe.specs.Known.{part_in, pointer_in, sfdp_part}
 use Rattle.nor_probe.specs.Sfdp.{sfdp_says}
 use Rattle.nor_probe.specs.Table.{part_for}
 
--- Holds if the last three transactions read the SFDP header, the first parameter header, and the table whose address
--- that parameter header contains. The number of bytes read is not stated.
+-- Holds if the last three transactions read the SFDP header, the first parameter header, and that header's table.
 pub record RepliedSfdp (history : List Exchange) (header first table : List ℕ) : Type 0 where
   pub before : List Exchange
   pub at_header : List Exchange

@@ -1,6 +1,5 @@
 -- The meaning of SFDP bytes (JESD216). `header` has the eight bytes at 0, `first` the first parameter header, and
--- `table` the 36 bytes of the basic flash parameter table, at the address that `first` contains. Bits that no
--- definition here uses are ignored.
+-- `table` the basic flash parameter table, at the address that `first` contains.
 use Rattle.std.specs.Prelude.{ℕ, ◌==◌, ◌+◌, ◌-◌, ◌*◌, ◌/◌, ◌%◌, ◌^◌, nat_lt, nat_le, Bool, not, ◌&&◌, ◌||◌, if◌then◌else◌, List, [], ◌∷◌, ◌++◌, Result, Ok, Err, slice_index}
 use Rattle.byteorder.specs.Endian.{little_from}
 use Rattle.nor_model.specs.Size.{is_chip_size}
@@ -8,7 +7,7 @@ use Rattle.nor_probe.specs.declared.sfdp.Geometry.{Geometry}
 use Rattle.nor_probe.specs.declared.sfdp.SfdpFault.{SfdpFault}
 use Rattle.nor_probe.specs.declared.sfdp.SfdpFault.TheVariants.{Signature, Major, FirstHeader, Length, Address, Granularity, Size, NoSector}
 
--- double word k of the table, counted from 1
+-- Double word `k` of the table, counted from 1.
 unfoldable pub double_word : (k : ℕ) → (table : List ℕ) → ℕ
 double_word k table = little_from (4 * (k - 1)) 4 table
 
@@ -17,8 +16,7 @@ has_signature header =
     slice_index header 0 == 0x53 && slice_index header 1 == 0x46
     && slice_index header 2 == 0x44 && slice_index header 3 == 0x50
 
--- True if the first parameter header is that of the basic flash parameter table, in major revision 1. Only the low byte
--- of its ID and its major revision are compared.
+-- True if the first parameter header is that of the basic flash parameter table, in major revision 1.
 unfoldable pub is_basic : (first : List ℕ) → Bool
 is_basic first = slice_index first 0 == 0 && slice_index first 2 == 1
 
@@ -27,11 +25,11 @@ is_basic first = slice_index first 0 == 0 && slice_index first 2 == 1
 unfoldable pub address_mode : (table : List ℕ) → ℕ
 address_mode table = double_word 1 table / 2 ^ 17 % 4
 
--- true if the write granularity is 64 bytes or more, as bit 2 of double word 1 says
+-- True if the write granularity is 64 bytes or more, as bit 2 of double word 1 says.
 unfoldable pub has_write_granularity : (table : List ℕ) → Bool
 has_write_granularity table = double_word 1 table / 2 ^ 2 % 2 == 1
 
--- the size in bits: the value of double word 2 plus one or, if bit 31 is set, two to the power of the other bits
+-- The size in bits: the value of double word 2 plus one or, if bit 31 is set, two to the power of the other bits.
 unfoldable pub size_in_bits : (density : ℕ) → ℕ
 size_in_bits density = if nat_lt density (2 ^ 31) then density + 1 else 2 ^ (density - 2 ^ 31)
 
@@ -41,13 +39,13 @@ is_chip_size_in_bits bits = bits % 8 == 0 && is_chip_size (bits / 8)
 abbrev pub is_erase_type_at : (exponent opcode : ℕ) → (table : List ℕ) → (at : ℕ) → Bool
 is_erase_type_at exponent opcode table at = slice_index table at == exponent && slice_index table (at + 1) == opcode
 
--- true if one of the four erase types in double words 8 and 9 has this exponent of its size and this opcode
+-- True if one of the four erase types in double words 8 and 9 has this exponent of its size and this opcode.
 unfoldable pub has_erase_type : (exponent opcode : ℕ) → (table : List ℕ) → Bool
 has_erase_type exponent opcode table =
     is_erase_type_at exponent opcode table 28 || is_erase_type_at exponent opcode table 30
     || is_erase_type_at exponent opcode table 32 || is_erase_type_at exponent opcode table 34
 
--- the faults of the headers, each with its condition, in the order in which they are checked
+-- The faults of the headers, each with its condition, in the order in which they are checked.
 abbrev pub header_faults : (header first : List ℕ) → List (Bool × SfdpFault)
 header_faults header first =
     (not (has_signature header), Signature)

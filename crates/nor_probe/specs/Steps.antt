@@ -1,4 +1,3 @@
--- The effect and the result of each step of a probe.
 use Rattle.std.specs.Prelude.{◌≡◌, ◌+◌, ◌<◌, ◌⊎◌, ℕ, Bool, true, false, None, Some, Ok, Err, List, ⊤}
 use Rattle.nor_model.specs.declared.config.Config.{Config}
 use Rattle.nor_model.specs.Size.{is_chip_size}
@@ -48,14 +47,14 @@ pub record ReadsGeometry (old new : BusState) (geometry : Geometry) : Type 0 whe
   pub count : Spent 3 old new
   pub says : old.chip.busy ≡ 0 → chip_says old.chip.config ≡ Ok geometry
 
--- The meaning of each fault of a function that reads only the SFDP, for an idle chip on a well-behaved bus.
+-- Holds if a function that reads only the SFDP may return this fault, for an idle chip on a well-behaved bus.
 abbrev pub GeometryErrors : (old new : BusState) → ProbeFault → Type 0
 GeometryErrors old new (UnknownChip fault) =
     (chip_says old.chip.config ≡ Err fault) × Spent 3 old new × Rested old new
 GeometryErrors old new Stopped = RanOut 3 old new
 GeometryErrors old new _ = ⊥
 
--- Holds if a punctual bus carried out the reads of a probe except the read of the ID, which `reads_of` counts, too.
+-- Holds if a punctual bus carried out the reads of a probe except the read of the ID. `reads_of` counts all reads.
 abbrev pub SpentAfterId : (old new : BusState) → Type 0
 SpentAfterId old new = old.punctual ≡ true → old.left + 1 ≡ new.left + reads_of (id_of old.chip.config)
 

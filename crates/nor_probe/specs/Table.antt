@@ -1,5 +1,3 @@
--- The table of the chips that are known by their ID, the emulated chips, the further rows that only programs for real
--- chips use, and the names of chips.
 use Rattle.std.specs.Prelude.{◌≡◌, ℕ, Bool, true, false, Option, None, Some, List, [], ◌∷◌, find, bytes_eq, codes}
 use Rattle.std.specs.Prelude.{if◌then◌else◌}
 use Rattle.nor_model.specs.Makers.{all_kinds, IsEmulatedWith}
@@ -10,7 +8,7 @@ use Rattle.nor_probe.specs.declared.table.ChipName.TheVariants.{W25Q32FV, W25Q32
 use Rattle.nor_probe.specs.declared.table.ChipName.TheVariants.{W25Q32JVM, W25Q64JVM, W25Q128JVM}
 use Rattle.nor_probe.specs.declared.table.Part.{Part}
 
--- the text of a name; no chip has the name `other`, which is the text of `Other`
+-- The text of a name. No chip has the name `other`, which is the text of `Other`.
 abbrev pub name_text : ChipName → List ℕ
 name_text W25Q64FV = codes "W25Q64FV"
 name_text W25Q128FV = codes "W25Q128FV"
@@ -24,8 +22,7 @@ name_text W25Q128JVM = codes "W25Q128JV-M"
 name_text Sfdp = codes "SFDP"
 name_text Other = codes "other"
 
--- A row for a Winbond chip, which has all erase types and block protection. (W25Q64FV and W25Q128FV datasheets:
--- manufacturer and device identification, memory organization, instruction set table.)
+-- A row for a Winbond chip, which has all erase types and block protection.
 abbrev pub winbond : ChipName → (with_id : List ℕ) → (with_size : ℕ) → Part
 winbond called with_id with_size =
     record { name = called; id = with_id; size = with_size; kinds = all_kinds; scheme = true }
@@ -36,9 +33,7 @@ chips =
     ∷ winbond W25Q128FV (0xEF ∷ 0x40 ∷ 0x18 ∷ []) 16777216
     ∷ []
 
--- The further rows, of chips of further types. They have the instructions and the block protection of the chips of the
--- table. (Winbond datasheets W25Q32FV, W25Q32FW, W25Q64FW, W25Q128FW, W25Q32JV-DTR, W25Q64JV-DTR and W25Q128JV-DTR:
--- manufacturer and device identification, status register memory protection.)
+-- The further rows. Their chips have the instructions and the block protection of the chips of the table.
 abbrev pub further_chips : List Part
 further_chips =
     winbond W25Q32FV (0xEF ∷ 0x40 ∷ 0x16 ∷ []) 4194304
@@ -80,7 +75,7 @@ name_of text =
     name_or (if bytes_eq text (codes "SFDP") then Sfdp else Other)
     (row_or (further_with_name text) (part_with_name text))
 
--- the type of the emulated chip TINY64, which its SFDP gives; its ID isn't in the table
+-- The type of the emulated chip TINY64, whose ID isn't in the table.
 abbrev pub tiny64 : Part
 tiny64 = record { name = Sfdp; id = 0xFE ∷ 0x10 ∷ 0x10 ∷ []; size = 65536; kinds = all_kinds; scheme = false }
 

@@ -24,15 +24,14 @@ pub enum ProbeFault {
     /// The ID reads `FF FF FF` or `00 00 00`, as it does if nothing drives the bus.
     #[error("there is no chip")]
     NoChip,
-    /// No row applies to the ID, and the chip's SFDP is refused for this reason.
+    /// No row of the table of chips applies to the ID, and the chip's SFDP is refused for this reason.
     #[error("the chip isn't known: {0}")]
     UnknownChip(SfdpFault),
-    /// The chip was identified, and has another name than the given one.
     #[error("the chip has another name")]
     OtherName,
     #[error("the bus stopped")]
     Stopped,
-    /// 65,536 polls in a row showed BUSY.
+    /// 65,536 polls in a row showed BUSY, which doesn't occur on a well-behaved bus.
     #[error("the chip stayed busy")]
     Timeout,
 }
@@ -40,16 +39,14 @@ pub enum ProbeFault {
 /// The chip that was found, with its status 1.
 #[derive(Clone, Copy, Debug, PartialEq, Eq)]
 pub struct Found {
-    /// The name in the chip's row, or `Sfdp` if it was identified by its SFDP.
+    /// The name in the row that applies to the ID, or `Sfdp` if the chip was identified by its SFDP.
     pub name: ChipName,
-    /// The ID, as 9Fh returned it.
     pub id: [u8; 3],
     /// The size in bytes. A probe returns a power of two from 65,536 to 16,777,216.
     pub size: u32,
     pub kinds: Kinds,
-    /// Whether the chip has block protection. It is false for a chip that was identified by its SFDP.
+    /// Whether the chip has block protection: false for a chip that was identified by its SFDP.
     pub scheme: bool,
-    /// Status 1, as the last poll returned it.
     pub status1: u8,
 }
 
@@ -60,17 +57,12 @@ pub struct Probed {
     pub transactions: u64,
 }
 
-/// Identifies the chip on the bus. Waits until the chip is idle, with at most 65,536 polls (05h), and reads its ID
-/// (9Fh). If no row applies to the ID on this bus (`part_for`, with further rows if `has_further_types` returns true),
-/// also reads its SFDP with three reads (5Ah). If `named` is given, the chip must have this name.
+/// Waits until the chip on the bus is idle, and identifies it by its ID (9Fh) or, if no row applies to the ID, by its
+/// SFDP (5Ah). `part_for` returns the row that applies; further rows apply only if `has_further_types` returns true. If
+/// `named` is given, the chip must have this name.
 ///
-/// On any bus, the ID and status 1 returned are the last replies to 9Fh and 05h, the size is a power of two from 64 KiB
-/// to 16 MiB, and the last poll showed that the chip is ready. On a modelled bus, the size, erase types and block
-/// protection are those of the chip.
-///
-/// Returns `NoChip`, `UnknownChip` or `OtherName`, checked in this order. Returns `Stopped` if the bus stopped, and
-/// `Timeout` if 65,536 polls showed BUSY, which doesn't occur on a well-behaved bus. Nothing is sent after a stop or
-/// a timeout.
+/// On any bus, the ID and status 1 returned are the last replies to 9Fh and 05h, and nothing is sent after a stop or a
+/// timeout. On a modelled bus, the size, erase types and block protection are those of the chip.
 pub fn probe<B: Bus>(bus: &mut B, named: Option<ChipName>) -> Result<Found, ProbeFault>
     ensures always { ProbeAlways named (B.state bus.old) (B.state bus.new) result }
     ensures honest { (B.state bus.old).honest ≡ true
@@ -82,8 +74,7 @@ pub fn probe<B: Bus>(bus: &mut B, named: Option<ChipName>) -> Result<Found, Prob
     Ok(probed.found)
 }
 
-/// Identifies the chip as `probe` does, with the same errors. Also returns the number of transactions sent, which is at
-/// most 65,540, and on a well-behaved bus exactly what the chip needs.
+/// Identifies the chip as `probe` does, and also returns the number of transactions sent, which is at most 65,540.
 #[tactic(auto, using(crate::proofs::Sizes::size_at_least, crate::proofs::Sizes::size_at_most, crate::proofs::Sizes::size_in_blocks))]
 pub fn probe_counted<B: Bus>(bus: &mut B, named: Option<ChipName>) -> Result<Probed, ProbeFault>
     ensures always { ProbeAlways named (B.state bus.old) (B.state bus.new) (found_in result) }

@@ -24,10 +24,8 @@ pub struct Geometry {
 /// The reason why an SFDP is refused. The variants are in the order in which they are checked.
 #[derive(Clone, Copy, Debug, PartialEq, Eq, Error)]
 pub enum SfdpFault {
-    /// The header doesn't begin with `SFDP`.
     #[error("the SFDP header has another signature")]
     Signature = 1,
-    /// The major revision in the header isn't 1.
     #[error("the SFDP has a major revision other than 1")]
     Major,
     /// The first parameter header isn't that of the basic flash parameter table in major revision 1.
@@ -42,7 +40,6 @@ pub enum SfdpFault {
     /// The write granularity is below 64 bytes, so the chip isn't written in pages.
     #[error("the chip is not written in pages")]
     Granularity,
-    /// The size isn't a power of two from 64 KiB to 16 MiB.
     #[error("the size is not a power of two from 64 KiB to 16 MiB")]
     Size,
     /// None of the four erase types is 4 KiB with opcode 20h.
@@ -61,7 +58,7 @@ impl SfdpFault {
     }
 }
 
-// The erase types are in double words 8 and 9.
+// The least number of double words in the table, because the erase types are in double words 8 and 9.
 const TABLE_LENGTH: u8 = 9;
 
 // Bit 31 of the density double word. If it is set, the other bits are the binary logarithm of the size in bits.
@@ -72,10 +69,9 @@ const LEAST_BITS: u32 = 1 << 19;
 // The binary logarithm of the largest supported size in bits: 16 MiB has 2^27 bits.
 const MOST_EXPONENT: u32 = 27;
 
-/// Decodes the SFDP of a chip. Returns the chip's size and erase types, or the first fault in the order of `SfdpFault`.
-///
-/// `header` has the bytes of the SFDP at 0 to 7, `first` those at 8 to 15, and `table` the 36 bytes at the address that
-/// `first` contains.
+/// Decodes the SFDP of a chip (JESD216). Returns the chip's size and erase types, or the first fault in the order of
+/// `SfdpFault`. `header` has the bytes of the SFDP at 0 to 7, `first` those at 8 to 15, and `table` the 36 bytes at the
+/// address that `first` contains.
 pub fn read_sfdp(header: &[u8; 8], first: &[u8; 8], table: &[u8; 36]) -> Result<Geometry, SfdpFault>
     ensures says { result ≡ sfdp_says header.now first.now table.now }
     ensures sized { IfOk result (λ geometry. is_chip_size geometry.size ≡ true) }

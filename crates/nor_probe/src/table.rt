@@ -27,8 +27,7 @@ pub enum ChipName {
 }
 
 impl ChipName {
-    /// Returns the name with exactly the text `text` (upper case): that of a chip with a row, or `Sfdp`. Returns
-    /// `Other` for any other text.
+    /// Returns the name with exactly the text `text` (upper case), or `Other` if there is none.
     pub fn of(text: &str) -> ChipName
         ensures { result ≡ name_of text.now }
     {
@@ -60,20 +59,17 @@ impl ChipName {
     }
 }
 
-/// A chip type: its name, ID, size, erase types, and whether it has block protection.
+/// A chip type: its name, ID (9Fh), size in bytes, erase types, and whether it has block protection (`scheme`).
 #[derive(Clone, Copy, Debug, PartialEq, Eq)]
 pub struct Part {
     pub name: ChipName,
-    /// The ID, as 9Fh returns it.
     pub id: [u8; 3],
-    /// The size in bytes.
     pub size: u32,
     pub kinds: Kinds,
-    /// Whether the chip has block protection.
     pub scheme: bool,
 }
 
-// This is a macro because the value of a constant can't call a function.
+// This is a macro because, in Rattle, the value of a constant can't call a function.
 macro_rules! winbond {
     ($name:ident, $id:expr, $size:expr) => {
         Part {
@@ -112,22 +108,21 @@ const TINY64: Part = Part {
     scheme: false,
 };
 
-/// Returns the table of the chips that are known by their ID.
+/// Returns the table of the chips that are known by their ID, without the further rows.
 pub fn chips() -> &'static [Part]
     ensures { result.now ≡ chips }
 {
     &CHIPS
 }
 
-/// Returns the row of the table with this ID, or `None` if no row has it.
+/// Returns the row of `chips` with this ID, or `None` if no row has this ID.
 pub fn part_of(id: [u8; 3]) -> Option<Part>
     ensures { result ≡ part_with_id id }
 {
     CHIPS.iter().find(|part| part.id == id).copied()
 }
 
-/// Returns the row that applies to a chip with this ID: that of the table or, if `further` is true and the table has
-/// none, the further row. Returns `None` if there is no such row.
+/// Returns the row of `chips` with this ID or, if `further` is true and `chips` has none, the further row with this ID.
 pub fn part_for(further: bool, id: [u8; 3]) -> Option<Part>
     ensures { result ≡ part_for further id }
 {

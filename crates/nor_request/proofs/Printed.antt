@@ -1,4 +1,3 @@
--- The format `{:06x}` prints a hexadecimal number with leading zeros.
 use Rattle.std.proofs.Common.{◌≡◌, ℕ, ◌-◌, ◌^◌, false, [], length, append-nil, arith}
 use Rattle.std.specs.Fmt.{char_count, digits, format_spec, padded_integral}
 use Rattle.nor_request.specs.Texts.{hex_digits}

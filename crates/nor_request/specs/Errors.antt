@@ -1,4 +1,3 @@
--- The meaning of errors during identification, and the last transaction before an error.
 use Rattle.std.specs.Prelude.{◌≡◌, ℕ, true, Option, List, ⊤}
 use Rattle.nor_model.specs.Exchange.{Exchange}
 use Rattle.nor_model.specs.History.{EndsStopped, EndsBusy, EndsReading}
@@ -10,7 +9,7 @@ use Rattle.nor_probe.specs.Found.{ProbeErrors}
 use Rattle.nor_request.specs.declared.refusal.Refusal.{Refusal}
 use Rattle.nor_request.specs.declared.refusal.Refusal.TheVariants.{NoChip, UnknownChip, OtherName, Stopped, Timeout, Mismatch}
 
--- The meaning of an error of identification, which needs at most `most` transactions.
+-- Holds if identification, which needs at most `most` transactions, may have failed with this error.
 abbrev pub IdentificationErrors : (most : ℕ) → Option ChipName → (old new : BusState) → Refusal → Type 0
 IdentificationErrors most named old new NoChip = old.honest ≡ true → ProbeErrors named old new Probes.NoChip
 IdentificationErrors most named old new (UnknownChip fault) =

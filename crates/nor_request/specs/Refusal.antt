@@ -1,4 +1,3 @@
--- The numbers of errors, and the error that a call returns if a probe, an operation or a wait failed.
 use Rattle.std.specs.Prelude.{ℕ}
 use Rattle.nor_driver.specs.declared.waits.OperationError.{OperationError}
 use Rattle.nor_driver.specs.declared.waits.OperationError.TheVariants as OperationFails
@@ -29,7 +28,6 @@ refusal_number Memory = 18
 refusal_number (Output written) = 19
 refusal_number OtherUnit = 20
 
--- The error for a probe's fault. The address of a timeout is 0, because the wait follows no modifying command.
 abbrev pub of_probe : ProbeFault → Refusal
 of_probe Probes.NoChip = NoChip
 of_probe (Probes.UnknownChip fault) = UnknownChip fault

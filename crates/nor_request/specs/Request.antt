@@ -1,4 +1,3 @@
--- The change that a request asks of a chip.
 use Rattle.std.specs.Prelude.{◌≡◌, ◌&&◌, ℕ, Bool, true, false, nat_lt, List, None, slice_index, if◌then◌else◌}
 use Rattle.nor_model.specs.Chip.{Chip}
 use Rattle.nor_model.specs.Guard.{code_of}
@@ -22,7 +21,6 @@ target _ image a = 255
 abbrev pub is_requested : Request → (size a : ℕ) → Bool
 is_requested request size a = is_data request.what && (nat_lt a size && includes request.included a)
 
--- The target byte at the address `a`: if the request may not change it, the chip's own byte.
 abbrev pub wanted : Request → (image : List ℕ) → Chip → (a : ℕ) → ℕ
 wanted request image chip a =
     if is_requested request chip.config.size a then target request.what image a else chip.bytes a

@@ -1,4 +1,3 @@
--- The texts of errors. Messages show the text after the number.
 use Rattle.std.specs.Prelude.{ℕ, ◌-◌, false, List, [], ◌∷◌, ◌++◌, codes, decimal, length, replicate}
 use Rattle.std.specs.Fmt.{digits}
 use Rattle.std.specs.List.{concat}

@@ -1,10 +1,8 @@
-//! Defines the requests that a session can be asked to perform, the reports that calls return on success, and the
-//! errors that they return on failure. Each error has a number and a text.
+//! The requests, the reports and the errors of sessions and other calls. Each error has a number and a text.
 //!
 //! ```rust
 //! use nor_request::{Refusal, Request};
 //!
-//! // Each byte of a chip of any name becomes FFh, and the touched sectors are then read back and compared.
 //! let erase = Request::erase().verified();
 //! assert!(rt; erase.is_data());
 //! let refusal = Refusal::Protected { address: 0x1000 };

@@ -10,15 +10,14 @@ use nor_probe::{ProbeFault, SfdpFault};
 use std::error::Error;
 use std::fmt;
 
-/// The reason why a call failed. A session checks errors 1 to 10 in the order of their numbers, and returns the first
-/// one that applies, unless the bus stops, the chip stays busy or the vault fails first.
+/// The error of a failed call. A session returns the lowest of errors 1 to 10 that applies if none of 11 to 13 occurs.
 #[derive(Clone, Copy, Debug, PartialEq, Eq)]
 pub enum Refusal {
     /// 1: the ID reads `FF FF FF` or `00 00 00`, as it does if nothing drives the bus.
     NoChip,
     /// 2: no row applies to the ID, and the chip's SFDP is refused for the given reason.
     UnknownChip(SfdpFault),
-    /// 3: the name of the chip differs from the requested one.
+    /// 3: the name of the chip isn't the requested one.
     OtherName,
     /// 4: the image and the chip have different lengths. `chip` and `image` are the two lengths in bytes.
     ImageSize { chip: u32, image: usize },
@@ -32,15 +31,13 @@ pub enum Refusal {
     RangeNotOffered,
     /// 9: the status registers must be written, but SRP0 or SRP1 is set, so they count as locked.
     StatusLocked,
-    /// 10: a sector that would change contains a protected address, and the request doesn't lift protection. `address`
-    /// is the first address of the lowest of these sectors.
+    /// 10: a touched sector has a protected address, and `unlock` isn't set. The first such sector is at `address`.
     Protected { address: u32 },
     /// 11: the vault refused a piece of the journal, or it refused to be sealed.
     Vault,
     /// 12: the bus stopped.
     Stopped,
-    /// 13: status 1 showed BUSY in 65,536 polls in a row. `address` is the address of the command before the polls, or
-    /// 0 during identification, for a chip erase, and for a status write.
+    /// 13: 65,536 polls in a row showed BUSY. `address` is the one in the command before them, or 0 if there is none.
     Timeout { address: u32 },
     /// 14: bytes that were read differ from the expected ones. `address` is the first address at which they differ.
     Mismatch { address: u32 },
@@ -48,10 +45,9 @@ pub enum Refusal {
     BadJournal(JournalFault),
     /// 16: the chip's ID or size differs from the journal's.
     OtherChip,
-    /// 17: a non-volatile status bit differs from the journal's. On a chip with block protection, the protection bits
-    /// may differ.
+    /// 17: a non-volatile status bit, except protection bits of a chip that has them, differs from the journal's.
     StatusDiffers,
-    /// 18: out of memory.
+    /// 18: memory ran out.
     Memory,
     /// 19: the output failed after `written` bytes had been written.
     Output { written: u64 },
@@ -62,7 +58,7 @@ pub enum Refusal {
 impl Refusal {
     ghost use Rattle.nor_request.specs.Refusal.{refusal_number};
 
-    /// Returns the number of the error, from 1 to 20, which messages show.
+    /// Returns the number of the error, from 1 to 20, which messages print.
     pub fn number(self) -> u8
         ensures { result ≡ refusal_number self }
     {
@@ -90,7 +86,6 @@ impl Refusal {
         }
     }
 
-    /// Returns whether the error is that the bus stopped (error 12).
     pub fn is_stopped(self) -> bool
         ensures { IsTrue result ↔ (self ≡ Refusals.Stopped) }
     {

@@ -1,7 +1,6 @@
 //! The report of a call that succeeded.
 use nor_probe::Found;
 
-/// What a call that succeeded did.
 #[derive(Clone, Copy, Debug, PartialEq, Eq)]
 pub struct Report {
     pub found: Found,

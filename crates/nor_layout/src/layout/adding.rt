@@ -20,7 +20,6 @@ pub enum RegionFault {
     Twice,
     /// The layout has 64 regions already.
     TooMany,
-    /// An allocation failed.
     Memory,
 }
 
@@ -67,8 +66,8 @@ impl Layout {
         }
     }
 
-    /// Adds a region after the others. Its end, which belongs to it, must not be below its start. It may overlap
-    /// others. Returns the first fault in the order of `RegionFault`. After an error the layout is unchanged.
+    /// Adds a region after the others, which it may overlap. `region.end`, which is included, must not be below
+    /// `region.start`. Returns `Memory` if an allocation fails. After an error the layout is unchanged.
     pub fn add(&mut self, region: Region) -> Result<(), RegionFault>
         requires { region.start ≤ region.end }
         ensures { Adds self.old self.new region result }

@@ -5,8 +5,8 @@ ghost use Rattle.nor_model.specs.Size.{is_chip_size};
 
 use super::{CODES, least_at};
 
-/// An iterator over the ranges that defined codes protect, in the order of their least codes. An item is the first
-/// address and the length in bytes.
+/// An iterator over the ranges that block protection offers, each once, in the order of the codes that `code_for`
+/// returns for them. An item is the first address (0 if the range is empty) and the length in bytes.
 #[derive(Drop, Debug)]
 pub struct Offered {
     size: u32,

@@ -3,7 +3,6 @@ use Rattle.nor_layout.specs.Ranges.{AreRanges, contains}
 use Rattle.nor_layout.specs.Steps.{is_listed_address}
 use Rattle.nor_layout.proofs.layout.listed_ranges.Given as goal
 
--- The set has the addresses of the listed regions read so far, in at most one span per region.
 abbrev pub invariant-loop-region : goal.invariant-loop-region
 invariant-loop-region l = record {
   few : length l.ranges ≤ l.region-index;

@@ -3,7 +3,6 @@ use Rattle.nor_layout.specs.Text.{AreRegions}
 use Rattle.nor_layout.proofs.Texts.{LinesDefine}
 use Rattle.nor_layout.proofs.layout.Layout.read.Given as goal
 
--- The regions are those that the lines read so far define.
 abbrev pub invariant-loop-line : goal.invariant-loop-line
 invariant-loop-line l = record {
   counted : l.number ≡ length l.yielded;

@@ -1,4 +1,4 @@
--- This proof, by the laws of the separation logic, states the new lists, because no code computes them.
+-- The proof, by the laws of the separation logic, that `History::with` returns the lists in its clauses.
 use Rattle.std.proofs.Common.{List, [], ◌∷◌, ◌++◌, refl}
 use seplogic.Ra.Ura.{Ura}
 use mir.Syntax.{Fn}
