@@ -23,7 +23,6 @@ unanswered_by true busy does = absurd (busy refl)
 unanswered_by false busy does =
     three (does.replies 0 (omega arith)) (does.replies 1 (omega arith)) (does.replies 2 (omega arith))
 
--- What a chip returns as its ID.
 pub id_read : (id : List ℕ) (old new : BusState) → length id ≡ 3
     → (old.honest ≡ true → Carries (0x9F ∷ []) id old new) → IsIdOf id old
 id_read [] old new len carries = absurd (omega (arith, len))
@@ -41,7 +40,6 @@ eight : {a b c d e f g h s t u v w x y z : ℕ} → a ≡ s → b ≡ t → c �
     → (a ∷ b ∷ c ∷ d ∷ e ∷ f ∷ g ∷ h ∷ []) ≡ (s ∷ t ∷ u ∷ v ∷ w ∷ x ∷ y ∷ z ∷ [])
 eight p q r s t u v w = λ i. p i ∷ q i ∷ r i ∷ s i ∷ t i ∷ u i ∷ v i ∷ w i ∷ []
 
--- An idle chip returns its unique ID.
 unique_by : {old new : Chip} (out raw : List ℕ) → length raw ≡ 8 → Does (read_of true ReadUnique) out old raw new
     → raw ≡ chip_unique old.config
 unique_by out [] len does = absurd (omega (arith, len))
@@ -70,7 +68,7 @@ unique_step opcode w x y z raw {old} {new} is idle len step =
     (subst (λ (is : Bool). Does (read_of is ReadUnique) (z ∷ []) old raw new)
     (ap (λ (n : ℕ). n == 0) idle) read)
 
--- If a chip that has a unique ID returns none, it is busy.
+-- If the chip has a unique ID, but a read of the unique ID returned none (`raw`), the chip is busy.
 pub unique_busy : (rows : List (List ℕ)) (out raw : List ℕ) (old new : Chip) → is_unique_read out ≡ true
     → is_missing raw ≡ true → keeps_replies rows old.config ≡ true → Step old out raw new → old.busy ≡ 0 → ⊥
 unique_busy rows [] raw old new reads missing keeps step idle = false≢true reads
@@ -114,12 +112,10 @@ row_by false rows id inside busy honest keeps is =
     ap (λ (one : List ℕ). has_no_row rows one)
     (is.busy honest (λ idle. false≢true (sym busy ∙ ap (λ (n : ℕ). n == 0) idle)))
 
--- A chip that keeps its replies has a row, or is busy.
 pub has_row : (rows : List (List ℕ)) (id : List ℕ) (inside : BusState) → inside.honest ≡ true
     → keeps_replies rows inside.chip.config ≡ true → IsIdOf id inside → has_no_row rows id ≡ false
 has_row rows id inside honest keeps is = row_by (inside.chip.busy == 0) rows id inside refl honest keeps is
 
--- So it isn't a chip without a row.
 pub absurd_row : (rows : List (List ℕ)) (id : List ℕ) (inside : BusState) → inside.honest ≡ true
     → keeps_replies rows inside.chip.config ≡ true → IsIdOf id inside → has_no_row rows id ≡ true → ⊥
 absurd_row rows id inside honest keeps is none = false≢true (sym (has_row rows id inside honest keeps is) ∙ none)
@@ -128,10 +124,8 @@ pub replies_same : {rows rows' : List (List ℕ)} {config config' : Config} → 
     → keeps_replies rows' config' ≡ keeps_replies rows config
 replies_same rows config = λ i. keeps_replies (rows i) (config i)
 
--- A busy chip that was asked for its unique ID is still busy.
 pub still_busy : {old mid : BusState} → KeepsAll old mid → (old.chip.busy ≡ 0 → ⊥) → mid.chip.busy ≡ 0 → ⊥
 still_busy keeps busy idle = busy (ap (λ (chip : Chip). chip.busy) (sym keeps.chip) ∙ idle)
 
--- An ID that isn't FFFFFFh isn't the reply of a busy chip.
 pub answered_not : (id : List ℕ) → bytes_eq id unanswered ≡ false → id ≡ unanswered → ⊥
 answered_not id differs same = false≢true (sym differs ∙ ap (λ (one : List ℕ). bytes_eq one unanswered) same)

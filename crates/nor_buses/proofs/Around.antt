@@ -54,8 +54,6 @@ module _ {out : List ℕ} {a b : BusState} {h h' : List Exchange} where
     worn = made.worn;
   }
 
-  -- If the bus inside, whenever it must take a transaction, makes one step of the chip, or stops as one transaction may
-  -- stop, then the bus around it meets the contract of a bus.
   pub transfers_around : {before answer : List ℕ} (outcome : Result Unit Stopped) → SameNature a b
       → (IsHonestFor out (length before) a → OnErr outcome (AtStop out a b))
       → (IsHonestFor out (length before) a → OnOk outcome (MakesStep out answer a b))
@@ -97,7 +95,6 @@ module _ {out : List ℕ} {a b : BusState} {h h' : List Exchange} where
     worn = made.worn;
   }
 
-  -- States what `transfers_around` states, for a bus whose record follows from its own history (`beside`).
   pub transfers_beside : {before answer : List ℕ} (outcome : Result Unit Stopped) → SameNature a b
       → (IsHonestFor out (length before) a → OnErr outcome (AtStop out a b))
       → (IsHonestFor out (length before) a → OnOk outcome (MakesStep out answer a b))
@@ -117,8 +114,6 @@ module _ {out : List ℕ} {a b : BusState} {h h' : List Exchange} where
     carries = λ fits. on_ok_weaker outcome carries_beside (steps (beside_fits fits));
     records = records;
   }
-
--- ---- a bus that may stop after a transaction that was carried out
 
 fits_unsteady : {out : List ℕ} {n : ℕ} {inside : BusState} → IsHonestFor out n (unsteady inside)
     → IsHonestFor out n inside
@@ -157,7 +152,6 @@ stops_behind {out} {answer} {old} {mid} {new} carries stops = record {
   unsent = λ steady. absurd (false≢true steady);
 }
 
--- A bus around another one meets the contract of a bus, even if the bus inside isn't steady.
 pub transfers_unsteady : {out before answer : List ℕ} {a b : BusState} {h h' : List Exchange}
     (outcome : Result Unit Stopped) → SameNature a b
     → (IsHonestFor out (length before) a → OnErr outcome (AtStop out (unsteady a) (unsteady b)))
@@ -179,15 +173,11 @@ transfers_unsteady {out} {before} {answer} {a} {b} {h} {h'} outcome nature stops
     (λ fits. on_ok_weaker outcome (steps_unsteady {old = a} {new = b}) (steps (fits_unsteady {inside = a} fits)))
     records
 
--- ---- a bus that splits long transactions
-
--- The bus inside takes a read that isn't split.
 longer_taken : (receives longer n : ℕ) (unlimited : Bool) → n ≤ 4096 + reads_longer receives unlimited longer
     → (unlimited ≡ true) ⊎ (n ≤ 4096 + longer)
 longer_taken receives longer n true few = inl refl
 longer_taken receives longer n false few = inr (omega (arith, few, min-le_left longer (receives - 4096)))
 
--- The length of a read that isn't split is within the limit `receives`.
 longer_within : (receives longer n : ℕ) (unlimited : Bool) → 4096 ≤ receives
     → n ≤ 4096 + reads_longer receives unlimited longer → n ≤ receives
 longer_within receives longer n true most few = omega (arith, most, few)
@@ -206,7 +196,6 @@ module _ (out : List ℕ) (n : ℕ) (wide : Bool) (receives : ℕ) (inside : Bus
     ];
   }
 
-  -- If a bus that splits must take a transaction, the transaction is within the limits of the bus inside.
   splits_within : (sends : ℕ) → takes_whole sends receives ≡ wide
       → IsHonestFor out n (splits wide receives inside history) → (length out ≤ sends) × (n ≤ receives)
   splits_within sends is fits =
@@ -244,7 +233,6 @@ module _ (out : List ℕ) (a b : BusState) (h h' : List Exchange) (wide wide' : 
       → Carries out answer (splits wide receives a h) (splits wide' receives' b h')
   carries_splits carries = record { left = carries.left; step = carries.step; worn = carries.worn }
 
--- A call that keeps the nature of the bus inside doesn't change how long a read may be that isn't split.
 longer_same : (receives receives' : ℕ) (old new : BusState) → receives' ≡ receives → SameNature old new
     → reads_longer receives' new.unlimited new.longer ≡ reads_longer receives old.unlimited old.longer
 longer_same receives receives' old new same nature =
@@ -252,7 +240,6 @@ longer_same receives receives' old new same nature =
     ∙ ap (λ (unlimited : Bool). reads_longer receives unlimited new.longer) nature.unlimited
     ∙ ap (λ (longer : ℕ). reads_longer receives old.unlimited longer) nature.longer
 
--- If the bus inside meets the contract for a transaction within its limits, so does the bus around it.
 pub transfers_splits : (out before answer : List ℕ) (a b : BusState) (h h' : List Exchange) (wide wide' : Bool)
     (sends receives receives' : ℕ) → takes_whole sends receives ≡ wide → wide' ≡ wide → receives' ≡ receives
     → (outcome : Result Unit Stopped) → SameNature a b

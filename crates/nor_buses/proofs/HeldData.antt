@@ -23,8 +23,6 @@ use Rattle.nor_buses.proofs.ReadsKeep.{read_wears_none}
 use Rattle.nor_buses.proofs.ReturnedData.{data_returned, data_stays, data_still}
 use Rattle.nor_buses.proofs.SameReply.{read_of}
 
--- ---- the bus inside takes each block
-
 pub takes_same : (longest : ℕ) (old new : BusState) → SameNature old new
     → takes_blocks longest new ≡ takes_blocks longest old
 takes_same longest old new nature =
@@ -52,10 +50,6 @@ block_read w x y z address len n inside same fits = record {
   fits = elim fits.fits [ inl unlimited ↦ inl unlimited | inr few ↦ inr (omega arith, omega (arith, few.1, same)) ];
 }
 
--- ---- the bytes of the chip
-
--- If `reply` contains the data of the chip from `at` on (or only FFh if the chip is busy), a read of data may return
--- `reply` and leave the chip as it was.
 data_does : (idle : Bool) (at : ℕ) (chip : Chip) (reply : List ℕ)
     → ((i : ℕ) → i < length reply
     → slice_index reply i ≡ (if idle then chip.bytes ((at + i) % chip.config.size) else 255))
@@ -93,8 +87,6 @@ data_begins (opcode ∷ x ∷ y ∷ z ∷ []) reads =
     subst P (sym (eqb-true opcode 3 reads)) refl
 data_begins _ reads = absurd (false≢true reads)
 
--- If the bus inside left the chip as it was, and the reply to a read of data contains the data of the chip, then this
--- counts as one step of the chip.
 pub held_made : (out reply : List ℕ) (old new : BusState) → reads_data out ≡ true → KeepsAll old new
     → HasData new.chip (address_in out) reply → MakesStep out reply old new
 held_made out reply old new reads keeps has = record {
@@ -138,8 +130,6 @@ held_data at n k start len block reply chip has begins ends whole is same = reco
       ∙ ap (λ (a : ℕ). data_byte chip a) place;
 }
 
--- If a read of data from `address` on was carried out and its reply was stored at the beginning of a block, the first
--- `len` bytes of the block are the data of the chip.
 pub filled_data : (address len : ℕ) (bytes answer rest : List ℕ) (old new : BusState) → address ≤ 16777215
     → bytes ≡ address / 16777216 % 256 ∷ address / 65536 % 256 ∷ address / 256 % 256 ∷ address % 256 ∷ []
     → length answer ≡ len
@@ -157,8 +147,6 @@ filled_data address len bytes answer rest old new below e whole carries =
     ap (λ (n : ℕ). take n (answer ++ rest)) (sym whole) ∙ take-append_seam answer rest in
     subst (λ (read : List ℕ). HasData new.chip address read) (sym same)
     (subst (λ (a : ℕ). HasData new.chip a answer) (address_sent address bytes below e) has)
-
--- ---- the contract
 
 module _ (out : List ℕ) (a b : BusState) (h h' : List Exchange) (longest longest' : ℕ) where
   stops_ahead : AtStop out a b → Stops out (reads_ahead longest a h) (reads_ahead longest' b h')
@@ -185,8 +173,6 @@ module _ (out : List ℕ) (a b : BusState) (h h' : List Exchange) (longest longe
     worn = made.worn;
   }
 
--- If, whenever the bus that reads ahead must take a transaction, the bus inside makes one step of the chip, or stops as
--- one transaction may stop, then the bus that reads ahead meets the contract of a bus.
 pub transfers_ahead : (out before answer : List ℕ) (a b : BusState) (h h' : List Exchange) (longest longest' : ℕ)
     (outcome : Result Unit Stopped) → longest' ≡ longest → SameNature a b
     → (IsHonestFor out (length before) (reads_ahead longest a h) → OnErr outcome (AtStop out a b))

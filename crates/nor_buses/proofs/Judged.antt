@@ -33,8 +33,6 @@ or_parts : (a b : Bool) (P : Type 0) → (a || b) ≡ true → (a ≡ true → P
 or_parts true b P is left right = left refl
 or_parts false b P is left right = right is
 
--- If a read returned an ID other than FFFFFFh, this is the chip's ID, and the chip has an ID of the list or the ID
--- `before`, then `shows_known` holds for this read.
 known_by_id : (ids : List (List ℕ)) (before : Option (List ℕ)) (out reply : List ℕ) (config : Config)
     → shows_id out reply ≡ true → reply ≡ chip_id config → is_listed_chip ids before config ≡ true
     → shows_known ids before out reply ≡ true
@@ -83,8 +81,6 @@ shown_short (opcode ∷ []) (a ∷ b ∷ c ∷ []) shows = (refl, refl)
 shown_short (opcode ∷ []) (a ∷ b ∷ c ∷ d ∷ rest) shows = absurd (false≢true shows)
 shown_short (opcode ∷ x ∷ rest) reply shows = absurd (false≢true shows)
 
--- If a bus carries out each transaction that it must take as a well-behaved bus, an ID other than FFFFFFh that it
--- returns is its chip's ID.
 pub replies_id : (out reply : List ℕ) (n : ℕ) (old new : BusState) → n ≡ length reply → SameNature old new
     → (IsHonestFor out n old → Carries out reply old new) → RepliesId out reply new
 replies_id out reply n old new same nature carries = record {

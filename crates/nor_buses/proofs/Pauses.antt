@@ -1,5 +1,5 @@
--- Lemmas: each pause is at most 150 ms if the typical duration of the operation is. The pauses of all 65,536 polls of a
--- wait add up to at least 400 s and, in this case, at most 410 s.
+-- Lemmas: each pause is at most 150 ms if the typical duration is. The pauses of all 65,536 polls of a wait add up to
+-- at least 400 s and, if the typical duration is at most 150 ms, to at most 410 s.
 use Rattle.std.proofs.Common.{ℕ, zero, suc, ◌≡◌, ◌≤◌, ◌+◌, ◌*◌, ◌-◌, arith}
 use Rattle.std.proofs.lemmas.Bool.Decides.{nat_tests}
 use Rattle.nor_buses.specs.Pace.{pauses, pause_before}

@@ -23,7 +23,6 @@ plain_still rows hides has_quad is_judged old new plain nature = record {
       plain.none was (subst (λ (config : Config). keeps_bit6 rows hides config ≡ true) (nature.config was) keeps);
 }
 
--- If bit 6 of the chip is never hidden, and not because `hides` is false, the chip has an ID of `rows`.
 listed_by : (rows : List (List ℕ)) (hides : Bool) (config : Config) → (hides ≡ false → true ≡ false)
     → keeps_bit6 rows hides config ≡ true → is_id_listed rows (chip_id config) ≡ true
 listed_by rows true config looked keeps = keeps
@@ -46,7 +45,6 @@ pub bit6_same : {rows rows' : List (List ℕ)} {hides hides' : Bool} {config con
     → hides' ≡ hides → config' ≡ config → keeps_bit6 rows' hides' config' ≡ keeps_bit6 rows hides config
 bit6_same rows hides config = λ i. keeps_bit6 (rows i) (hides i) (config i)
 
--- If bit 6 of the chip is never hidden, `hides` is false or the chip has an ID of `rows`.
 pub plain_listed : (rows : List (List ℕ)) (hides : Bool) (config : Config) → keeps_bit6 rows hides config ≡ true
     → (hides ≡ false) ⊎ (is_id_listed rows (chip_id config) ≡ true)
 plain_listed rows true config keeps = inr keeps
@@ -60,14 +58,12 @@ idle_id (a ∷ b ∷ []) three idle step = absurd (omega (arith, three))
 idle_id (a ∷ b ∷ c ∷ []) three idle step = id_if_idle idle step
 idle_id (a ∷ b ∷ c ∷ d ∷ rest) three idle step = absurd (omega (arith, three))
 
--- If an idle chip has an ID of `rows`, the ID that it returns is in the list.
 pub not_missed : (rows : List (List ℕ)) (reply : List ℕ) {old new : Chip} → length reply ≡ 3 → old.busy ≡ 0
     → Step old (0x9F ∷ []) reply new → is_id_listed rows (chip_id old.config) ≡ true
     → is_id_listed rows reply ≡ false → ⊥
 not_missed rows reply {old} three idle step listed missed =
     false≢true (sym missed ∙ ap (λ (id : List ℕ). is_id_listed rows id) (idle_id reply three idle step) ∙ listed)
 
--- A poll that shows that the chip is ready leaves the chip as it was.
 pub polled_kept : (out reply : List ℕ) {old new : BusState} → begins_with 0x05 out ≡ true → length out ≡ 1
     → length reply ≡ 1 → slice_index reply 0 % 2 ≡ 0 → MakesStep out reply old new → KeepsAll old new
 polled_kept [] reply begins one single even made = absurd (false≢true begins)

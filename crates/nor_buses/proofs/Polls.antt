@@ -14,8 +14,6 @@ pub fits_short : {out : List ℕ} {n : ℕ} {state : BusState} → length out �
     → IsHonestFor out n state
 fits_short sends reads honest = record { honest = honest; fits = inr (sends, omega (arith, reads)) }
 
--- ---- a chip that is ready
-
 ready_by : (idle latch : Bool) (one : ℕ)
     → (4 * one + (if latch then 2 else 0) + (if idle then 0 else 1)) % 2 ≡ 0 → idle ≡ true
 ready_by true latch one even = refl
@@ -50,8 +48,6 @@ second_keeps {answer} {old} {new} made = record {
   chip = second_same made.step;
   worn = λ s. made.worn s ∙ or-false (old.worn s);
 }
-
--- ---- stops
 
 taken : (count opcode : ℕ) → (take count (opcode ∷ []) ≡ []) ⊎ (take count (opcode ∷ []) ≡ opcode ∷ [])
 taken zero opcode = inl refl
@@ -96,8 +92,6 @@ second_stops at = stops_same (λ read reached step. second_same step) (λ replie
 pub poll_stops : {old new : BusState} → old.chip.busy ≡ 0 → AtStop (0x05 ∷ []) old new → StopsUnread old new
 poll_stops ready at = stops_same (λ read reached step. poll_same ready step) (λ replies s. refl) at
 
--- ---- two in a row
-
 pub made_then : {out answer : List ℕ} {old mid new : BusState} → MakesStep out answer old mid → KeepsAll mid new
     → MakesStep out answer old new
 made_then {out} {answer} {old} {mid} {new} made keeps = record {
@@ -105,7 +99,6 @@ made_then {out} {answer} {old} {mid} {new} made keeps = record {
   worn = λ s. keeps.worn s ∙ made.worn s;
 }
 
--- Holds if the nature of the bus, the chip and its erased sectors are as they were.
 pub record Quiet (old new : BusState) : Type 0 where
   pub nature : SameNature old new
   pub keeps : KeepsAll old new

@@ -18,8 +18,6 @@ use Rattle.nor_buses.specs.Twice.{begins_read, ReadsTwice}
 use Rattle.nor_buses.proofs.ReturnedData.{data_returned, data_stays, data_still, data_read_returned, data_read_stays}
 use Rattle.nor_buses.proofs.SameReply.{same_reply}
 
--- ---- buses
-
 pub nature_then : (old mid new : BusState) → SameNature old mid → SameNature mid new → SameNature old new
 nature_then old mid new one two = record {
   honest = two.honest ∙ one.honest;
@@ -46,8 +44,6 @@ fits_less out other m n old new nature short less fits = record {
     | inr few ↦ inr (short, omega (arith, less, few.1, nature.longer))
   ];
 }
-
--- ---- parts of a reply
 
 part_length : (bytes : List ℕ) (n len : ℕ) → n + len ≤ length bytes → length (part bytes n len) ≡ len
 part_length bytes n len within = length-take-le len (drop n bytes) (omega (arith, within, length-drop n bytes))
@@ -139,8 +135,6 @@ pub range_part : (image : List ℕ) (at n m : ℕ) → slice_range image (at + n
 range_part image at n m =
     let len : (at + m) - (at + n) ≡ m - n = omega arith in ap (λ (k : ℕ). take k (drop (at + n) image)) len
 
--- ---- parts that are read again
-
 pub repeats_none : (image : List ℕ) (at : ℕ) (answer : List ℕ) (old : BusState)
     → RepeatsBelow image at answer 0 old old
 repeats_none image at answer old = record {
@@ -202,8 +196,6 @@ repeats_read image at answer n m old mid new was order within grows carries diff
       carried = λ honest. (mid, (was.carried honest, carries honest));
     }
 
--- ---- the whole of a reply
-
 pub repeats_all : (image out answer : List ℕ) (old mid new : BusState) → reads_data out ≡ true
     → mid.history ≡ replied out answer ∷ old.history
     → RepeatsBelow image (address_in out) answer (length answer) mid new
@@ -228,8 +220,6 @@ carries_all image out answer old mid new reads first was carries honest = record
   first = carries;
   again = was.carried honest;
 }
-
--- ---- a part that is read again on a well-behaved bus
 
 pub part_fits : (at n m : ℕ) (out answer : List ℕ) (old mid : BusState) → out ≡ data_read (at + n) → n ≤ m
     → m ≤ length answer → SameNature old mid → IsHonestFor (data_read at) (length answer) old
@@ -274,8 +264,6 @@ if_ok (Err stop) P Q fact leads = tt
 true_by : (b : Bool) → (b ≡ false → ⊥) → b ≡ true
 true_by true never = refl
 true_by false never = absurd (never refl)
-
--- ---- a read that is confirmed, after its first reply
 
 pub fits_first : (at : ℕ) (out answer : List ℕ) (old mid : BusState) → FirstRead out answer old mid
     → IsHonestFor out (length answer) old → IsHonestFor (data_read at) (length answer) mid

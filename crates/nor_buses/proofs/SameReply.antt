@@ -12,8 +12,6 @@ use Rattle.nor_model.specs.Step.{Step, Does, reply_byte}
 use Rattle.nor_model.specs.Bus.{BusState, SameNature, IsHonestFor}
 use Rattle.nor_buses.specs.Twice.{begins_read}
 
--- Holds if configuration, bytes and `busy` of the chip are as they were. The reply to a read of an ID, of SFDP or of
--- data depends on nothing else in the state of the chip.
 pub record Still (old new : Chip) : Type 0 where
   pub config : new.config ≡ old.config
   pub bytes : (a : ℕ) → new.bytes a ≡ old.bytes a

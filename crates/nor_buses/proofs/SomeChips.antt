@@ -1,5 +1,4 @@
--- Lemmas on buses that are well-behaved only for some chips (`only_if`), and on what a chip returns for a read of its
--- ID.
+-- Lemmas on buses that are well-behaved only for some chips (`only_if`), and on the reply to a read of the ID.
 use Rattle.std.proofs.Common.{◌≡◌, ◌&&◌, ◌∙◌, ℕ, Bool, true, false, List, [], ◌∷◌, length, refl, ap, subst, inl, inr, ◌⊎◌, arith}
 use Rattle.std.specs.Prelude.{◌==◌, Result, OnOk, OnErr}
 use Rattle.std.proofs.lemmas.Bool.{and_parts}
@@ -52,8 +51,6 @@ steps_only : {out answer : List ℕ} (fits fits' : Bool) (a b : BusState) → Ma
     → MakesStep out answer (only_if fits a) (only_if fits' b)
 steps_only fits fits' a b made = record { step = made.step; worn = made.worn }
 
--- If the bus inside, whenever it must take a transaction and `fits` is true, makes one step of the chip, or stops as
--- one transaction may stop, then the bus around it meets the contract of a bus.
 pub transfers_only : {out before answer : List ℕ} {a b : BusState} {fits fits' : Bool} {h h' : List Exchange}
     (outcome : Result Unit Stopped) → SameNature a b → (a.honest ≡ true → fits' ≡ fits)
     → (IsHonestFor out (length before) (only_if fits a) → OnErr outcome (AtStop out a b))
@@ -77,12 +74,10 @@ id_by true does =
 id_by false does =
     inr (three (does.replies 0 (omega arith)) (does.replies 1 (omega arith)) (does.replies 2 (omega arith)))
 
--- The reply to a read of the ID is the chip's ID, or FFFFFFh.
 pub id_replied : {old new : Chip} {a b c : ℕ} → Step old (0x9F ∷ []) (a ∷ b ∷ c ∷ []) new
     → ((a ∷ b ∷ c ∷ []) ≡ chip_id old.config) ⊎ ((a ∷ b ∷ c ∷ []) ≡ (255 ∷ 255 ∷ 255 ∷ []))
 id_replied {old} {new} {a} {b} {c} step = id_by (old.busy == 0) step
 
--- An idle chip returns its ID.
 pub id_if_idle : {old new : Chip} {a b c : ℕ} → old.busy ≡ 0 → Step old (0x9F ∷ []) (a ∷ b ∷ c ∷ []) new
     → (a ∷ b ∷ c ∷ []) ≡ chip_id old.config
 id_if_idle {old} {new} {a} {b} {c} idle step =

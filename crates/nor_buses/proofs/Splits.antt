@@ -19,10 +19,6 @@ always : (P : Type 0) (result : Result Unit Stopped) → P → OnOk result P
 always P (Ok done) fact = fact
 always P (Err stop) fact = tt
 
--- ---- reads
-
--- Holds if since `old` only parts of the read `out` were sent, in order and without a gap, and `answer` consists of
--- their replies.
 pub record ReadsInParts (most : ℕ) (out answer : List ℕ) (old new : List Exchange) : Type 0 where
   pub later : List Exchange
   pub is : new ≡ later ++ old
@@ -69,10 +65,6 @@ read_stopped most from out reply answer result old mid new was within fails (inr
       whole = never _ result fails;
     }
 
--- ---- programs
-
--- Holds if since `old` only parts of the program were sent, in order and without a gap, with polls and write enables
--- between them. The parts have `n` data bytes in total.
 pub record ProgramsInParts (most address : ℕ) (bytes : List ℕ) (n : ℕ) (old new : List Exchange) : Type 0 where
   pub later : List Exchange
   pub is : new ≡ later ++ old

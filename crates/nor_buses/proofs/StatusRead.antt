@@ -1,5 +1,4 @@
--- Lemmas on reads of status registers: if a register was read twice in a history (`was_read_twice`), this still holds
--- for a longer history.
+-- Lemmas: if a status register was read twice, `was_read_twice` holds, and still holds after one more transaction.
 use Rattle.std.proofs.Common.{◌≡◌, ◌∙◌, ℕ, Bool, true, false, List, [], ◌∷◌, Option, None, Some, refl, ap, sym, arith, eq-eqb}
 use Rattle.std.specs.Prelude.{◌||◌, ◌&&◌, ◌==◌}
 use Rattle.std.specs.Option.{ForSome}

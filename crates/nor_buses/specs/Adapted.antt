@@ -7,16 +7,14 @@ use Rattle.nor_model.specs.History.{begins_with}
 use Rattle.nor_buses.specs.Listed.{is_id_listed}
 use Rattle.nor_buses.specs.SomeChips.{chip_id}
 
--- True if a transaction is a read of the unique ID: 4Bh and four more bytes.
 abbrev pub is_unique_read : (out : List ℕ) → Bool
 is_unique_read (opcode ∷ w ∷ x ∷ y ∷ z ∷ []) = opcode == 0x4B
 is_unique_read _ = false
 
--- True if a reply is eight bytes FFh, or eight bytes 00h.
+-- True if the reply to a read of the unique ID is eight bytes FFh or eight bytes 00h.
 abbrev pub is_missing : (reply : List ℕ) → Bool
 is_missing reply = length reply == 8 && (bytes_eq reply (replicate 8 255) || bytes_eq reply (replicate 8 0))
 
--- True if a transaction reads an SFDP table: 5Ah with 36 reply bytes.
 abbrev pub is_table_read : (out reply : List ℕ) → Bool
 is_table_read out reply = begins_with 0x5A out && length reply == 36
 
@@ -24,7 +22,7 @@ is_table_read out reply = begins_with 0x5A out && length reply == 36
 abbrev pub unanswered : List ℕ
 unanswered = 255 ∷ 255 ∷ 255 ∷ []
 
--- True if a chip that returned this ID has one, which is none of `rows`.
+-- True if `id` is neither FFFFFFh nor one of `rows`.
 abbrev pub has_no_row : (rows : List (List ℕ)) → (id : List ℕ) → Bool
 has_no_row rows id = not (bytes_eq id unanswered) && not (is_id_listed rows id)
 
@@ -39,25 +37,21 @@ chip_unique config =
 abbrev pub keeps_replies : (rows : List (List ℕ)) → Config → Bool
 keeps_replies rows config = is_id_listed rows (chip_id config) && not (is_missing (chip_unique config))
 
--- Holds if `id` is what a chip returned as its ID: the ID of an idle chip, and FFFFFFh of a busy one.
+-- Holds if, on a well-behaved bus, `id` is the ID of the chip, or FFFFFFh if the chip is busy.
 pub record IsIdOf (id : List ℕ) (inside : BusState) : Type 0 where
   pub idle : inside.honest ≡ true → inside.chip.busy ≡ 0 → id ≡ chip_id inside.chip.config
   pub busy : inside.honest ≡ true → (inside.chip.busy ≡ 0 → ⊥) → id ≡ unanswered
 
--- True if bits 1 and 0 of double word 1 of an SFDP table aren't 01b.
+-- True if bits 1 and 0 of double word 1 aren't 01b, the value for an erase of 4 KiB that is available everywhere.
 abbrev pub is_uneven : (table : List ℕ) → Bool
 is_uneven table = not (slice_index table 0 % 4 == 1)
 
--- True if an opcode is one of three others.
 abbrev pub shares : (opcode one two three : ℕ) → Bool
 shares opcode one two three = opcode == one || opcode == two || opcode == three
 
--- A table with the byte at `at` as 00h, if `is` is true.
 abbrev pub cleared : (is : Bool) → (at : ℕ) → (table : List ℕ) → List ℕ
 cleared is at table = if is then slice_set table at 0 else table
 
--- An SFDP table whose erase types have these opcodes, with 00h as the opcode of each erase type that shares its opcode
--- or, if `all` is true, of each of the four.
 abbrev pub without_shared : (all : Bool) → (one two three four : ℕ) → (table : List ℕ) → List ℕ
 without_shared all one two three four table =
     cleared (all || shares four one two three) 35
@@ -65,16 +59,16 @@ without_shared all one two three four table =
     (cleared (all || shares two one three four) 31
     (cleared (all || shares one two three four) 29 table)))
 
--- What the bus returns if the chip returned this SFDP table. The opcodes of the erase types are in double words 8
--- and 9.
+-- The table that the bus returns for an SFDP table of the chip: the opcodes of erase types that share their opcode, or
+-- all four opcodes if `all` is true, are 00h.
 abbrev pub shown_table : (all : Bool) → (table : List ℕ) → List ℕ
 shown_table all table =
     without_shared all (slice_index table 29) (slice_index table 31) (slice_index table 33) (slice_index table 35) table
 
--- True if double word 11 of these 44 bytes of an SFDP table says that a page has fewer than 2^8 bytes.
+-- True if double word 11 of an SFDP table says that a page has fewer than 2^8 bytes.
 abbrev pub is_small_page : (table : List ℕ) → Bool
 is_small_page table = nat_lt (slice_index table 40 / 16) 8
 
--- What the bus returns if the chip returned these 44 bytes of an SFDP table.
+-- The 36 bytes that the bus returns for 44 bytes of the chip's SFDP table.
 abbrev pub judged_table : (table : List ℕ) → List ℕ
 judged_table table = shown_table (is_uneven table || is_small_page table) (take 36 table)

@@ -7,13 +7,12 @@ use Rattle.nor_model.specs.History.{replied, bytes_or_none}
 use Rattle.nor_buses.specs.ReadsAs.{reads_data, address_in, part}
 use Rattle.nor_buses.specs.Parts.{address_bytes}
 
--- Holds if the byte with the index `i` of `answer`, which was read from the address `at` on, equals the byte of the
--- image at the same address.
+-- Holds if byte `i` of `answer`, which was read from the address `at` on, equals the byte of the image at its address.
 pub record IsExpected (image : List ℕ) (at : ℕ) (answer : List ℕ) (i : ℕ) : Type 0 where
   pub within : at + i < length image
   pub same : slice_index answer i ≡ slice_index image (at + i)
 
--- Holds if the sector of the byte with the index `i` of `answer` contains a byte that is not expected (`IsExpected`).
+-- Holds if the sector of byte `i` of `answer` contains a byte that is not expected (`IsExpected`).
 pub record DiffersInSector (image : List ℕ) (at : ℕ) (answer : List ℕ) (i : ℕ) : Type 0 where
   pub j : ℕ
   pub within : j < length answer
@@ -23,8 +22,7 @@ pub record DiffersInSector (image : List ℕ) (at : ℕ) (answer : List ℕ) (i 
 abbrev pub data_read : (address : ℕ) → List ℕ
 data_read address = 0x03 ∷ address_bytes address
 
--- Holds if the transaction read `len` bytes of `answer`, from the index `from` on, again and returned the same bytes.
--- All these bytes lie in sectors that differ from the image.
+-- Holds if the transaction read a part of `answer` again with the same bytes, in sectors that differ from the image.
 pub record IsReadAgain (image : List ℕ) (at : ℕ) (answer : List ℕ) (exchange : Exchange) : Type 0 where
   pub from : ℕ
   pub len : ℕ
@@ -37,8 +35,7 @@ AreReadAgain image at answer [] = ⊤
 AreReadAgain image at answer (exchange ∷ earlier) =
     IsReadAgain image at answer exchange × AreReadAgain image at answer earlier
 
--- Holds if the transaction read a part of `answer` that contains the byte with the index `i` again, and returned the
--- same bytes.
+-- Holds if the transaction read a part of `answer` that contains byte `i` again, and returned the same bytes.
 pub record ReadsByteAgain (at : ℕ) (answer : List ℕ) (i : ℕ) (exchange : Exchange) : Type 0 where
   pub from : ℕ
   pub len : ℕ
@@ -63,8 +60,6 @@ pub record RepeatsDiffering (image out answer : List ℕ) (old new : List Exchan
   pub each : (i : ℕ) → i < length answer
       → IsExpected image (address_in out) answer i ⊎ WasReadAgain (address_in out) answer i later
 
--- ---- a well-behaved bus
-
 abbrev pub CarriesEach : (later : List Exchange) → (old new : BusState) → Type 0
 CarriesEach [] old new = new ≡ old
 CarriesEach (exchange ∷ earlier) old new =
@@ -77,10 +72,7 @@ pub record CarriesDiffering (image out answer : List ℕ) (old new : BusState) :
   pub first : Carries out answer old between
   pub again : CarriesEach repeats.later between new
 
--- ---- within the functions of this crate
-
--- Holds if since `old` each of the first `n` bytes of `answer` that differs from the image was read again. Only sectors
--- that differ from the image were read again.
+-- Holds if since `old` each of the first `n` bytes of `answer` that differs from the image was read again.
 pub record RepeatsBelow (image : List ℕ) (at : ℕ) (answer : List ℕ) (n : ℕ) (old new : BusState) : Type 0 where
   pub later : List Exchange
   pub is : new.history ≡ later ++ old.history

@@ -16,8 +16,6 @@ begin ahead = ahead.start
 abbrev pub held : {B : Type 0} {over : Ghosts B} → ReadAhead B over → ℕ
 held ahead = ahead.len
 
--- The transactions that the bus was asked to carry out, the last one first. This includes reads whose bytes came from
--- memory.
 abbrev pub history_of : {B : Type 0} {over : Ghosts B} → ReadAhead B over → List Exchange
 history_of ahead = ahead.history.exchanges
 

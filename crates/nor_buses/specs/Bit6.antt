@@ -1,4 +1,4 @@
--- Bit 6 of status 1, which is QE on some chips. It is SEC on chips that have a row in the table of known chips.
+-- Bit 6 of status 1, which is QE on some chips, and SEC on chips that have a row in the table of known chips.
 use Rattle.std.specs.Prelude.{◌≡◌, ◌==◌, ◌&&◌, ◌||◌, ◌/◌, ◌%◌, ◌-◌, ℕ, Bool, true, false, not, List, [], ◌∷◌}
 use Rattle.std.specs.Prelude.{if◌then◌else◌, slice_index, slice_set}
 use Rattle.nor_model.specs.declared.config.Config.{Config}
@@ -12,8 +12,8 @@ use Rattle.nor_buses.specs.SomeChips.{chip_id}
 abbrev pub keeps_bit6 : (rows : List (List ℕ)) → (hides : Bool) → Config → Bool
 keeps_bit6 rows hides config = not hides || is_id_listed rows (chip_id config)
 
--- Holds if two facts are true. If `hides` is false, `is_judged` is true, so the bus never looks up where QE is. If the
--- bus inside is well-behaved and bit 6 of its chip is never hidden (`keeps_bit6`), `has_quad` is false.
+-- Holds if `is_judged` is true whenever `hides` is false, and `has_quad` is false on a well-behaved bus to a chip whose
+-- bit 6 is never hidden (`keeps_bit6`).
 pub record IsPlain (rows : List (List ℕ)) (hides has_quad is_judged : Bool) (inside : BusState) : Type 0 where
   pub shown : hides ≡ false → is_judged ≡ true
   pub none : inside.honest ≡ true → keeps_bit6 rows hides inside.chip.config ≡ true → has_quad ≡ false
@@ -23,14 +23,12 @@ abbrev pub is_bit6 : (word : List ℕ) → Bool
 is_bit6 (a ∷ b ∷ c ∷ d ∷ []) = c / 16 % 8 == 2
 is_bit6 _ = false
 
--- True if a transaction of the history is a read of SFDP (5Ah) whose reply has these quad enable requirements
--- (`is_bit6`).
+-- True if the reply to a read of SFDP (5Ah) in the history satisfies `is_bit6`.
 abbrev pub names_bit6 : List Exchange → Bool
 names_bit6 [] = false
 names_bit6 (last ∷ earlier) =
     (begins_with 0x5A last.out && is_bit6 (bytes_or_none last.reply)) || names_bit6 earlier
 
--- Status 1 with bit 6 clear.
 abbrev pub without_quad : (status : ℕ) → ℕ
 without_quad status = if status / 64 % 2 == 1 then status - 64 else status
 
@@ -38,8 +36,7 @@ without_quad status = if status / 64 % 2 == 1 then status - 64 else status
 pub record OnlyReadsOn (old new : BusState) : Type 0 where
   pub sent : new.sent ≡ old.sent
 
--- Holds if the transaction was passed on, and `reply` is the reply of the bus inside with bit 6 of its first byte
--- clear.
+-- Holds if the transaction was passed on, and `reply` is its reply with bit 6 of the first byte clear.
 pub record ShowsWithoutQuad (out reply : List ℕ) (old new : List Exchange) : Type 0 where
   pub raw : List ℕ
   pub history : new ≡ replied out raw ∷ old

@@ -20,23 +20,18 @@ known_of checked = checked.known
 abbrev pub has_begun : {B : Type 0} {over : Ghosts B} → CheckedStatus B over → Bool
 has_begun checked = checked.known.is_changing
 
--- The bytes of a status write that was passed on and is not read back yet, if there is one.
 abbrev pub written_of : {B : Type 0} {over : Ghosts B} → CheckedStatus B over → Option (List ℕ)
 written_of checked = checked.known.written
 
--- True if a status write may change only SRP0. False if it may change only the protection bits.
 abbrev pub locks_of : {B : Type 0} {over : Ghosts B} → CheckedStatus B over → Bool
 locks_of checked = checked.known.locks
 
--- The reason of the last stop that the bus inside did not cause, if there was one.
 abbrev pub check_fault_of : {B : Type 0} {over : Ghosts B} → CheckedStatus B over → Option CheckFault
 check_fault_of checked = checked.fault
 
 abbrev pub history_of : {B : Type 0} {over : Ghosts B} → CheckedStatus B over → List Exchange
 history_of checked = checked.history.exchanges
 
--- The state of a `CheckedStatus`: the chip of the bus inside, with this bus's own history. A status write that was
--- refused is in this history, so it counts as sent. The bus is not punctual, because it may stop even if the bus inside
--- does not.
+-- The state of a `CheckedStatus`. A refused status write is in its history, so this status write counts as sent.
 abbrev pub checked_state : {B : Type 0} {over : Ghosts B} → CheckedStatus B over → BusState
 checked_state checked = beside (inner_state checked) (history_of checked)

@@ -14,8 +14,7 @@ pub record StopsUnread (old new : BusState) : Type 0 where
   pub worn : (s : ℕ) → new.worn s ≡ old.worn s
   pub unsent : old.steady ≡ true → new.chip ≡ old.chip
 
--- Holds if the chip made one step, in which it received `out` and replied `answer`. The definition doesn't say how many
--- transactions took part.
+-- Holds if the chip changed as in one transaction that sent `out` and received `answer`.
 pub record MakesStep (out answer : List ℕ) (old new : BusState) : Type 0 where
   pub step : Step old.chip out answer new.chip
   pub worn : (s : ℕ) → new.worn s ≡ (old.worn s || wears (done_of old.chip out (length answer)) s)

@@ -15,8 +15,8 @@ pub record KeepsAllButLock (one two one_known two_known : ℕ) : Type 0 where
   pub protection : one % 128 / 4 ≡ one_known % 128 / 4
   pub whole : two % 128 ≡ two_known % 128
 
--- Holds if a status write of `one` and `two` keeps the non-volatile bits of `one_known` and `two_known` that it must
--- keep. If `locks` is true, only SRP0 may differ; otherwise only the protection bits may differ.
+-- Holds if a status write of `one` and `two` keeps the non-volatile bits of `one_known` and `two_known`: all except
+-- SRP0 if `locks` is true, and otherwise all except the protection bits.
 abbrev pub KeepsBits : (locks : Bool) → (one two one_known two_known : ℕ) → Type 0
 KeepsBits true one two one_known two_known = KeepsAllButLock one two one_known two_known
 KeepsBits false one two one_known two_known = KeepsFixed one two one_known two_known
@@ -37,9 +37,8 @@ pub record KeepsKnown (known : Known) (out sent : List ℕ) : Type 0 where
   pub awake : two / 128 ≡ 0
 
 -- Holds for a poll that returned `status`, which shows that the chip is ready. Before the first modifying command, and
--- while a status write is not read back, the bus inside was polled twice, and the ID was read after each poll.
--- Otherwise it was polled once. If a status write was not read back, status 2 was then read twice, and all non-volatile
--- bits are those that were sent.
+-- until a status write is read back, the bus inside was polled twice, and otherwise once. After a status write, status
+-- 2 was also read twice, and all non-volatile bits are those that were sent.
 pub record PollAgrees (known known' : Known) (status : ℕ) (old new : List Exchange) : Type 0 where
   pub unchanged : known.is_changing ≡ false → known.written ≡ None → IsReadTwice (pair status) known'.id old new
   pub changing : known.is_changing ≡ true → known.written ≡ None → new ≡ pair status ∷ old
@@ -51,8 +50,6 @@ pub record IsWritten (out : List ℕ) (remembered : Option (List ℕ)) : Type 0 
   pub is : out ≡ 0x01 ∷ one ∷ two ∷ []
   pub written : remembered ≡ Some (one ∷ two ∷ [])
 
--- Holds if three facts are as before: whether a modifying command was passed on, which status write is to be read
--- back, and which bits a status write may change.
 pub record KeepsTask (old new : Known) : Type 0 where
   pub is_changing : new.is_changing ≡ old.is_changing
   pub written : new.written ≡ old.written
@@ -65,16 +62,15 @@ pub record KeepsStatus (old new : Known) : Type 0 where
   pub written : new.written ≡ old.written
   pub locks : new.locks ≡ old.locks
 
--- Holds if, for a transaction that sends `out`, the bus inside sent nothing that may modify the chip, or only this
--- transaction, once. If `out` is a status write and `IsStatusAllowed` doesn't hold, the bus inside sent nothing.
+-- Holds if the bus inside sent nothing that may modify the chip, or only the transaction `out`, once. If `out` is a
+-- status write that isn't allowed (`IsStatusAllowed`), the bus inside sent nothing.
 pub record SendsKept (locks : Bool) (out : List ℕ) (old new : BusState) : Type 0 where
   pub sent : (new.sent ≡ old.sent) ⊎ (new.sent ≡ with_sent out old.sent)
   pub kept : begins_status_write out ≡ true → (new ≡ old) ⊎ IsStatusAllowed locks out old.history
 
--- Holds for a transaction that succeeded, if the bus inside confirmed the status that was returned, and `known'`
--- records the bytes of a status write and whether a modifying command was passed on.
+-- Holds for a transaction that succeeded, if a returned status was read as `PollAgrees` or `IsReadTwice` says, and
+-- `known'` records the bytes of a status write and whether a modifying command was passed on.
 pub record BelievesStatus (out answer : List ℕ) (known known' : Known) (old new : List Exchange) : Type 0 where
-  -- if the returned status shows that the chip is ready, each reply byte of each poll over the bus inside equals it
   pub poll : out ≡ 0x05 ∷ [] → length answer ≡ 1 → slice_index answer 0 % 2 ≡ 0
       → PollAgrees known known' (slice_index answer 0) old new
   pub twice : out ≡ 0x35 ∷ [] → length answer ≡ 1 → IsReadTwice (second (slice_index answer 0)) known'.id old new

@@ -8,35 +8,26 @@ use Rattle.nor_buses.specs.ReadsAs.{beside}
 use Rattle.nor_buses.specs.SomeChips.{only_if}
 use Rattle.nor_buses.specs.declared.known_status2.KnownStatus2.{KnownStatus2}
 
--- The bus inside, which carries out the transactions of a `KnownStatus2`.
 abbrev pub known_by : {B : Type 0} {over : Ghosts B} → KnownStatus2 B over → B
 known_by known = known.bus
 
--- True if the chip is known to return status 2 for 35h.
 abbrev pub has_status2 : {B : Type 0} {over : Ghosts B} → KnownStatus2 B over → Bool
 has_status2 known = known.is_known
 
--- The IDs of the chips that return status 2 for 35h.
 abbrev pub ids_of : {B : Type 0} {over : Ghosts B} → KnownStatus2 B over → List (List ℕ)
 ids_of known = known.ids.now
 
--- The ID of a chip whose status 2 an earlier run read, if there is one.
 abbrev pub before_of : {B : Type 0} {over : Ghosts B} → KnownStatus2 B over → Option (List ℕ)
 before_of known = known.before
 
--- The transactions that the bus was asked to carry out, each with its reply, the last one first.
 abbrev pub history_of : {B : Type 0} {over : Ghosts B} → KnownStatus2 B over → List Exchange
 history_of known = known.history.exchanges
 
--- The state of the bus inside, except that it counts as well-behaved only if its chip has an ID of the list `ids`, or
--- the ID `before`.
+-- The state of the bus inside, except that it is well-behaved only if its chip has an ID of `ids` or the ID `before`.
 abbrev pub inside_known : {B : Type 0} {over : Ghosts B} → KnownStatus2 B over → BusState
 inside_known {over = over} known =
     let inside = over.state (known_by known) in
     only_if (is_listed_chip (ids_of known) (before_of known) inside.chip.config) inside
 
--- The state of a `KnownStatus2`. It is well-behaved if and only if the bus inside is and the chip has an ID of the list
--- `ids`, or the ID `before`. It is not punctual, because it may stop even if the bus inside does not, and may send a
--- second transaction.
 abbrev pub known_status2_state : {B : Type 0} {over : Ghosts B} → KnownStatus2 B over → BusState
 known_status2_state known = beside (inside_known known) (history_of known)

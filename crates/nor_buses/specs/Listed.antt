@@ -16,46 +16,40 @@ asks_none (last ∷ earlier) = not (begins_with 0x35 last.out) && asks_none earl
 abbrev pub is_id_listed : (ids : List (List ℕ)) → (id : List ℕ) → Bool
 is_id_listed ids id = list_any (λ one. bytes_eq one id) ids
 
--- True if `before` is given and equals `id`.
 abbrev pub is_same : (before : Option (List ℕ)) → (id : List ℕ) → Bool
 is_same None id = false
 is_same (Some one) id = bytes_eq one id
 
--- True if the chip has an ID of the list, or the ID `before`.
+-- True if the chip has an ID of the list `ids`, or the ID `before`.
 abbrev pub is_listed_chip : (ids : List (List ℕ)) → (before : Option (List ℕ)) → Config → Bool
 is_listed_chip ids before config = is_same before (chip_id config) || is_id_listed ids (chip_id config)
 
--- True if a transaction that sent `out` and received `reply` is a read of the ID (9Fh, with three reply bytes) that
--- returned an ID of the list, or the ID `before`.
+-- True if a read of the ID (9Fh, with three reply bytes) returned an ID of the list `ids`, or the ID `before`.
 abbrev pub shows_known : (ids : List (List ℕ)) → (before : Option (List ℕ)) → (out reply : List ℕ) → Bool
 shows_known ids before out reply =
     begins_with 0x9F out && (length reply == 3 && (is_same before reply || is_id_listed ids reply))
 
--- True if the four bytes of double word 15 have the quad enable requirements 101b or 110b (bits 22 to 20).
+-- True if double word 15 has the quad enable requirements 101b or 110b (bits 22 to 20), so that 35h reads status 2.
 abbrev pub is_readable : (word : List ℕ) → Bool
 is_readable (a ∷ b ∷ c ∷ d ∷ []) = c / 16 % 8 == 5 || c / 16 % 8 == 6
 is_readable _ = false
 
--- True if a transaction of the history is a read of SFDP (5Ah) whose reply has these quad enable requirements
--- (`is_readable`).
+-- True if the reply to a read of SFDP (5Ah) in the history satisfies `is_readable`.
 abbrev pub names_status2 : List Exchange → Bool
 names_status2 [] = false
 names_status2 (last ∷ earlier) =
     (begins_with 0x5A last.out && is_readable (bytes_or_none last.reply)) || names_status2 earlier
 
--- True if a transaction that sent `out` and received `reply` is a read of the ID (9Fh alone, with three reply bytes)
--- that returned an ID other than FFFFFFh. A busy chip ignores 9Fh, so FFFFFFh is received.
+-- True if a read of the ID (9Fh alone, with three reply bytes) returned an ID other than FFFFFFh.
 abbrev pub shows_id : (out reply : List ℕ) → Bool
 shows_id (opcode ∷ []) (a ∷ b ∷ c ∷ []) = opcode == 0x9F && not (a == 255 && (b == 255 && c == 255))
 shows_id _ _ = false
 
--- Holds if, on a well-behaved bus, a read of the ID that returned an ID other than FFFFFFh (`shows_id`) returned the ID
--- of the chip.
+-- Holds if, on a well-behaved bus, an ID other than FFFFFFh that was read (`shows_id`) is the ID of the chip.
 pub record RepliesId (out reply : List ℕ) (inside : BusState) : Type 0 where
   pub id : inside.honest ≡ true → shows_id out reply ≡ true → reply ≡ chip_id inside.chip.config
 
--- Holds if `is_known` is true once an ID was read (`has_id`) over a well-behaved bus whose chip has an ID of the list,
--- or the ID `before`.
+-- Holds if `is_known` follows from `has_id`, on a well-behaved bus whose chip has an ID of `ids` or the ID `before`.
 pub record IsKnownOnceRead (ids : List (List ℕ)) (before : Option (List ℕ)) (has_id is_known : Bool) (inside : BusState)
     : Type 0 where
   pub known : has_id ≡ true → inside.honest ≡ true → is_listed_chip ids before inside.chip.config ≡ true

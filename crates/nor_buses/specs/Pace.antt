@@ -1,9 +1,8 @@
--- The pauses between polls that show BUSY. Durations and pauses are in microseconds.
+-- The pauses between polls that show BUSY. All times are in microseconds; `elapsed` is the time since the command.
 use Rattle.std.specs.Prelude.{◌+◌, ◌-◌, ◌*◌, ◌/◌, ◌^◌, ◌==◌, ◌||◌, nat_lt, ℕ, zero, suc, true, List, [], ◌∷◌, Option, None, Some, min, max, if◌then◌else◌}
 use Rattle.nor_model.specs.PolledReady.{polled_ready_after}
 
--- The number of successive polls that showed BUSY, after one more transaction; at most 2^64 - 1. Any other transaction
--- sets it to 0.
+-- The number of successive polls that showed BUSY, after one more transaction. Any other transaction resets it to 0.
 abbrev pub busy_row_after : (out answer : List ℕ) → (before : ℕ) → ℕ
 busy_row_after out answer before = if polled_ready_after out answer true then 0 else min (before + 1) (2 ^ 64 - 1)
 
@@ -29,16 +28,15 @@ third_pause typical = min 6250 (max 100 (typical / 16))
 abbrev pub first_pause : (typical elapsed : ℕ) → ℕ
 first_pause typical elapsed = if nat_lt 1000 typical then 0 else typical - elapsed
 
--- The pause before a poll that follows `busy_polls` polls in a row which showed BUSY. From the third poll on, the pause
--- doubles after every 16 polls, up to 6,250.
+-- The pause before a poll that follows `busy_polls` polls in a row which showed BUSY.
 abbrev pub pause_before : (typical elapsed busy_polls : ℕ) → ℕ
 pause_before typical elapsed busy_polls =
     if busy_polls == 0 then first_pause typical elapsed
     else if busy_polls == 1 then typical - elapsed
     else min 6250 (third_pause typical * 2 ^ min 6 (busy_polls / 16))
 
--- The sum of the pauses before the first `polls` polls of a wait, if all of them show BUSY. The command was sent
--- `elapsed` before the first and the second poll.
+-- The sum of the pauses before the first `polls` polls of a wait, if all of them show BUSY and `elapsed` stays the
+-- same.
 unfoldable pub pauses : (typical elapsed polls : ℕ) → ℕ
 pauses typical elapsed zero = 0
 pauses typical elapsed (suc polls) = pauses typical elapsed polls + pause_before typical elapsed polls

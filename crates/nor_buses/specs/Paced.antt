@@ -9,6 +9,5 @@ paced_of paced = paced.bus
 abbrev pub busy_row : {B C : Type 0} → Paced B C → ℕ
 busy_row paced = paced.busy_polls
 
--- The typical duration in microseconds of the operation that began last, or 0.
 abbrev pub typical_in : {B C : Type 0} → Paced B C → ℕ
 typical_in paced = paced.typical

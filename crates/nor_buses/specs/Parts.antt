@@ -9,8 +9,6 @@ use Rattle.nor_buses.specs.ReadsAs.{part}
 abbrev pub address_bytes : (address : ℕ) → List ℕ
 address_bytes address = address / 65536 % 256 ∷ address / 256 % 256 ∷ address % 256 ∷ []
 
--- ---- reads
-
 -- The bytes `out` with their address, if there is one, increased by `n`.
 abbrev pub further : (out : List ℕ) → (n : ℕ) → List ℕ
 further (opcode ∷ x ∷ y ∷ z ∷ rest) n = opcode ∷ address_bytes (65536 * x + 256 * y + z + n) ++ rest
@@ -32,8 +30,7 @@ AreReadParts most out [] = ⊤
 AreReadParts most out (exchange ∷ earlier) =
     IsReadPart most out (length (bytes_of_replies earlier)) exchange × AreReadParts most out earlier
 
--- True for a read that can be split: of data (03h) or SFDP (5Ah) with a whole address, or of status 1 (05h) or status 2
--- (35h).
+-- True if `out` is a read that can be split: of data (03h), SFDP (5Ah), status 1 (05h) or status 2 (35h).
 abbrev pub can_split_read : (out : List ℕ) → Bool
 can_split_read (opcode ∷ []) = opcode == 0x05 || opcode == 0x35
 can_split_read (opcode ∷ x ∷ y ∷ z ∷ []) = opcode == 0x03
@@ -49,14 +46,11 @@ pub record SplitsRead (most : ℕ) (out answer : List ℕ) (result : Result Unit
   pub parts : AreReadParts most out later
   pub whole : OnOk result (answer ≡ bytes_of_replies later)
 
--- ---- programs
-
 -- The bytes that a part of a program of `bytes` at `address` sends, for `n` data bytes from the index `from` on.
 abbrev pub program_part : (address : ℕ) → (bytes : List ℕ) → (from n : ℕ) → List ℕ
 program_part address bytes from n = 0x02 ∷ address_bytes (address + from) ++ part bytes from n
 
--- The number of data bytes that the programs among these transactions send. Each sends four bytes before its data.
--- Polls (05h) and write enables (06h) send one byte, so they count as 0.
+-- The number of data bytes that the programs among these transactions send. A program sends four bytes before its data.
 abbrev pub bytes_programmed : List Exchange → ℕ
 bytes_programmed [] = 0
 bytes_programmed (exchange ∷ earlier) = bytes_programmed earlier + (length exchange.out - 4)
@@ -81,8 +75,7 @@ pub record Enables (exchange : Exchange) (earlier : List Exchange) : Type 0 wher
   pub sends : exchange.out ≡ 0x06 ∷ []
   pub ready : EndsReady earlier
 
--- Holds if the transaction programs the next bytes of `bytes`, at least one, after a write enable or as the first
--- transaction.
+-- Holds if the transaction programs the next bytes of `bytes`, as the first transaction or after a write enable.
 pub record ProgramsPart (most address : ℕ) (bytes : List ℕ) (exchange : Exchange)
     (earlier : List Exchange) : Type 0 where
   pub len : ℕ

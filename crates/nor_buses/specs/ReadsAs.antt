@@ -8,8 +8,7 @@ abbrev pub reads_data : (out : List ℕ) → Bool
 reads_data (opcode ∷ x ∷ y ∷ z ∷ []) = opcode == 0x03
 reads_data _ = false
 
--- The address in the bytes `out`: the three bytes after the opcode, high byte first. It is 0 if `out` has no whole
--- address.
+-- The address in `out`: the three bytes after the opcode, high byte first, or 0 if `out` has no whole address.
 abbrev pub address_in : (out : List ℕ) → ℕ
 address_in (opcode ∷ x ∷ y ∷ z ∷ rest) = 65536 * x + 256 * y + z
 address_in _ = 0
@@ -17,8 +16,8 @@ address_in _ = 0
 abbrev pub part : (bytes : List ℕ) → (at n : ℕ) → List ℕ
 part bytes at n = take n (drop at bytes)
 
--- The state of a bus that may carry out one transaction with several transactions of the bus inside: the state of the
--- bus inside with the history of this bus. It is not punctual, because it may stop at each of these transactions.
+-- The state of the bus inside with the given history, but not punctual. It is that of a bus which may carry out one
+-- transaction with several transactions of the bus inside.
 abbrev pub around : (inside : BusState) → (history : List Exchange) → BusState
 around inside history = record inside { history = history; punctual = false }
 
@@ -35,8 +34,7 @@ beside inside history = record (unknown_bus history) {
   further = inside.further;
 }
 
--- Holds if no transaction that may modify the chip and no allowance was recorded, and the result of the last poll is as
--- it was.
+-- Holds if the transactions that may modify the chip, the allowances and the result of the last poll are as they were.
 pub record KeepsRecord (old new : BusState) : Type 0 where
   pub sent : new.sent ≡ old.sent
   pub allowances : new.allowances ≡ old.allowances
@@ -46,8 +44,7 @@ abbrev pub last_out : List Exchange → List ℕ
 last_out [] = []
 last_out (exchange ∷ earlier) = exchange.out
 
--- Holds if the last transaction of the history is a read of data from `start` on, which succeeded with the reply
--- `answer`.
+-- Holds if the last transaction is a read of data from `start` on, which succeeded with the reply `answer`.
 pub record EndsWithRead (start : ℕ) (answer : List ℕ) (history : List Exchange) : Type 0 where
   pub reads : reads_data (last_out history) ≡ true
   pub address : address_in (last_out history) ≡ start
@@ -61,7 +58,6 @@ pub record EndsWithData (at : ℕ) (bytes : List ℕ) (history : List Exchange) 
   pub begins : start ≤ at
   pub same : bytes ≡ part answer (at - start) (length bytes)
 
--- Holds if `len` is 0, or the first `len` bytes of `block` are the whole reply to the last transaction, a read of data
--- from `start` on.
+-- Holds if `len` is 0, or the last transaction read the first `len` bytes of `block` from the address `start` on.
 pub record HoldsReply (block : List ℕ) (start len : ℕ) (history : List Exchange) : Type 0 where
   pub reply : 0 < len → EndsWithRead start (take len block) history

@@ -27,7 +27,6 @@ history_of same = same.history.exchanges
 abbrev pub same_chip_state : {B : Type 0} → (inside : B → BusState) → SameChip B → BusState
 same_chip_state inside same = beside (inside (checked_by same)) (history_of same)
 
--- The bytes that a read of the unique ID sends: 4Bh and four bytes that the chip ignores.
 abbrev pub unique_read : List ℕ
 unique_read = 0x4B ∷ 0 ∷ 0 ∷ 0 ∷ 0 ∷ []
 
@@ -38,14 +37,14 @@ reads_unique _ = false
 abbrev pub unique_after : (out reply : List ℕ) → (known : Option (List ℕ)) → Option (List ℕ)
 unique_after out reply known = if reads_unique out && length reply == 8 then Some reply else known
 
--- Holds if the unique ID was read again before a modifying command and was the same as `unique`. If none is remembered,
--- or a modifying command was passed on before (`begun`), nothing was sent.
+-- Holds if the unique ID was read again and was still `unique` or, if `unique` is `None` or a modifying command was
+-- passed on before (`begun`), nothing was sent.
 pub record IsChecked (begun : Bool) (unique : Option (List ℕ)) (old new : List Exchange) : Type 0 where
   pub later : begun ≡ true → new ≡ old
   pub none : unique ≡ None → new ≡ old
   pub again : (bytes : List ℕ) → begun ≡ false → unique ≡ Some bytes → new ≡ replied unique_read bytes ∷ old
 
--- Holds if the unique ID `other.before` was remembered, and a read of the unique ID then returned another one,
+-- Holds if the remembered ID `unique` is `other.before`, and the unique ID was then read as the different
 -- `other.found`.
 pub record FindsOther (unique : Option (List ℕ)) (other : OtherChip) (old new : List Exchange) : Type 0 where
   pub before : unique ≡ Some other.before

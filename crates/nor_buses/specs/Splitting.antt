@@ -8,16 +8,12 @@ use Rattle.nor_buses.specs.declared.splitting.SplittingBus.{SplittingBus}
 abbrev pub split_of : {B : Type 0} → SplittingBus B → B
 split_of splitting = splitting.bus
 
--- The greatest number of bytes that a transaction over the bus inside sends (`sends_most`), and that it reads
--- (`receives_most`).
 abbrev pub sends_most : {B : Type 0} → SplittingBus B → ℕ
 sends_most splitting = splitting.longest_write
 
 abbrev pub receives_most : {B : Type 0} → SplittingBus B → ℕ
 receives_most splitting = splitting.longest_read
 
--- The transactions that the bus was asked to carry out, each with its reply, the last one first. A transaction that was
--- split is listed once.
 abbrev pub history_of : {B : Type 0} → SplittingBus B → List Exchange
 history_of splitting = splitting.history.exchanges
 
@@ -25,18 +21,13 @@ history_of splitting = splitting.history.exchanges
 abbrev pub takes_whole : (sends receives : ℕ) → Bool
 takes_whole sends receives = nat_le 260 sends && nat_le 4096 receives
 
--- The number of bytes by which a read may exceed 4,096 bytes so that it isn't split and the bus inside takes it.
--- `receives` is the greatest number of bytes that a transaction over the bus inside reads. If that bus isn't
--- `unlimited`, it takes reads of up to 4,096 + `longer` bytes.
+-- The greatest number of bytes by which a read may exceed 4,096 bytes if it isn't split (limit `receives`) and the bus
+-- inside takes the read (`unlimited`, `longer`).
 abbrev pub reads_longer : (receives : ℕ) → (unlimited : Bool) → (longer : ℕ) → ℕ
 reads_longer receives unlimited longer = if unlimited then receives - 4096 else min longer (receives - 4096)
 
--- The state of a bus with this history that splits what the bus inside can't take. The chip is that of the bus inside.
---
--- The bus is well-behaved if and only if the bus inside is and `wide` (`takes_whole`) is true: then this bus splits no
--- transaction of a length that it must take. If `wide` is false, a program in parts that stops may leave the page
--- partly programmed, the chip idle and its write enable latch set. The stop of a single transaction can't leave this
--- state.
+-- The state of a bus that splits what the bus inside can't take. It is well-behaved if and only if the bus inside is
+-- and `wide` (`takes_whole`) is true.
 abbrev pub splits : (wide : Bool) → (receives : ℕ) → (inside : BusState) → (history : List Exchange) → BusState
 splits wide receives inside history = record (beside inside history) {
   honest = inside.honest && wide;

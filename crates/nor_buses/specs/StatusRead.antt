@@ -26,7 +26,7 @@ abbrev pub confirmed : (known : Option (List ℕ)) → List Exchange → List Ex
 confirmed None history = history
 confirmed (Some id) history = read_id id ∷ history
 
--- Holds if the known ID did not change. If no ID was known before, nothing is claimed.
+-- Holds if the known ID did not change, or no ID was known.
 pub record KeepsId (old new : Option (List ℕ)) : Type 0 where
   pub same : is_known old ≡ true → new ≡ old
 
@@ -40,16 +40,15 @@ pub record IsReadTwice (read : Exchange) (known : Option (List ℕ)) (old new : 
   pub knows : is_known known ≡ true
   pub is : new ≡ confirmed known (read ∷ confirmed known (read ∷ old))
 
--- Holds if, after a status write of the bytes `sent`, status 2 was read twice and all non-volatile bits are those that
--- were sent. Status 1 was read as `one` before.
+-- Holds if status 2 was read twice after a status write of the bytes `sent`, and all non-volatile bits of status 1
+-- (`one`) and status 2 are those that were sent.
 pub record HasStored (sent : List ℕ) (one : ℕ) (known : Option (List ℕ)) (old new : List Exchange) : Type 0 where
   pub two : ℕ
   pub twice : IsReadTwice (second two) known old new
   pub first : one / 4 ≡ slice_index sent 0 / 4
   pub last : two % 128 ≡ slice_index sent 1 % 128
 
--- Holds if status 1 was read twice as `status`, and then status 2, and the non-volatile bits of both are those in the
--- bytes `sent`.
+-- Holds if status 1 was read twice as `status`, and then status 2, and all non-volatile bits are those in `sent`.
 pub record AgreesWithSent (sent : List ℕ) (status : ℕ) (known : Option (List ℕ)) (old new : List Exchange)
     : Type 0 where
   pub between : List Exchange
@@ -96,17 +95,13 @@ was_read_twice opcode byte (d ∷ c ∷ b ∷ a ∷ earlier) =
     || was_read_twice opcode byte (c ∷ b ∷ a ∷ earlier)
 
 pub record ChangesOnlySrp0 (one two one_read two_read : ℕ) : Type 0 where
-  -- bits 2 to 6 of status 1, the protection bits
   pub protection : one % 128 / 4 ≡ one_read % 128 / 4
-  -- bits 0 to 6 of status 2
   pub whole : two % 128 ≡ two_read % 128
 
+-- Holds if SRP0 (of status 1), and SRP1, QE, the reserved bit and LB1 to LB3 (of status 2) are as they were read.
 pub record ChangesOnlyProtection (one two one_read two_read : ℕ) : Type 0 where
-  -- SRP0 (bit 7 of status 1)
   pub srp0 : one / 128 ≡ one_read / 128
-  -- the one-time bits LB1, LB2 and LB3 (bits 3 to 5 of status 2)
   pub locks : two / 8 % 8 ≡ two_read / 8 % 8
-  -- SRP1, QE and the reserved bit (bits 0 to 2 of status 2)
   pub low : two % 8 ≡ two_read % 8
 
 abbrev pub ChangesAsAllowed : (locks : Bool) → (one two one_read two_read : ℕ) → Type 0
@@ -125,6 +120,5 @@ pub record IsStatusAllowed (locks : Bool) (out : List ℕ) (history : List Excha
   pub first : was_read_twice 0x05 one_read history ≡ true
   pub last : was_read_twice 0x35 two_read history ≡ true
   pub changes : ChangesAsAllowed locks one two one_read two_read
-  -- BUSY and WEL (bits 0 and 1 of status 1) are clear, and so is SUS (bit 7 of status 2)
   pub idle : one % 4 ≡ 0
   pub awake : two / 128 ≡ 0

@@ -17,8 +17,7 @@ has_differed twice = twice.differed
 abbrev pub expected_of : {B : Type 0} → ReadTwice B → Option (Vec ℕ Global)
 expected_of twice = twice.expected
 
--- Holds if an image is expected, and each byte of `answer`, the reply to the read of data `out`, that differs from the
--- image was read again.
+-- Holds if an image is expected, and each byte of `answer` that differs from the image was read again.
 abbrev pub RepeatsUnexpected : {B : Type 0} → ReadTwice B → (out answer : List ℕ) → (old new : List Exchange) → Type 0
 RepeatsUnexpected twice out answer old new = elim twice.expected [
   | None ↦ ⊥
@@ -31,7 +30,6 @@ CarriesUnexpected twice out answer old new = elim twice.expected [
   | Some image ↦ CarriesDiffering image.items out answer old new
 ]
 
--- The transactions that this bus was asked to carry out. A read that the bus inside carried out twice is listed once.
 abbrev pub history_of : {B : Type 0} → ReadTwice B → List Exchange
 history_of twice = twice.history.exchanges
 

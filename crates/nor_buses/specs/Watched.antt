@@ -1,4 +1,4 @@
--- A bus that detects that the chip lost contact or power while it seems to be busy, as contracts see it.
+-- A bus that detects that the chip lost contact or power while the chip seems to be busy, as contracts see it.
 use Rattle.std.specs.Prelude.{◌≡◌, ◌==◌, ◌&&◌, ◌+◌, ℕ, Bool, true, false, List, [], ◌∷◌, nat_lt, nat_le, not}
 use Rattle.std.specs.Prelude.{if◌then◌else◌}
 use Rattle.nor_model.specs.Bus.{BusState}
@@ -7,24 +7,18 @@ use Rattle.nor_model.specs.History.{replied}
 use Rattle.nor_buses.specs.ReadsAs.{beside}
 use Rattle.nor_buses.specs.declared.watched.Watched.{Watched}
 
--- The bus inside, which carries out the transactions of a `Watched`.
 abbrev pub watched_by : {B : Type 0} → Watched B → B
 watched_by watched = watched.bus
 
--- True if the bus found that the chip lost contact or power.
 abbrev pub is_lost : {B : Type 0} → Watched B → Bool
 is_lost watched = watched.is_lost
 
--- How many polls in a row, up to the last transaction, returned only FFh; at most 256. A read of the ID by this bus
--- resets the number to 0.
 abbrev pub row_in : {B : Type 0} → Watched B → ℕ
 row_in watched = watched.row
 
--- True if the last poll with another reply than FFh returned a status 1 below FCh.
 abbrev pub has_status : {B : Type 0} → Watched B → Bool
 has_status watched = watched.has_status
 
--- The transactions that the bus was asked to carry out, each with its reply, the last one first.
 abbrev pub history_of : {B : Type 0} → Watched B → List Exchange
 history_of watched = watched.history.exchanges
 
@@ -32,19 +26,16 @@ history_of watched = watched.history.exchanges
 abbrev pub unsteady : BusState → BusState
 unsteady inside = record inside { steady = false }
 
--- The state of a `Watched`. It is well-behaved if and only if the bus inside is. It is not punctual, because it may
--- stop even if the bus inside does not. It is not steady, because it may stop after a poll that the chip carried out:
--- in the model, a busy chip shows BUSY for a limited number of polls, and each poll uses up one of them.
 abbrev pub watched_state : {B : Type 0} → (inside : B → BusState) → Watched B → BusState
 watched_state inside watched = beside (unsteady (inside (watched_by watched))) (history_of watched)
 
--- True if a transaction that sent `out` is a poll whose reply is one or two bytes FFh.
+-- True if a transaction is a poll whose reply is one or two bytes FFh.
 abbrev pub is_undriven : (out reply : List ℕ) → Bool
 is_undriven (opcode ∷ []) (a ∷ []) = opcode == 0x05 && a == 255
 is_undriven (opcode ∷ []) (a ∷ b ∷ []) = opcode == 0x05 && (a == 255 && b == 255)
 is_undriven _ _ = false
 
--- The number of polls in a row with only FFh after one more transaction; at most 256. `row` is the number before it.
+-- The number of polls in a row with only FFh after one more transaction (at most 256), if it was `row` before.
 abbrev pub row_after : (out reply : List ℕ) → (row : ℕ) → ℕ
 row_after out reply row = if is_undriven out reply then (if nat_lt row 256 then row + 1 else 256) else 0
 
@@ -55,8 +46,7 @@ status_after (opcode ∷ []) (a ∷ b ∷ []) known =
     if opcode == 0x05 && not (a == 255 && b == 255) then nat_lt b 252 else known
 status_after _ _ known = known
 
--- True if the bus reads the ID after this transaction: it is at least poll number 256 in a row with only FFh, and the
--- last poll with another reply returned a status 1 below FCh.
+-- True if at least 256 polls in a row returned only FFh, and the last other status 1 was below FCh.
 abbrev pub looks_after : (out reply : List ℕ) → (row : ℕ) → (known : Bool) → Bool
 looks_after out reply row known = nat_le 256 (row_after out reply row) && status_after out reply known
 

@@ -1,4 +1,4 @@
-//! Repeats a read and compares the two replies. If an image is expected, repeats only the sectors that differ from it.
+//! Second reads, compared with the first ones: of all bytes, or only of the sectors that differ from an expected image.
 ghost use Rattle.std.specs.Prelude.{◌≡◌, ◌≢◌, ◌<◌, ◌≤◌, ◌+◌, ◌/◌, ◌∷◌, true, false, ℕ, length, OnOk, OnErr, IfOk};
 ghost use Rattle.nor_model.specs.Bus.{IsHonestFor, SameNature, Carries};
 ghost use Rattle.nor_model.specs.History.{replied};
@@ -18,8 +18,7 @@ struct Run {
     is_expected: bool,
 }
 
-// Repeats the read `out`, whose first reply was `reply`. Returns whether the second reply, which is stored in `again`,
-// is the same.
+// Repeats the read `out`, whose first reply was `reply`, into `again`. Returns whether both replies are the same.
 pub(crate) fn is_repeated<B: Bus>(
     bus: &mut B,
     out: &[u8],
@@ -47,9 +46,8 @@ pub(crate) fn is_repeated<B: Bus>(
     Ok(are_same(reply, second))
 }
 
-// Reads each sector of `reply` that differs from the image a second time, into `again`. Neighbouring sectors are read
-// with one transaction. `reply` was read from `address` on. Returns false at the first second reply that differs, and
-// otherwise true.
+// Reads the sectors of `reply` that differ from the image again, neighbouring sectors with one transaction. `reply` was
+// read from `address` on. Returns false as soon as a second reply differs from the first one, and otherwise true.
 pub(crate) fn is_repeated_or_expected<B: Bus>(
     bus: &mut B,
     image: &[u8],
@@ -86,8 +84,7 @@ pub(crate) fn is_repeated_or_expected<B: Bus>(
     Ok(true)
 }
 
-// Returns the longest run of sectors that starts at the index `from` of `reply`, and in which either all sectors equal
-// the image or all differ from it.
+// Returns the longest run of sectors from the index `from` on that all equal the image, or that all differ from it.
 fn run_from(image: &[u8], address: u32, reply: &[u8], from: usize) -> Run
     requires fits { address + length reply.now ≤ 16777216 }
     requires some { from < length reply.now }

@@ -17,25 +17,21 @@ use nor_model::{Bus, History, Stopped};
 // this length does not reach past the end of a chip.
 const LONGEST_BLOCK: u32 = 1 << 16;
 
-/// A bus that reads data (03h) ahead if reads follow each other. It keeps the bytes that it last read over the bus
-/// inside in memory: the *block*. If the block contains all bytes of a read, they are returned from memory. Otherwise a
-/// new block is read, which begins at the address of the read. If this is the address at which the last block ended,
-/// the length of the block doubles, up to the greatest length that the limits below allow; otherwise it is the length
-/// of the read.
+/// A bus that reads data (03h) ahead if reads follow each other. It keeps the *block* in memory: the bytes that it last
+/// read over the bus inside. If the block contains all bytes of a read, they are returned from memory. Otherwise a new
+/// block is read from the address of the read on. If the last block ended at this address, the planned length of blocks
+/// doubles; otherwise it is the length of the read. The limits below may shorten a block, but never below the read.
 ///
-/// The block is discarded at each transaction that is passed on unchanged, and if the bus inside stops. A block ends at
-/// the next multiple of 64 KiB at the latest, and `end_blocks_at` can make it end earlier. It is never longer than the
-/// bus inside can read. A transaction is passed on unchanged if it is no read of data, reads more than the longest
-/// block, or reaches past a multiple of 64 KiB.
+/// A block ends at the next multiple of 64 KiB at the latest, or earlier (`end_blocks_at`), and is never longer than
+/// the bus inside can read. A transaction is passed on unchanged if it is no read of data, reads more than the longest
+/// block, or reaches past a multiple of 64 KiB. Such a transaction discards the block, and so does a stop.
 ///
 /// On any bus, if a read of data of at least one byte returns `Ok`, the last transaction over the bus inside is a read
 /// of data, and its reply contains the returned bytes at the same addresses.
 ///
 /// This bus is never punctual. It is proved to be well-behaved if the bus inside is, and is unlimited or takes reads as
-/// long as the longest block. While this bus is used, nobody else may modify the chip.
-///
-/// The history lists each transaction over this bus with its reply, even a read whose bytes came from memory. In
-/// contracts, the modifying commands that were sent and the result of the last poll are those of the bus inside.
+/// long as the longest block. While this bus is used, nobody else may modify the chip. The history also lists reads
+/// whose bytes came from memory.
 #[derive(Drop)]
 pub struct ReadAhead<B: Bus + Drop> {
     bus: B,
@@ -57,8 +53,8 @@ pub struct ReadAhead<B: Bus + Drop> {
 impl<B: Bus + Drop> ReadAhead<B> {
     ghost use Rattle.nor_buses.specs.Ahead.{ahead_of, held, history_of, longest_of};
 
-    /// Returns a bus that reads ahead over `bus`, whose transactions can read `longest_read` bytes. If that is less
-    /// than 4,096, nothing is read ahead.
+    /// Returns a bus that reads ahead over `bus`, whose transactions can read up to `longest_read` bytes. If
+    /// `longest_read` is less than 4,096, nothing is read ahead.
     pub fn new(bus: B, longest_read: u32) -> ReadAhead<B>
         ensures bus { ahead_of result ≡ bus }
         ensures empty { held result ≡ 0 }
@@ -99,8 +95,7 @@ impl<B: Bus + Drop> ReadAhead<B> {
 impl<B: Bus + Drop> ReadAhead<B> {
     ghost use Rattle.nor_buses.specs.Ahead.{begin, held, history_of, longest_of, inside_of, ahead_state};
 
-    // Makes one transaction, and does not add it to the history. The clause `records` describes the state after the
-    // caller has added it.
+    // Makes one transaction. The clause `records` is about the state after the caller added this one to the history.
     fn carry(&mut self, out: &[u8], reply: &mut [u8]) -> Result<(), Stopped>
         ensures records { Records out.now reply.new result (ahead_state self.old)
             (around (inside_of self.new) (exchange_of out.now reply.new result ∷ history_of self.old)) }

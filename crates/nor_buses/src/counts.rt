@@ -1,10 +1,8 @@
-//! How often each value occurs in the data that was read, which shows whether the port changes one value into another.
+//! Counts of the byte values in the data that was read, which may show that the port changes one value into another.
 
 /// A byte value that the port seems to change into another: the value does not occur in the data that was read, but the
-/// other value does.
-///
-/// A port that is not set up as raw may change each received 0Dh into 0Ah (`icrnl` of stty(1)), or each 0Ah into 0Dh
-/// (`inlcr`). Reading twice doesn't detect this, because both replies are changed in the same way.
+/// other value does. A serial port that isn't set up as raw may change each received 0Dh into 0Ah (`icrnl` of stty(1)),
+/// or each 0Ah into 0Dh (`inlcr`). Reading twice doesn't detect this.
 #[derive(Clone, Copy, Debug, PartialEq, Eq)]
 pub struct ChangedByte {
     /// The value that does not occur: 0Dh or 0Ah.
@@ -28,8 +26,8 @@ const CHANGES: [ChangedByte; 2] = [
 // at most half of the 256 values.
 const FEWEST_VALUES: usize = 192;
 
-// The least number of occurrences of `read_as`. Most data is read twice, so these are usually at least 32 bytes of the
-// chip. If both values are equally likely, 32 bytes are all `read_as` in 1 of 2^32 cases.
+// A value counts as changed only if `read_as` occurs at least this often. Most data is read twice, so these are usually
+// at least 32 bytes of the chip. If both values are equally likely, 32 bytes are all `read_as` in 1 of 2^32 cases.
 const FEWEST_OCCURRENCES: u32 = 64;
 
 #[derive(Drop)]

@@ -1,4 +1,4 @@
-//! A bus that hides bit 6 of status 1 if this bit is QE (quad enable). QE protects nothing.
+//! A bus that hides bit 6 of status 1 if this bit is QE (quad enable).
 ghost use Rattle.std.specs.Prelude.{◌≡◌, ◌%◌, ◌∷◌, [], not, true, false, IfOk, OnErr, OnOk, length, slice_index, slice_set};
 ghost use Rattle.std.proofs.lemmas.Bool.{and_parts};
 ghost use Rattle.nor_model.specs.Bus.{IsHonestFor, SameNature, AtStop, Transfers};
@@ -12,7 +12,7 @@ use crate::known_status2::{is_id_listed, word_15_in};
 use nor_model::opcodes::{READ_ID, READ_SFDP, READ_STATUS1, WRITE_STATUS};
 use nor_model::{Bus, History, Stopped};
 
-// The bytes that read the SFDP header (`HEADER`) and the header of the first parameter table (`FIRST_TABLE`) (JESD216).
+// The bytes that read the SFDP header and (`FIRST_TABLE`) the header of the first parameter table (JESD216).
 const HEADER: [u8; 5] = [READ_SFDP, 0, 0, 0, 0];
 
 const FIRST_TABLE: [u8; 5] = [READ_SFDP, 0, 0, 8, 0];
@@ -20,33 +20,26 @@ const FIRST_TABLE: [u8; 5] = [READ_SFDP, 0, 0, 8, 0];
 /// A bus that returns bit 6 of status 1 as 0 if this bit is QE. On Winbond's chips bit 6 is SEC, a protection bit. On
 /// chips of Macronix, ISSI and others it is QE, which lets the chip use four data lines and protects nothing.
 ///
-/// The SFDP says where QE is: quad enable requirements of 010b, in bits 22 to 20 of double word 15, mean bit 6 of
-/// status 1 (JESD216B, double word 15). When a poll (05h with one reply byte) first shows an idle chip with bit 6 set,
-/// this bus reads the ID and, unless the ID is one of `rows`, both headers of the SFDP and double word 15. If the ID is
-/// one of `rows`, the SFDP doesn't have this double word, or its requirements are others, then bit 6 is passed on
-/// unchanged from then on.
+/// When a poll (05h with one reply byte) first shows an idle chip with bit 6 set, this bus reads the ID and, unless the
+/// ID is one of `rows` (see `new`), the SFDP. If the SFDP's quad enable requirements, bits 22 to 20 of double word 15,
+/// are 010b (JESD216B, double word 15), bit 6 is QE. Otherwise bit 6 is passed on unchanged from then on.
 ///
-/// If QE is hidden, a status write returns `Stopped` and is not sent, so QE stays as it is. Each other transaction is
-/// passed on unchanged. The engine sends no status write to a chip that has no row in the table of known chips.
+/// If QE is hidden, a status write returns `Stopped` and is not sent, so QE stays as it is. The engine sends no status
+/// write to a chip that has no row in the table of known chips.
 ///
 /// This bus is well-behaved if the bus inside is, and if bit 6 of the chip is never hidden: because the chip has an ID
-/// of `rows`, or because `hides` is false. This bus is never punctual.
-///
-/// The history lists each transaction over this bus with its reply. In contracts, the chip is that of the bus inside.
-/// The modifying commands and the result of the last poll are those of this bus's own history.
+/// of `rows`, or because `hides` is false (see `new`). It is never punctual.
 #[derive(Drop)]
 pub struct KeptQuad<B: Bus + Drop> {
     bus: B,
     // The IDs of the chips that have a row in the table of known chips. Their bit 6 is SEC.
     rows: &'static [[u8; 3]],
-    // True if this bus hides bit 6 of a chip on which it is QE. If false, this bus hides nothing.
+    // True if this bus hides bit 6 of a chip on which bit 6 is QE.
     hides: bool,
     has_quad: bool,
     // True if it is decided whether bit 6 is hidden: QE was looked up, or this bus hides nothing.
     is_judged: bool,
     history: History,
-    // If `hides` is false, `is_judged` is true. On a well-behaved bus, bit 6 isn't hidden if `hides` is false or the
-    // chip has an ID of `rows`.
     ghost plain: { IsPlain rows.now hides has_quad is_judged (B.state bus) },
 }
 
@@ -109,7 +102,7 @@ impl<B: Bus + Drop> KeptQuad<B> {
         Ok(())
     }
 
-    // Reads the ID and, unless it is one of `rows`, the SFDP. Returns whether they say that bit 6 of status 1 is QE.
+    // Reads the ID and, unless it is one of `rows`, the SFDP. Returns whether the SFDP was read and shows bit 6 as QE.
     #[tactic(auto, using(crate::proofs::Plain::plain_still))]
     fn is_bit6(&mut self) -> Result<bool, Stopped>
         requires { (B.state (kept_by self.old)).honest ≡ true → (B.state (kept_by self.old)).chip.busy ≡ 0 }
@@ -154,7 +147,6 @@ impl<B: Bus + Drop> KeptQuad<B> {
         Ok(is_bit6(word))
     }
 
-    // Makes one transaction, and does not add it to the history.
     #[tactic(auto, using(crate::proofs::Plain::plain_still))]
     fn carry(&mut self, out: &[u8], reply: &mut [u8]) -> Result<(), Stopped>
         ensures history { history_of self.new ≡ history_of self.old }
@@ -191,8 +183,8 @@ impl<B: Bus + Drop> KeptQuad<B> {
         Ok(())
     }
 
-    // Clears bit 6 of the status byte in `reply` if bit 6 is QE. If this isn't decided yet, `out` is 05h alone, and the
-    // byte shows an idle chip with bit 6 set, finds it out first.
+    // Clears bit 6 of the status byte in `reply` if bit 6 is QE. If this isn't decided yet, and `out` is only 05h and
+    // the byte shows an idle chip with bit 6 set, first finds out whether bit 6 is QE.
     fn hide(&mut self, out: &[u8], reply: &mut [u8]) -> Result<(), Stopped>
         requires len { length reply.old ≡ 1 }
         requires idle { (B.state (kept_by self.old)).honest ≡ true → length out.now ≡ 1
@@ -271,14 +263,12 @@ impl<B: Bus + Drop> Bus for KeptQuad<B> {
     }
 }
 
-// Returns whether a transaction begins with the opcode of a status write.
 fn is_status_write(out: &[u8]) -> bool
     ensures { result ≡ begins_with 0x01 out.now }
 {
     matches!(out, [WRITE_STATUS, ..])
 }
 
-// Returns whether a transaction is a poll with one reply byte.
 fn is_poll(out: &[u8], reply: &[u8]) -> bool
     ensures poll { result ≡ true → (begins_with 0x05 out.now ≡ true) × (length reply.now ≡ 1) }
     ensures other { result ≡ false → length reply.now ≡ 1 → begins_with 0x05 out.now ≡ false }
@@ -286,14 +276,12 @@ fn is_poll(out: &[u8], reply: &[u8]) -> bool
     matches!(out, [READ_STATUS1, ..]) && reply.len() == 1
 }
 
-// Returns whether status 1 shows an idle chip with bit 6 set.
 fn shows_bit6(status: u8) -> bool
     ensures { result ≡ true → status % 2 ≡ 0 }
 {
     status % 2 == 0 && status / 64 % 2 == 1
 }
 
-// Returns status 1 with bit 6 clear.
 fn without_quad(status: u8) -> u8
     ensures { result ≡ without_quad status }
 {
@@ -304,12 +292,11 @@ fn without_quad(status: u8) -> u8
     }
 }
 
-// Returns whether these bytes begin an SFDP of major revision 1 (JESD216, SFDP header).
+// Returns whether `header` is that of an SFDP of major revision 1 (JESD216, SFDP header).
 fn is_sfdp(header: &[u8; 8]) -> bool {
     matches!(header, [b'S', b'F', b'D', b'P', _, 1, _, _])
 }
 
-// Returns whether the quad enable requirements of double word 15 are 010b.
 fn is_bit6(word: [u8; 4]) -> bool
     ensures { result ≡ is_bit6 word }
 {

@@ -1,4 +1,4 @@
-//! What a `CheckedStatus` knows about the chip, and why it stops.
+//! What a `CheckedStatus` knows about the chip, and why this bus stops.
 ghost use Rattle.std.specs.Prelude.{◌≡◌, true, IfSome};
 ghost use Rattle.nor_model.specs.Status.{bytes_of};
 ghost use Rattle.nor_buses.specs.KnownStatus.{KeepsBits, KeepsKnown};
@@ -10,19 +10,17 @@ use nor_model::opcodes::WRITE_STATUS;
 /// The reason why a `CheckedStatus` stopped although the bus inside did not.
 #[derive(Clone, Copy, Debug, PartialEq, Eq)]
 pub enum CheckFault {
-    /// Two reads of one status register (05h or 35h) had different replies. Examples: one poll showed a ready chip and
-    /// the next one BUSY, or two reply bytes of one poll differ although both show a ready chip.
+    /// Two reads of one status register (05h or 35h) had different replies: for example, one poll showed a ready chip
+    /// and the next one BUSY, or two reply bytes of one poll differ although both show a ready chip.
     Differs,
-    /// A status write was not sent, for one of these reasons: status 1 or 2 was not read before; the write doesn't have
-    /// exactly two data bytes; BUSY, WEL or SUS is set in it; or it would change a bit that this bus keeps. The bus
-    /// keeps all bits except the protection bits (after `locking`, all bits except SRP0), because some of them can be
-    /// set only once.
+    /// A status write was not sent, because status 1 or 2 was not read twice before, or because the write doesn't have
+    /// exactly two data bytes, sets BUSY, WEL or SUS, or would change a bit that the bus keeps. The bus keeps all bits
+    /// except the protection bits (after `locking`, all bits except SRP0).
     Refused,
     /// The status write of `sent` was not stored: afterwards the status registers contained `found`, which differs in a
     /// non-volatile bit.
     NotStored { sent: [u8; 2], found: [u8; 2] },
-    /// The chip first returned the ID `id`, and later `found`. If contact or power fails, all replies are FFh or 00h,
-    /// and so are the bytes of `found`.
+    /// The ID was first `id` and later `found`. If contact or power failed, each byte of `found` is FFh or 00h.
     Lost { id: [u8; 3], found: [u8; 3] },
     /// The first modifying command was not sent, because the port seems to change bytes (`ChangedByte`).
     ChangedByte(ChangedByte),
@@ -30,8 +28,7 @@ pub enum CheckFault {
 
 #[derive(Clone, Copy)]
 pub(crate) struct Known {
-    // Status 1 and status 2. Each is known if the register was read twice with the same value, and the known ID was
-    // read after each of these reads.
+    // Status 1 and status 2. Each is `Some` if it was read twice with the same value, and the known ID after each read.
     pub(crate) one: Option<u8>,
     pub(crate) two: Option<u8>,
     pub(crate) is_changing: bool,

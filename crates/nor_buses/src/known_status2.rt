@@ -10,53 +10,43 @@ ghost use Rattle.nor_buses.specs.Listed.{is_readable, names_status2, IsKnownOnce
 use nor_model::opcodes::{READ_ID, READ_SFDP, READ_STATUS2};
 use nor_model::{Bus, History, Stopped};
 
-// The number of double words that the first parameter table must have. Double word 15 contains the quad enable
-// requirements.
+// The least number of double words of a table that has double word 15, which contains the quad enable requirements.
 const WORDS: u8 = 15;
 
-// The offset of double word 15 in the table.
+// The offset of double word 15 in the table, in bytes.
 const WORD_15: u32 = 56;
 
-/// A bus that sends 35h only to a chip that is known to return status 2 for it. On other makers' chips 35h may mean
+/// A bus that sends 35h only to a chip that is known to return status 2 for 35h. On other makers' chips 35h may mean
 /// something else: Macronix MX25L12835F, ISSI IS25LP128 and Micron MT25QL128 enter QPI mode, and then ignore each
 /// command that is sent over one data line, until their power is off.
 ///
 /// The chip is known if one of these conditions holds:
 ///
-/// - A read of the ID (9Fh with three reply bytes) returned an ID of the list `ids`, or the ID `before`.
-/// - Double word 15 of its first parameter table says so: its quad enable requirements, bits 22 to 20, are 101b or 110b
-///   (JESD216B). When 35h is requested for a chip that isn't known, the bus reads this double word if the header of the
+/// - A read of the ID (9Fh with three reply bytes) returned an ID of the list `ids`, or the ID `before` (see `new`).
+/// - The quad enable requirements, bits 22 to 20 of double word 15 of the first SFDP parameter table, are 101b or 110b
+///   (JESD216B). When 35h is requested for a chip that isn't known, this bus reads double word 15 if the header of the
 ///   table, at address 8, was read before and gives at least 15 double words.
 ///
-/// If the chip isn't known, 35h is not sent, and each reply byte is 00h. If it is known, 35h is passed on unchanged,
-/// like every other transaction. The bus remembers that the chip is known, so the bus inside must stop if the ID
-/// changes, as `CheckedStatus` does. `CheckedStatus` also sends 35h itself, after a status write. But it sends a status
-/// write only if 35h was passed on to it before.
-///
-/// Until an ID other than FFFFFFh was read (9Fh alone, with three reply bytes), 35h returns `Stopped` if the chip isn't
-/// known.
+/// If the chip isn't known, 35h is not sent. Then 35h returns `Stopped` until an ID other than FFFFFFh was read, and
+/// later 00h as each reply byte. If the chip is known, 35h is passed on unchanged, as each other transaction always is.
+/// The chip stays known, so the bus inside must stop if the ID changes, as `CheckedStatus` does. `CheckedStatus` itself
+/// also sends 35h after a status write, but it sends a status write only if 35h was passed on to it before.
 ///
 /// This bus is well-behaved if the bus inside is, and the chip has an ID of `ids` or the ID `before`. It is never
-/// punctual. If the chip is known, each transaction over this bus is one transaction of the bus inside (clause
-/// `known`).
-///
-/// The history lists each transaction over this bus with its reply. In contracts, the chip is that of the bus inside.
-/// The modifying commands and the result of the last poll are those of this bus's own history.
+/// punctual.
 #[derive(Drop)]
 pub struct KnownStatus2<B: Bus + Drop> {
     bus: B,
     // The IDs of the chips that return status 2 for 35h.
     ids: &'static [[u8; 3]],
-    // The ID of a chip whose status 2 an earlier run read, if one is given.
+    // The ID of a chip whose status 2 an earlier run read, if this ID is given.
     before: Option<[u8; 3]>,
     is_known: bool,
     // True if an ID other than FFFFFFh was read.
     has_id: bool,
-    // The address of double word 15, if this double word is still to be read. `None` until the table's header was read,
-    // if the table lacks this double word, and after the double word was read.
+    // The address of double word 15, if the table's header gave it and double word 15 wasn't read yet.
     word_15: Option<u32>,
     history: History,
-    // If an ID was read over a well-behaved bus, a chip with an ID of `ids` or with the ID `before` is known.
     ghost judged: { IsKnownOnceRead ids.now before has_id is_known (B.state bus) },
 }
 
@@ -101,8 +91,8 @@ impl<B: Bus + Drop> KnownStatus2<B> {
 impl<B: Bus + Drop> KnownStatus2<B> {
     ghost use Rattle.nor_buses.specs.KnownStatus2.{known_by, has_status2, ids_of, before_of, history_of, inside_known};
 
-    // If the chip isn't known and the address of double word 15 is, reads this double word and records whether it says
-    // that 35h reads status 2.
+    // Reads double word 15 if its address is known and the chip isn't, and records whether this double word makes the
+    // chip known.
     #[tactic(auto, using(crate::proofs::Judged::judged_still))]
     fn find_out(&mut self) -> Result<(), Stopped>
         ensures history { history_of self.new ≡ history_of self.old }
@@ -133,7 +123,6 @@ impl<B: Bus + Drop> KnownStatus2<B> {
         Ok(())
     }
 
-    // Makes one transaction, and does not add it to the history.
     #[tactic(auto, using(crate::proofs::Judged::judged_still, crate::proofs::Judged::replies_id))]
     fn carry(&mut self, out: &[u8], reply: &mut [u8]) -> Result<(), Stopped>
         ensures history { history_of self.new ≡ history_of self.old }
@@ -173,7 +162,6 @@ impl<B: Bus + Drop> KnownStatus2<B> {
         Ok(())
     }
 
-    // Records what the reply to a transaction says about the chip.
     #[tactic(auto, using(crate::proofs::Judged::judged_by))]
     fn remember(&mut self, out: &[u8], reply: &[u8])
         requires { RepliesId out.now reply.now (B.state (known_by self.old)) }
@@ -234,14 +222,12 @@ impl<B: Bus + Drop> Bus for KnownStatus2<B> {
     }
 }
 
-// Returns whether a transaction begins with the opcode of a read of status 2.
 fn is_second(out: &[u8]) -> bool
     ensures { result ≡ begins_with 0x35 out.now }
 {
     matches!(out, [READ_STATUS2, ..])
 }
 
-// Returns whether a transaction is a read of the ID that returned an ID other than FFFFFFh.
 fn is_id(out: &[u8], reply: &[u8]) -> bool
     ensures { result ≡ shows_id out.now reply.now }
 {
@@ -251,8 +237,6 @@ fn is_id(out: &[u8], reply: &[u8]) -> bool
     }
 }
 
-// Returns whether a transaction is a read of the ID (with three reply bytes) that returned an ID of `ids` or the ID
-// `before`.
 fn is_known_chip(ids: &[[u8; 3]], before: Option<[u8; 3]>, out: &[u8], reply: &[u8]) -> bool
     ensures { result ≡ shows_known ids.now before out.now reply.now }
 {
@@ -270,7 +254,6 @@ pub(crate) fn is_id_listed(ids: &[[u8; 3]], id: [u8; 3]) -> bool
     ids.iter().any(|one| *one == id)
 }
 
-// Returns whether `before` is given and equals `id`.
 fn is_same(before: Option<[u8; 3]>, id: [u8; 3]) -> bool
     ensures { result ≡ is_same before id }
 {
@@ -280,9 +263,8 @@ fn is_same(before: Option<[u8; 3]>, id: [u8; 3]) -> bool
     }
 }
 
-// Returns the address of double word 15 of the table that `header`, the first parameter header, describes. Returns
-// `None` if `header` doesn't describe a basic table of major revision 1 with at least 15 double words (JESD216B,
-// parameter headers).
+// Returns the address of double word 15 if `header`, the first parameter header, describes a basic table of major
+// revision 1 with at least 15 double words (JESD216B, parameter headers).
 pub(crate) fn word_15_in(header: &[u8]) -> Option<u32> {
     match header {
         [0, _, 1, words, low, middle, high, _] if *words >= WORDS => {
@@ -292,8 +274,7 @@ pub(crate) fn word_15_in(header: &[u8]) -> Option<u32> {
     }
 }
 
-// Returns whether the quad enable requirements of double word 15 say that 35h reads status 2 (JESD216B, double word
-// 15).
+// Returns whether the quad enable requirements say that 35h reads status 2 (JESD216B, double word 15).
 fn is_readable(word: [u8; 4]) -> bool
     ensures { result ≡ is_readable word }
 {

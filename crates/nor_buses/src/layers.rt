@@ -1,4 +1,4 @@
-//! The layers around a bus to a programmer, and that they are together a well-behaved bus.
+//! The layers around a bus to a programmer, and the conditions under which they are together a well-behaved bus.
 ghost use Rattle.std.specs.Prelude.{◌≡◌, true};
 ghost use Rattle.nor_buses.specs.Ahead.{ahead_of, longest_of};
 ghost use Rattle.nor_buses.specs.Checked.{bus_of};
@@ -19,21 +19,20 @@ use crate::{
 use nor_model::Bus;
 use std::time::Clock;
 
-/// The layers of `flashnor-serprog` around a bus to a programmer, in the program's order.
+/// The ten buses of this crate around a bus to a programmer, in the order in which `flashnor-serprog` nests them.
 pub type Layered<B, C> = ReadAhead<
     SameChip<OtherMakers<KeptQuad<KnownStatus2<CheckedTwice<B, C>>>>>,
 >;
 
-/// The inner layers of `Layered`, up to the one that reads twice.
+/// The inner layers of `Layered`, up to and including `ReadTwice`.
 pub type CheckedTwice<B, C> = ReadTwice<CheckedStatus<SplittingBus<Watched<Paced<B, C>>>>>;
 
-/// States that the layers are together a well-behaved bus if the bus to the programmer is, and its limits and its chip
-/// fit them (`FitsLayers`), for any settings of the layers (`guarding`, `locking`, `expecting`). The chip is that of
-/// the bus to the programmer.
+/// States that the layers are together a well-behaved bus if the bus to the programmer is well-behaved, and its limits
+/// and its chip fit the layers (`FitsLayers`). This holds for any settings of the layers (`guarding`, `locking`,
+/// `expecting`). The chip is that of the bus to the programmer.
 ///
 /// The chip must have an ID that `KnownStatus2` knows, an ID of the `rows` of `OtherMakers` and, if `KeptQuad` hides
-/// QE, one of its `rows`. Its unique ID must not be eight bytes FFh or 00h. For example, the emulated W25Q64FV with
-/// another unique ID fits all lists that contain `EF 40 17`.
+/// QE, an ID of the `rows` of `KeptQuad`. The chip's unique ID must not be eight bytes FFh or 00h.
 #[tactic(auto, using(crate::proofs::Fitting::layers_fit))]
 pub fn layers_are_well_behaved<B: Bus + Drop, C: Clock + Drop>(bus: &Layered<B, C>)
     ensures honest { let other = checked_by (ahead_of bus.now) in

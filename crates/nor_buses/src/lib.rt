@@ -1,6 +1,10 @@
-//! Buses that wrap another bus to the same chip. Each of them passes transactions on to the bus inside and adds a
-//! feature, for example pauses or second reads. The program `flashnor-serprog` uses them; the program `flashnor` does
-//! not.
+//! Buses that wrap another bus to the same chip, the *bus inside*. Each of them passes transactions on to that bus and
+//! adds a feature, for example pauses or second reads. The program `flashnor-serprog` uses these buses; the program
+//! `flashnor` does not.
+//!
+//! In contracts, the chip of each of these buses is that of the bus inside. The modifying commands (`sent`) and the
+//! result of the last poll (`polled_ready`) are those of the wrapping bus's own history, except for `Paced`,
+//! `ReadAhead` and `ReadTwice`, which have those of the bus inside.
 #![tactic(auto)]
 
 mod again;

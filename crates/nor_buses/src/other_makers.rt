@@ -1,4 +1,4 @@
-//! A bus that shows a chip without a unique ID, or with erases that depend on the address, as the engine expects it.
+//! A bus that adapts two replies of other makers' chips to what the engine expects: the unique ID and the SFDP table.
 ghost use Rattle.std.specs.Prelude.{◌≡◌, ◌<◌, ◌∷◌, [], true, false, length, IfOk, OnOk, OnErr};
 ghost use Rattle.std.proofs.lemmas.Bool.{and_parts};
 ghost use Rattle.nor_model.specs.Bus.{IsHonestFor, SameNature, AtStop, Transfers};
@@ -15,7 +15,7 @@ use crate::known_status2::is_id_listed;
 use nor_model::opcodes::{READ_ID, READ_SFDP, READ_UNIQUE};
 use nor_model::{Bus, History, Stopped};
 
-// The reply to 9Fh of a busy chip, and of none.
+// The ID (9Fh) that is read if the chip is busy or has no contact.
 const UNANSWERED: [u8; 3] = [0xFF; 3];
 
 // The number of bytes of the SFDP table that identify a chip: double words 1 to 9.
@@ -27,48 +27,44 @@ const LONGER_TABLE: usize = 44;
 // The number of double words that the table must have to contain the size of a page.
 const WORDS: u8 = 11;
 
-/// A bus that changes two replies of other makers' chips. Before it does so, it reads the ID (9Fh). It passes each
-/// transaction on unchanged, except that it may read more bytes of an SFDP table.
+/// A bus that changes two replies of other makers' chips: the unique ID and the SFDP table. Each other transaction is
+/// passed on unchanged. `rows`, `missing` and `refuses` are the arguments of `new`.
 ///
 /// - A unique ID (4Bh with eight reply bytes) that is FFh or 00h in all bytes is no unique ID: the chip ignores 4Bh,
-///   and the line keeps the level to which it is pulled, which another clip may change. Then each byte of the reply is
-///   `missing`. But if the ID is FFFFFFh, the chip is busy or has no contact, and the reply isn't changed.
-/// - If `refuses_uneven` is true, the chip must erase sectors of 4 KiB everywhere. If bits 1 and 0 of double word 1 of
-///   the SFDP table (5Ah with 36 reply bytes) aren't 01b, it doesn't: 01b means that the erase of 4 KiB is available
-///   everywhere, and 11b that it isn't (JESD216, double word 1). Then the four opcodes of the table's erase types are
-///   returned as 00h, so that the table describes no erase of 4 KiB. Spansion S25FL128S, for example, has sectors of
-///   4 KiB only at one end, ignores their erase elsewhere, and could be neither written nor restored.
-/// - If `refuses_uneven` is true, a page must also have at least 256 bytes, because the engine programs that many bytes
-///   at once, and in a smaller page they would wrap. Bits 7 to 4 of double word 11 are the binary logarithm of the size
-///   of a page (JESD216A, double word 11). If the header of the table, at address 8, was read before and gives at least
-///   11 double words, this bus reads 44 bytes in place of the 36 of the table. If the page is smaller, then the four
-///   opcodes are returned as 00h, too.
-/// - If several erase types of the table have the same opcode, the size of the erase depends on the address: D8h of
-///   Microchip SST26VF064B erases 8, 32 or 64 KiB. Then these opcodes are returned as 00h, so that they aren't used.
-///
-/// The table of a chip with an ID of `rows` is returned unchanged, and so is one if the ID is FFFFFFh.
+///   and the line keeps the level to which it is pulled, which another clip may change. Then this bus reads the ID
+///   (9Fh) and, unless it is FFFFFFh, returns `missing` as each byte. FFFFFFh means that the chip is busy or has no
+///   contact.
+/// - Before it reads an SFDP table (5Ah with 36 reply bytes), this bus reads the ID. If the ID is FFFFFFh or one of
+///   `rows`, the table is returned unchanged. In other tables, opcodes of erase types are returned as 00h in the three
+///   cases below, so that the engine doesn't use them.
+/// - If several erase types have the same opcode, these opcodes are returned as 00h, because the size of the erase
+///   depends on the address: D8h of Microchip SST26VF064B erases 8, 32 or 64 KiB.
+/// - If `refuses` is true, all four opcodes are returned as 00h unless bits 1 and 0 of double word 1 are 01b, which
+///   means that the erase of 4 KiB is available everywhere (JESD216, double word 1). Spansion S25FL128S, for example,
+///   has sectors of 4 KiB only at one end.
+/// - If `refuses` is true, all four opcodes are also 00h if a page has fewer than 256 bytes, in which the 256 bytes
+///   that the engine programs at once would wrap. Bits 7 to 4 of double word 11 are the binary logarithm of the page
+///   size (JESD216A, double word 11). If the header of the table, at address 8, was read before and gives at least 11
+///   double words, this bus reads 44 bytes instead of 36.
 ///
 /// This bus is well-behaved if the bus inside is, and if the chip has an ID of `rows` and a unique ID, so that no reply
 /// is changed. It is never punctual, because it may send a second transaction.
-///
-/// The history lists each transaction over this bus with its reply. In contracts, the chip is that of the bus inside.
 #[derive(Drop)]
 pub struct OtherMakers<B> {
     bus: B,
-    // The IDs of the chips that have a row.
+    // The IDs of the chips that have a row in the table of known chips.
     rows: &'static [[u8; 3]],
     missing: u8,
     refuses_uneven: bool,
-    // True if the last header of the table that was read gives a double word 11.
+    // True if the last header of the SFDP table that was read gives a double word 11.
     has_word_11: bool,
     has_small_pages: bool,
     history: History,
 }
 
 impl<B: Bus + Drop> OtherMakers<B> {
-    /// Returns a bus over `bus`. `rows` are the IDs of the chips that have a row, and `missing` is each byte of a
-    /// unique ID that the chip doesn't have. `refuses` says whether a chip without a row must erase sectors of 4 KiB
-    /// everywhere, and have pages of at least 256 bytes.
+    /// Returns a bus over `bus`. `rows` are the IDs of the chips that have a row in the table of known chips. The
+    /// description of this type explains `missing` and `refuses`.
     pub fn new(bus: B, rows: &'static [[u8; 3]], missing: u8, refuses: bool) -> OtherMakers<B>
         ensures bus { adapted_by result ≡ bus }
         ensures rows { rows_of result ≡ rows.now }
@@ -96,7 +92,7 @@ impl<B: Bus + Drop> OtherMakers<B> {
         &self.bus
     }
 
-    /// Returns whether the last SFDP table that was read with its double word 11 says that a page has fewer than 256
+    /// Returns whether the last double word 11 of an SFDP table that was read says that a page has fewer than 256
     /// bytes.
     pub fn has_small_pages(&self) -> bool
         ensures { result ≡ has_small_pages self.now }
@@ -106,7 +102,6 @@ impl<B: Bus + Drop> OtherMakers<B> {
 }
 
 impl<B: Bus> OtherMakers<B> {
-    // Makes one transaction, and does not add it to the history.
     fn carry(&mut self, out: &[u8], reply: &mut [u8]) -> Result<(), Stopped>
         ensures history { history_of self.new ≡ history_of self.old }
         ensures rows { rows_of self.new ≡ rows_of self.old }
@@ -138,7 +133,6 @@ impl<B: Bus> OtherMakers<B> {
         Ok(())
     }
 
-    // Reads a unique ID. If it is none and the chip answers 9Fh, fills `reply` with `missing`.
     fn read_unique(&mut self, out: &[u8], reply: &mut [u8]) -> Result<(), Stopped>
         requires { is_unique_read out.now ≡ true }
         ensures history { history_of self.new ≡ history_of self.old }
@@ -163,7 +157,6 @@ impl<B: Bus> OtherMakers<B> {
         Ok(())
     }
 
-    // Reads an SFDP table. If the chip has no row, changes the table as `new` was told to.
     fn read_table(&mut self, out: &[u8], reply: &mut [u8]) -> Result<(), Stopped>
         requires { length reply.old ≡ 36 }
         ensures history { history_of self.new ≡ history_of self.old }
@@ -192,7 +185,6 @@ impl<B: Bus> OtherMakers<B> {
         Ok(())
     }
 
-    // Reads the ID.
     fn read_id(&mut self) -> Result<[u8; 3], Stopped>
         ensures history { history_of self.new ≡ history_of self.old }
         ensures rows { rows_of self.new ≡ rows_of self.old }
@@ -213,7 +205,7 @@ impl<B: Bus> OtherMakers<B> {
         Ok(id)
     }
 
-    // Records what the reply to a transaction says about the table.
+    // Records whether the header of the SFDP table gives a double word 11.
     fn remember(&mut self, out: &[u8], reply: &[u8])
         ensures bus { adapted_by self.new ≡ adapted_by self.old }
         ensures history { history_of self.new ≡ history_of self.old }
@@ -226,7 +218,7 @@ impl<B: Bus> OtherMakers<B> {
         }
     }
 
-    // Reads an SFDP table with its double word 11, and fills `reply` with what this bus returns of it.
+    // Reads 44 bytes of an SFDP table, and fills `reply` with the 36 bytes that this bus returns.
     fn judge(&mut self, out: &[u8], reply: &mut [u8]) -> Result<(), Stopped>
         requires { length reply.old ≡ 36 }
         ensures history { history_of self.new ≡ history_of self.old }
@@ -283,14 +275,13 @@ impl<B: Bus> Bus for OtherMakers<B> {
     }
 }
 
-// Returns whether a chip has an ID, which is none of `rows`.
+// Returns whether `id` is neither FFFFFFh nor one of `rows`.
 fn has_no_row(rows: &[[u8; 3]], id: [u8; 3]) -> bool
     ensures { result ≡ has_no_row rows.now id }
 {
     id != UNANSWERED && !is_id_listed(rows, id)
 }
 
-// Fills `reply` with what this bus returns of an SFDP table that it read with its double word 11.
 fn show_judged(longer: &[u8; LONGER_TABLE], reply: &mut [u8])
     requires { length reply.old ≡ 36 }
     ensures shown { reply.new ≡ judged_table longer.now }
@@ -300,7 +291,7 @@ fn show_judged(longer: &[u8; LONGER_TABLE], reply: &mut [u8])
     show_table(is_uneven(longer) || is_small_page(longer), reply);
 }
 
-// Clears the opcodes of an SFDP table that several erase types have. If `all` is true, clears all four.
+// Clears the opcodes of erase types: all four if `all` is true, and otherwise those that several erase types have.
 fn show_table(all: bool, table: &mut [u8])
     requires { length table.old ≡ 36 }
     ensures shown { table.new ≡ shown_table all table.old }
@@ -313,14 +304,12 @@ fn show_table(all: bool, table: &mut [u8])
     clear_if(all || shares(four, one, two, three), table, 35);
 }
 
-// Returns whether an opcode is one of three others.
 fn shares(opcode: u8, one: u8, two: u8, three: u8) -> bool
     ensures { result ≡ shares opcode one two three }
 {
     opcode == one || opcode == two || opcode == three
 }
 
-// Clears a byte if `is` is true.
 fn clear_if(is: bool, table: &mut [u8], at: usize)
     requires { at < length table.old }
     ensures cleared { table.new ≡ cleared is at table.old }
@@ -331,7 +320,6 @@ fn clear_if(is: bool, table: &mut [u8], at: usize)
     }
 }
 
-// Returns whether a transaction reads an SFDP table.
 fn is_table_read(out: &[u8], reply: &[u8]) -> bool
     ensures is { result ≡ is_table_read out.now reply.now }
     ensures len { result ≡ true → length reply.now ≡ 36 }
@@ -339,14 +327,12 @@ fn is_table_read(out: &[u8], reply: &[u8]) -> bool
     matches!(out, [READ_SFDP, ..]) && reply.len() == TABLE
 }
 
-// Returns whether a transaction reads the unique ID.
 fn is_unique_read(out: &[u8]) -> bool
     ensures { result ≡ is_unique_read out.now }
 {
     matches!(out, [READ_UNIQUE, _, _, _, _])
 }
 
-// Returns whether a reply is eight bytes FFh, or eight bytes 00h.
 fn is_missing(reply: &[u8]) -> bool
     ensures { result ≡ is_missing reply.now }
 {
@@ -358,20 +344,17 @@ fn is_missing(reply: &[u8]) -> bool
     unique == [0xFF; 8] || unique == [0; 8]
 }
 
-// Returns whether the header of a basic table of major revision 1 gives at least 11 double words (JESD216A, parameter
-// headers).
+// Returns whether `header` is that of a basic table of major revision 1 with at least 11 double words (JESD216A).
 fn has_word_11_in(header: &[u8]) -> bool {
     matches!(header, [0, _, 1, words, _, _, _, _] if *words >= WORDS)
 }
 
-// Returns whether double word 11 of an SFDP table says that a page has fewer than 2^8 bytes.
 fn is_small_page(table: &[u8; LONGER_TABLE]) -> bool
     ensures { result ≡ is_small_page table.now }
 {
     table[40] / 16 < 8
 }
 
-// Returns whether an SFDP table doesn't say that sectors of 4 KiB can be erased everywhere.
 fn is_uneven(table: &[u8]) -> bool
     requires { 0 < length table.now }
     ensures { result ≡ is_uneven table.now }

@@ -11,8 +11,7 @@ use std::time::{Clock, Duration, Instant};
 // The first poll of a wait is delayed only if the operation typically takes at most this number of microseconds.
 const FIRST_POLL: u64 = 1000;
 
-// The shortest pause before the third and each later poll of a wait, in microseconds: a seventh of the time of a page
-// program.
+// The shortest pause before the third and each later poll of a wait, in microseconds.
 const SHORTEST: u64 = 100;
 
 // The longest pause before the third and each later poll of a wait, in microseconds.
@@ -24,27 +23,24 @@ const LONGEST: u64 = 6250;
 /// The pause before a transaction depends on how many polls in a row showed BUSY before it:
 ///
 /// - none: no pause, except before a poll after an operation that typically takes at most 1 ms (a page program). That
-///   pause ends when the typical duration has passed since the command, so the poll often finds the chip ready, which
-///   saves an exchange.
+///   pause ends when the typical duration has passed since the command, so the poll often finds the chip ready.
 /// - one: the typical duration of the operation that began last, minus the time since its command. A page program
 ///   typically takes 0.7 ms, a status write 10 ms, an erase of 4 KiB 45 ms, of 32 KiB 120 ms, of 64 KiB 150 ms
-///   (W25Q64FV datasheet, AC characteristics). An erase of the whole chip counts as one of 64 KiB. If the clock fails,
-///   the pause has the whole duration. If no command began an operation, there is no pause.
+///   (W25Q64FV datasheet, AC characteristics). An erase of the whole chip counts as one of 64 KiB.
 /// - two or more: a sixteenth of the typical duration, but at least 0.1 ms and at most 6.25 ms. After every 16 polls
 ///   this pause doubles, up to 6.25 ms.
 ///
-/// No pause is longer than 150 ms. If all 65,536 polls of a wait show BUSY, their pauses add up to at least 400 s and
-/// at most 410 s. The longest operation of the known chips, the erase of a whole W25Q128FV, takes at most 200 s
-/// (datasheet, AC characteristics). It is not proved that `Clock::sleep` is called, or that it waits for the requested
-/// time. The state of this bus is the state of the bus inside, so it is well-behaved if and only if the bus inside is.
+/// If all 65,536 polls of a wait show BUSY, their pauses last 400 to 410 s in total. The longest operation of the known
+/// chips, the erase of a whole W25Q128FV, takes at most 200 s (datasheet, AC characteristics). It is not proved that
+/// `Clock::sleep` is called, or that it waits for the requested time. If the clock fails, the time since a command
+/// counts as 0. This bus is well-behaved if and only if the bus inside is.
 #[derive(Drop)]
 pub struct Paced<B, C> {
     bus: B,
     clock: C,
-    // The typical duration in microseconds of the operation that began last; 0 if no command began one.
+    // The typical duration in microseconds of the operation that began last; 0 if no operation began.
     typical: u64,
-    // The time at which the last command that began an operation was passed to the bus; `None` if there was none, or if
-    // the clock failed.
+    // The time of the last command that began an operation; `None` if there was none, or if the clock failed.
     sent: Option<Instant>,
     busy_polls: u64,
     ghost typical_is_short: { typical ≤ 150000 },
@@ -53,7 +49,7 @@ pub struct Paced<B, C> {
 impl<B: Bus + Drop, C: Clock + Drop> Paced<B, C> {
     ghost use Rattle.nor_buses.specs.Paced.{paced_of, busy_row, typical_in};
 
-    /// Returns a bus that paces `bus` with this clock.
+    /// Returns a bus over `bus` that measures time and pauses with `clock`.
     pub fn new(bus: B, clock: C) -> Paced<B, C>
         ensures bus { paced_of result ≡ bus }
         ensures none_yet { busy_row result ≡ 0 }
@@ -151,8 +147,7 @@ impl<B: Bus, C: Clock> Bus for Paced<B, C> {
     }
 }
 
-// Returns whether a transaction is a poll that shows BUSY: it sends only 05h, and the last byte of its reply has bit 0
-// set (W25Q64FV datasheet, Read Status Register-1).
+// Returns whether a transaction is a poll (only 05h is sent) and the last byte of its reply shows BUSY.
 fn shows_busy(out: &[u8], reply: &[u8]) -> bool
     ensures { result ≡ not (polled_ready_after out.now reply.now true) }
 {

@@ -24,9 +24,8 @@ const ADDRESSES_END: usize = 1 << 24;
 
 const MOST_POLLS: u32 = 65536;
 
-// Carries out the read `out` in parts of at most `longest` bytes each, and fills `reply`. Returns `Stopped` and sends
-// nothing if `out` is no read that can be split, or if the read passes address FFFFFFh. Also returns `Stopped` if the
-// bus stopped.
+// Carries out the read `out` in parts of at most `longest` bytes each, and fills `reply`. Returns `Stopped` if the bus
+// stopped or, before anything is sent, if `out` can't be split or the read passes address FFFFFFh.
 pub(crate) fn split_read<B: Bus>(
     bus: &mut B,
     longest: u32,
@@ -110,9 +109,9 @@ fn address_from(high: u8, middle: u8, low: u8, from: u32) -> [u8; 3]
     [high, middle, low]
 }
 
-// Carries out the program `out` in parts that send at most `longest` bytes each. Returns `Stopped` and sends nothing if
-// `out` is no program within one page, or if `reply` isn't empty. Also returns `Stopped` if the bus stopped, or if the
-// chip stayed busy. A poll may read `polled` bytes.
+// Carries out the program `out` in parts that send at most `longest` bytes each. Returns `Stopped` if the bus stopped,
+// the chip stayed busy or, before anything is sent, if `out` is no program within one page or `reply` isn't empty. A
+// poll reads two bytes, or one if `polled` is 1.
 pub(crate) fn split_program<B: Bus>(
     bus: &mut B,
     longest: u32,
@@ -198,7 +197,7 @@ fn program_part<B: Bus>(bus: &mut B, address: u32, part: &[u8]) -> Result<(), St
     bus.transfer(&out, &mut [])
 }
 
-// Polls until the chip is ready. Returns `Stopped` if it isn't after 65,536 polls, or if the bus stopped.
+// Polls until the chip is ready. Returns `Stopped` if 65,536 polls show BUSY, or if the bus stopped.
 fn wait<B: Bus>(bus: &mut B, polled: usize) -> Result<(), Stopped>
     requires polled { 1 ≤ polled }
     requires few { polled ≤ 2 }

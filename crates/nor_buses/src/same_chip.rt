@@ -11,30 +11,25 @@ use nor_model::{Bus, History, Stopped, is_changing};
 
 const READ_UNIQUE: [u8; 5] = [0x4B, 0, 0, 0, 0];
 
-/// The unique IDs of two chips: the one that was read last (`before`), and the one that this bus found when it read the
-/// unique ID again before the first modifying command (`found`).
+/// The unique ID that was read last (`before`), and the different one that a `SameChip` then read itself (`found`).
 #[derive(Clone, Copy, Debug, PartialEq, Eq)]
 pub struct OtherChip {
     pub before: [u8; 8],
     pub found: [u8; 8],
 }
 
-/// A bus that checks, before it changes the chip, that this is the chip that was read. If a board is exchanged after
-/// its chip was read, the other board's chip may have the same ID (9Fh). Without this check, a session would change
-/// that chip with the journal of the first chip.
+/// A bus that checks, before the first modifying command, that the chip is still the one that was read. If a board is
+/// exchanged after its chip was read, the other board's chip may have the same ID (9Fh), and a session without this
+/// check would change that chip with the journal of the first chip.
 ///
-/// The bus remembers the reply to the last read of the unique ID (4Bh with eight reply bytes), and reads it again
-/// before the first modifying command. If the reply differs, each modifying command returns `Stopped` and isn't sent,
-/// and `other` returns both unique IDs. If no unique ID was read before, nothing is compared. Two chips without unique
-/// ID that both return only FFh, or only 00h, can't be distinguished. A wrong bit looks like another chip, so put this
-/// bus around a bus that reads the unique ID twice (`ReadTwice`).
+/// The bus remembers the reply to the last read of the unique ID (4Bh with eight reply bytes), and reads the unique ID
+/// again before the first modifying command. The chip must be ready then, because a busy chip ignores 4Bh. If the reply
+/// differs, this and each later modifying command is refused (`Stopped`). Without an earlier reply nothing is compared.
 ///
-/// This bus is well-behaved if and only if the bus inside is. It is never punctual. A busy chip ignores a read of its
-/// unique ID, but the engine sends the first modifying command only after it has waited for the chip.
+/// Two chips without unique ID that both return only FFh, or only 00h, can't be distinguished. A wrong bit looks like
+/// another chip, so put this bus around a bus that reads the unique ID twice (`ReadTwice`).
 ///
-/// The history lists each transaction over this bus with its reply, or without one if it failed or was refused. In
-/// contracts, the chip is that of the bus inside, and the modifying commands and the result of the last poll are those
-/// of this bus's own history.
+/// This bus is well-behaved if and only if the bus inside is. It is never punctual.
 #[derive(Drop)]
 pub struct SameChip<B> {
     bus: B,
@@ -69,8 +64,7 @@ impl<B: Bus + Drop> SameChip<B> {
         &self.bus
     }
 
-    /// Returns the two unique IDs if this bus found another chip before the first modifying command, and otherwise
-    /// `None`.
+    /// Returns both unique IDs if this bus found another chip before the first modifying command.
     pub fn other(&self) -> Option<OtherChip>
         ensures { result ≡ other_of self.now }
     {

@@ -10,7 +10,7 @@ use crate::parts::{split_program, split_read};
 use nor_model::{Bus, History, Stopped};
 
 /// A bus that splits transactions which are too long for the bus inside, so that a programmer with small limits can
-/// carry them out. A transaction within both limits is passed on unchanged.
+/// carry them out. A transaction within both limits (`longest_write`, `longest_read`) is passed on unchanged.
 ///
 /// - A read of data (03h) or of SFDP bytes (5Ah) becomes several reads of consecutive addresses. A read of status 1
 ///   (05h) or status 2 (35h) that requests several bytes becomes several reads.
@@ -18,31 +18,25 @@ use nor_model::{Bus, History, Stopped};
 ///   enable enables the first part. Before each further part this bus polls (05h) until the chip is ready, and sends a
 ///   write enable (06h). The caller polls after the last part.
 ///
-/// Any other transaction that exceeds a limit is rejected, and nothing is sent: for example, an ID (9Fh, 4Bh) can't be
-/// read in parts. A read that passes address FFFFFFh, or a program that passes the end of its page, is also rejected if
-/// it is too long for the bus inside.
+/// Any other transaction that exceeds a limit returns `Stopped`, and nothing is sent. The same happens to a read that
+/// is too long and passes address FFFFFFh, and to a program that is too long and passes the end of its page.
 ///
 /// A program in parts stops if the bus inside stops, or after 65,536 polls in a row that show BUSY. Then perhaps only
-/// some of its bytes are programmed, as after an interrupted program. After a session, a restore can undo this, because
-/// each byte that a session programs lies in a sector that its journal saves.
+/// some of its bytes are programmed, as after an interrupted program. After a session, a restore can undo this.
 ///
 /// This bus is proved to be well-behaved if the bus inside is, and the limits allow a page program (260 bytes sent) and
-/// the read of a sector (4,096 bytes read). It then passes on each transaction within the limits unchanged, so it is
-/// also punctual and steady if the bus inside is, and takes reads as long as `longest_read` and the bus inside allow.
-/// With narrower limits this bus is not well-behaved, because a program in parts that stops may leave the page partly
-/// programmed, the chip idle and its write enable latch set.
+/// the read of a sector (4,096 bytes read). Then it is also punctual and steady if the bus inside is, and takes reads
+/// as long as `longest_read` and the bus inside allow. With narrower limits this bus is not well-behaved, because a
+/// program in parts that stops may leave the page partly programmed, the chip idle and its write enable latch set.
 ///
-/// The history lists each transaction over this bus with its reply. A transaction that failed or was rejected is listed
-/// without a reply, and a transaction that was split is listed once. In contracts, the chip is that of the bus inside,
-/// and the modifying commands and the result of the last poll are those of this bus's own history.
+/// The history has one entry for a transaction that was split, and lists a rejected transaction without a reply.
 #[derive(Drop)]
 pub struct SplittingBus<B> {
     bus: B,
     longest_write: u32,
     longest_read: u32,
     history: History,
-    // A program sends 4 bytes before its data, so a part with one data byte sends 5 bytes. A part of a read reads at
-    // least one byte.
+    // A part of a program sends opcode, address and at least one data byte. A part of a read reads at least one byte.
     ghost writes: { 5 ≤ longest_write },
     ghost reads: { 1 ≤ longest_read },
 }

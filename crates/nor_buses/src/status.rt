@@ -23,43 +23,28 @@ const BUSY: u8 = 0x01;
 /// A bus that detects a lost chip, reads status registers twice, and reads each status write back. It refuses status
 /// writes that would change any bit except the protection bits (for a bus made with `locking`, any bit except SRP0).
 ///
-/// - If contact or power fails, each reply is FFh or 00h, however often it is read. Therefore the ID is read (9Fh with
-///   three reply bytes) after each reply on which a decision depends, except for polls that are believed at once (see
-///   below). Each ID must equal the first one; otherwise the call returns `Stopped`. This includes an ID that the
-///   caller requests. With this check, a wrong reply is believed only if the chip is lost each time the reply is read,
-///   and has contact again each time for the ID after it.
-/// - The ID is read after each transaction with the opcode of a read of data (03h), SFDP (5Ah) or the unique ID (4Bh).
+/// - If contact or power fails, each reply byte is FFh or 00h, however often it is read. Therefore the ID is read (9Fh
+///   with three reply bytes) after each reply on which a decision depends, except for polls that are believed at once.
+///   Each ID, even one that the caller reads, must equal the first one; otherwise the call returns `Stopped`.
+/// - The ID is read after each successful read of data (03h), SFDP (5Ah) or the unique ID (4Bh).
 /// - A poll (05h with one reply byte) is carried out with two reply bytes, since a chip repeats its status (W25Q64FV
-///   datasheet, Read Status Register). If one of them shows BUSY, that byte is returned. If both show that the chip is
-///   ready, they must be equal. Before the first modifying command, and until a status write is read back, the poll is
-///   then repeated and must have the same reply, and the ID is read after each of the two polls. If the repeated poll
-///   shows BUSY, the replies differ (`Differs`), and no ID is read after it. Other polls are believed at once.
+///   datasheet, Read Status Register). If one byte shows BUSY, that byte is returned; otherwise both must be equal.
+///   Before the first modifying command, and until a status write is read back, a poll that shows a ready chip is made
+///   twice. Both polls must have the same reply, and the ID is read after each. Other polls are believed at once.
 /// - Status 2 (35h with one reply byte) is read twice, and the ID is read after each read. Both replies must be equal.
-/// - A status write (01h) is passed on only if it has two data bytes and both status registers were read in this way
-///   before. Outside the protection bits it must have the bits that were read: SRP0, SRP1, QE, the reserved bit, and
-///   the one-time bits LB1, LB2 and LB3. BUSY, WEL and SUS must be clear. Otherwise nothing is sent. For a bus made
-///   with `locking`, the protection bits must also be those that were read, but SRP0 may differ.
-/// - After a status write, the first poll that shows that the chip is ready also reads status 2, twice. If a
+/// - A status write (01h) is passed on only if it has two data bytes, if BUSY, WEL and SUS are clear in it, and if both
+///   status registers were read twice in this way before. The bits that it must not change must be as they were read.
+/// - After a status write, the first poll that shows that the chip is ready also reads status 2 (35h), twice. If a
 ///   non-volatile bit differs from the bit that was sent, the poll returns `Stopped`.
-/// - The bus counts how often each value occurs in the data that is read. If the port seems to change one value into
-///   another (`changed_byte`), a bus made with `guarding` refuses the first modifying command, because a journal of
-///   such data would be wrong.
-///
-/// `fault` returns why this bus stopped, if the bus inside did not.
+/// - If the serial port seems to change bytes (`changed_byte`), a bus made with `guarding` refuses the first modifying
+///   command, because a journal of such data would be wrong.
 ///
 /// A busy chip ignores a read of its ID (W25Q64FV datasheet, Instructions), so it would count as lost. Therefore a poll
-/// that returns BUSY reads no ID, and data, SFDP, the unique ID and status 2 must be read only while the chip is ready.
-/// The engine does so: a probe waits first, and each operation waits at its end (`wait` of nor_driver).
+/// that returns BUSY reads no ID, and the caller must read IDs, data, SFDP and status 2 only while the chip is ready.
 ///
-/// A transaction over this bus may be several transactions over the bus inside, or none, and this bus may stop after
-/// each of them, so it is never punctual. It is proved to be well-behaved if the bus inside is, and steady if that bus
-/// is. On a well-behaved bus, it stops by itself only after transactions that left the chip as it was: reads, and polls
-/// that showed that the chip is ready. If the first poll shows BUSY, its status is returned at once. If a transaction
-/// fails, `reply` may contain bytes of it.
-///
-/// The history lists each transaction over this bus with its reply; a transaction that failed or was refused is listed
-/// without a reply. In contracts, the chip is that of the bus inside. The modifying commands and the result of the last
-/// poll are those of this bus's own history, so a status write that was refused is among these commands.
+/// This bus is never punctual, because it may stop after each of the transactions that it makes over the bus inside. It
+/// is proved to be well-behaved if the bus inside is, and steady if the bus inside is steady. If a transaction fails,
+/// `reply` may contain bytes that were read. The history lists refused transactions, too, so these count as sent.
 #[derive(Drop)]
 pub struct CheckedStatus<B: Bus + Drop> {
     bus: B,
@@ -76,8 +61,8 @@ pub struct CheckedStatus<B: Bus + Drop> {
 impl<B: Bus + Drop> CheckedStatus<B> {
     ghost use Rattle.nor_buses.specs.Checked.{bus_of, check_fault_of, history_of, has_begun, locks_of, written_of};
 
-    /// Returns a bus over `bus` that checks the status registers. It sends modifying commands even if the port seems to
-    /// change bytes: a restore writes what its journal saved, not data that was read.
+    /// Returns a bus over `bus` that sends modifying commands even if the port seems to change bytes. This suits a
+    /// restore, which writes what its journal saved, not data that was read.
     pub fn new(bus: B) -> CheckedStatus<B>
         ensures bus { bus_of result ≡ bus }
         ensures begun { has_begun result ≡ false }
@@ -88,8 +73,8 @@ impl<B: Bus + Drop> CheckedStatus<B> {
         CheckedStatus::with(bus, false, false)
     }
 
-    /// Returns a bus over `bus` that checks the status registers, and refuses the first modifying command if the port
-    /// seems to change bytes (`changed_byte`).
+    /// Returns a bus over `bus` that refuses the first modifying command if the port seems to change bytes
+    /// (`changed_byte`).
     pub fn guarding(bus: B) -> CheckedStatus<B>
         ensures bus { bus_of result ≡ bus }
         ensures begun { has_begun result ≡ false }
@@ -100,7 +85,7 @@ impl<B: Bus + Drop> CheckedStatus<B> {
         CheckedStatus::with(bus, true, false)
     }
 
-    /// Returns a bus over `bus` that checks the status registers, and lets a status write change only SRP0.
+    /// Returns a bus over `bus` that lets a status write change only SRP0.
     pub fn locking(bus: B) -> CheckedStatus<B>
         ensures bus { bus_of result ≡ bus }
         ensures begun { has_begun result ≡ false }
@@ -149,13 +134,13 @@ impl<B: Bus + Drop> CheckedStatus<B> {
         self.fault
     }
 
-    /// Returns the value that the port seems to change (0Dh or 0Ah), if there is one: this value does not occur in the
-    /// data that was read, but the other of the two occurs at least 64 times, and at least 192 of the 256 values occur.
+    /// Returns the byte value that the port seems to change: 0Dh or 0Ah, if this value does not occur in the data that
+    /// was read, the other of the two occurs at least 64 times, and at least 192 of the 256 values occur.
     pub fn changed_byte(&self) -> Option<ChangedByte> {
         self.counts.changed_byte()
     }
 
-    /// Returns whether a modifying command was ever passed on, even if the bus inside stopped there.
+    /// Returns whether a modifying command was ever passed on, even if the bus inside stopped at this command.
     pub fn has_begun(&self) -> bool
         ensures { result ≡ has_begun self.now }
     {

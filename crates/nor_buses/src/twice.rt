@@ -13,7 +13,7 @@ use crate::ahead::data_address;
 use nor_model::opcodes::{READ_DATA, READ_ID, READ_SFDP, READ_UNIQUE};
 use nor_model::{Bus, History, Stopped};
 
-// The greatest length of a read, which is that of a block of `ReadAhead`.
+// The greatest length of a repeated read, in bytes. This is also the greatest length of a block of `ReadAhead`.
 const LONGEST_READ: usize = 65536;
 
 const ADDRESSES_END: usize = 1 << 24;
@@ -21,24 +21,20 @@ const ADDRESSES_END: usize = 1 << 24;
 /// A bus that carries out each read of data (03h), of the ID (9Fh), of SFDP (5Ah) and of the unique ID (4Bh) twice, and
 /// stops if the replies differ. A poor contact flips bits in some reads. Without a second read a flipped bit could get
 /// into the journal, and a restore would write it to the chip. If one of these reads requests more than 65,536 bytes,
-/// it is rejected and nothing is sent.
+/// it returns `Stopped` and nothing is sent.
 ///
 /// If an image is expected (`expecting`), a read of data (03h and three address bytes) that doesn't pass address
 /// FFFFFFh is not repeated as a whole. Only the sectors of its reply that differ from the image at the same addresses
-/// are read again, neighbouring sectors together. If the expected image is the one that a session writes, each sector
-/// that the session's journal saves was read twice: such a session saves only sectors that differ from the image, and
-/// reads each with a single transaction.
+/// are read again, neighbouring sectors together. A session that writes this image saves only such sectors in its
+/// journal.
 ///
 /// An error that is the same in both reads is not detected. On any bus, each byte that a successful read returned is
 /// the expected one, or was returned a second time by a later transaction. If a read fails, `reply` may contain bytes
 /// of it.
 ///
-/// This bus is never punctual. It is proved to be well-behaved if the bus inside is: in contracts, its state is that of
-/// the bus inside, with its own history. If the bus inside is well-behaved and punctual, and takes a read of this
-/// length, a read of at most 65,536 bytes fails only if no transaction is left afterwards.
-///
-/// The history lists each transaction over this bus with its reply, or without one if it failed; a repeated read is
-/// listed once.
+/// This bus is never punctual, and it is proved to be well-behaved if the bus inside is. If the bus inside is
+/// well-behaved and punctual, and takes a read of this length, a read of at most 65,536 bytes fails only if no
+/// transaction is left afterwards. The history has one entry for a repeated read.
 #[derive(Drop)]
 pub struct ReadTwice<B> {
     bus: B,
@@ -98,8 +94,7 @@ impl<B: Bus + Drop> ReadTwice<B> {
 }
 
 impl<B: Bus> ReadTwice<B> {
-    // Makes one transaction, and does not add it to the history. The clause `records` describes the state after the
-    // caller has added it.
+    // Makes one transaction. The clause `records` is about the state after the caller added this one to the history.
     fn carry(&mut self, out: &[u8], reply: &mut [u8]) -> Result<(), Stopped>
         ensures once { IsHonestFor out.now (length reply.old) (B.state (twice_of self.old))
             → begins_read out.now ≡ false
@@ -140,9 +135,9 @@ impl<B: Bus> ReadTwice<B> {
         Ok(())
     }
 
-    // Repeats the read `out`, whose first reply was `reply`. If an image is expected and the read is one of data, repeats
-    // only the sectors that differ from the image. Returns whether all second replies are the same. In the clauses,
-    // `before` is the state before the first read.
+    // Repeats the read `out`, whose first reply was `reply`. If an image is expected and the read is one of data,
+    // repeats only the sectors that differ from the image. Returns whether the second replies equal the first ones. In
+    // the clauses, `before` is the state before the first read.
     fn is_confirmed(&mut self, out: &[u8], reply: &[u8]) -> Result<bool, Stopped>
         requires reads { begins_read out.now ≡ true }
         requires len { length reply.now ≤ 65536 }

@@ -1,4 +1,4 @@
-//! A bus that detects that the chip lost contact or power while it seems to be busy.
+//! A bus that detects that the chip lost contact or power while the chip seems to be busy.
 ghost use Rattle.std.specs.Prelude.{◌≡◌, ◌⊎◌, ◌∷◌, [], true, false, length, OnErr, OnOk};
 ghost use Rattle.nor_model.specs.Bus.{IsHonestFor, SameNature, AtStop, Transfers};
 ghost use Rattle.nor_model.specs.History.{replied, stopped};
@@ -21,34 +21,27 @@ const LOOK_AFTER: u32 = 256;
 // busy.
 const ALL_SET: u8 = 0xFC;
 
-/// A bus that stops if the chip lost contact or power while the caller waits for it. Then each reply is FFh, which
-/// looks like BUSY, so without this bus a wait uses up its 65,536 polls and takes minutes.
+/// A bus that stops if the chip lost contact or power while the caller polls it. Then a pull-up makes each reply FFh.
+/// This looks like BUSY, so without this bus a wait uses up its 65,536 polls and takes minutes.
 ///
 /// After 256 polls (05h) in a row whose replies were one or two bytes FFh, this bus reads the ID (9Fh), except in the
-/// two cases of the next paragraph. If the ID is FFFFFFh, this transaction and each later one return `Stopped`, and
-/// nothing more is sent. Until then, each transaction is passed on unchanged.
+/// two cases of the next paragraph. If the ID is FFFFFFh, the last of these polls and each later transaction return
+/// `Stopped`, and nothing more is sent. Until then, each transaction is passed on unchanged.
 ///
-/// A chip that is only busy must not count as lost. It ignores 9Fh, so its ID may be read as FFFFFFh. But it still
-/// shows its protection bits and SRP0 in status 1, which no erase and no program changes (W25Q64FV datasheet, Status
-/// Registers). So a busy chip can return FFh only if all these bits are set. Therefore this bus does not read the ID if
-/// the last status 1 other than FFh was FCh or more, or if no poll has returned another value than FFh yet. A status
-/// write may set all these bits, but it ends after at most 30 ms, before 256 polls.
-///
-/// A line that is pulled low reads as 00h, which looks like a ready chip. Then the wait ends at once, and
-/// `CheckedStatus` detects that the ID changed.
+/// A chip that is only busy also ignores 9Fh. But its status 1 is FFh only if SRP0 and the protection bits in status 1
+/// are set, which no erase and no program changes (W25Q64FV datasheet, Status Registers). Therefore this bus does not
+/// read the ID if the last status 1 other than FFh was FCh or more, or if no poll has returned another value than FFh
+/// yet. A status write may set all these bits, but it ends after at most 30 ms, before 256 polls over a `Paced`.
 ///
 /// This bus is well-behaved if and only if the bus inside is. It is neither punctual nor steady, because it may stop
-/// after a poll that the chip carried out.
-///
-/// The history lists each transaction over this bus with its reply. In contracts, the chip is that of the bus inside.
-/// The modifying commands and the result of the last poll are those of this bus's own history.
+/// after a poll that the chip carried out. It doesn't detect a line that is pulled low, which reads as 00h and looks
+/// like a ready chip; `CheckedStatus` does.
 #[derive(Drop)]
 pub struct Watched<B> {
     bus: B,
-    // How many polls in a row, up to the last transaction, returned only FFh; at most `LOOK_AFTER`. A read of the ID by
-    // this bus resets the number to 0.
+    // How many polls in a row up to now returned only FFh since this bus last read the ID; at most `LOOK_AFTER`.
     row: u32,
-    // True if the last poll with another reply returned a status 1 below `ALL_SET`.
+    // True if the last poll whose reply wasn't only FFh returned a status 1 below `ALL_SET`.
     has_status: bool,
     is_lost: bool,
     history: History,
@@ -88,7 +81,6 @@ impl<B: Bus + Drop> Watched<B> {
 }
 
 impl<B: Bus> Watched<B> {
-    // Updates `row` and `has_status` after a transaction.
     fn count(&mut self, out: &[u8], reply: &[u8])
         ensures history { history_of self.new ≡ history_of self.old }
         ensures bus { watched_by self.new ≡ watched_by self.old }
@@ -126,7 +118,6 @@ impl<B: Bus> Watched<B> {
         Ok(())
     }
 
-    // Makes one transaction, and does not add it to the history.
     fn carry(&mut self, out: &[u8], reply: &mut [u8]) -> Result<(), Stopped>
         ensures history { history_of self.new ≡ history_of self.old }
         ensures silent { is_lost self.old ≡ true → (self.new ≡ self.old) × OnOk result ⊥ }
@@ -209,7 +200,6 @@ impl<B: Bus> Bus for Watched<B> {
     }
 }
 
-// Returns whether a transaction is a poll whose reply is one or two bytes FFh.
 fn is_undriven(out: &[u8], reply: &[u8]) -> bool
     ensures { result ≡ is_undriven out.now reply.now }
 {
@@ -220,7 +210,6 @@ fn is_undriven(out: &[u8], reply: &[u8]) -> bool
     }
 }
 
-// Returns the value of `has_status` after a transaction. `known` is its value before.
 fn status_after(out: &[u8], reply: &[u8], known: bool) -> bool
     ensures { result ≡ status_after out.now reply.now known }
 {

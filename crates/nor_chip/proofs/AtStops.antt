@@ -1,4 +1,3 @@
--- The stop of a simulated bus satisfies the contract of a bus.
 use Rattle.std.proofs.Common.{◌≡◌, ◌∙◌, ℕ, true≢false, List, [], Option, None, Some, is_none, refl, arith, inl, inr, subst, sym}
 use Rattle.std.specs.Prelude.{◌&&◌}
 use Rattle.std.proofs.Math.Bool.{or-false}

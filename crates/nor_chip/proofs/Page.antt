@@ -1,4 +1,3 @@
--- The effect of a program on the bytes of the simulated chip.
 use Rattle.std.proofs.Common.{◌≡◌, ℕ, ◌+◌, ◌-◌, ◌*◌, ◌/◌, ◌%◌, ◌<◌, ◌≤◌, min, List, length, arith, ◌∙◌, inl, inr}
 use Rattle.std.specs.Prelude.{Bool, true, Option, Some, slice_index, bit_and, ◌==◌, if◌then◌else◌}
 use Rattle.std.proofs.lemmas.Bool.Decides.{eqb_tells}
@@ -14,8 +13,7 @@ pub record ClearsFrom (from done : ℕ) (sent old new : List ℕ) : Type 0 where
   pub below : (a : ℕ) → a < from → slice_index new a ≡ slice_index old a
   pub above : (a : ℕ) → from + done ≤ a → slice_index new a ≡ slice_index old a
 
--- Holds if `sent` consists of `skipped` bytes without effect, then `front` up to the end of the page, and `back` for
--- its start. `program` (`src/sim/cells.rt`) divides `sent` in this way.
+-- Holds if `program` divides `sent` into `skipped` bytes without effect, then `front` up to the page's end, and `back`.
 pub record IsParted (at : ℕ) (sent : List ℕ) (skipped : ℕ) (front back : List ℕ) : Type 0 where
   pub skips : skipped ≡ length sent - 256
   pub front_len : length front ≡ min (length sent - skipped) (256 - (at + skipped) % 256)

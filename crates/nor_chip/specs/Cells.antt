@@ -1,4 +1,3 @@
--- The effect of a program and of a fill on a list of bytes.
 use Rattle.std.specs.Prelude.{◌≡◌, ◌/◌, ◌+◌, ◌==◌, ◌&&◌, ℕ, List, nat_lt, nat_le, slice_index, if◌then◌else◌}
 use Rattle.nor_model.specs.Step.{last_for, lowered}
 

@@ -1,4 +1,3 @@
--- The simulated bus, as contracts see it.
 use Rattle.std.specs.Prelude.{◌≡◌, ◌&&◌, ◌||◌, ℕ, Bool, List, [], length, take, Option, None, Some, Result, true, false, slice_index_or, OnOk, OnErr}
 use Rattle.std.specs.Option.{is_none}
 use Rattle.nor_chip.specs.declared.sim.SimBus.{SimBus}
@@ -33,11 +32,11 @@ sim_state bus = record {
 abbrev pub fill_of : SimBus → Option ℕ
 fill_of bus = bus.fill
 
--- the value that `tear` set: the number of bytes that are sent of the transaction at which the bus stops
+-- the value that `tear` set: at most this number of bytes is sent at a stop, and no byte if the value is `None`
 abbrev pub torn_of : SimBus → Option ℕ
 torn_of bus = bus.torn
 
--- the number of polls that show BUSY after each operation
+-- the number of polls that show BUSY after each operation (`Delays`)
 abbrev pub pace_of : SimBus → ℕ
 pace_of bus = bus.flash.each
 
@@ -65,7 +64,7 @@ pub record TearsOff (torn fill : Option ℕ) (out : List ℕ) (old new : Chip) :
   pub torn_off : TornTo torn out old reached
   pub lost : LostTo fill reached new
 
--- The effect of a transaction over a simulated bus, in addition to the contract of a bus.
+-- Holds if a transaction has these effects on the simulated bus, which the contract of a bus leaves open.
 pub record Simulates (out answer : List ℕ) (outcome : Result Unit Stopped) (old new : SimBus) : Type 0 where
   pub fill : fill_of new ≡ fill_of old
   pub torn : torn_of new ≡ torn_of old

@@ -1,4 +1,3 @@
--- The faulty bus, as contracts see it.
 use Rattle.std.specs.Prelude.{◌≡◌, ◌<◌, ◌+◌, ◌-◌, ◌^◌, ◌==◌, ◌&&◌, ℕ, false, List, length, Option, None, Some, Result, Ok, Err, OnOk, OnErr, IsOk, IfSome, IfNone, replicate, min, nat_lt, nat_le, bit_and, bit_or, slice_index, if◌then◌else◌, true}
 use Rattle.nor_chip.specs.declared.spoilt.SpoiltBus.{SpoiltBus}
 use Rattle.nor_chip.specs.declared.spoilt.Spoil.{Spoil}
@@ -18,12 +17,11 @@ spoil_of bus = bus.spoil
 abbrev pub history_of : {B : Type 0} → SpoiltBus B → List Exchange
 history_of bus = bus.history.exchanges
 
--- the number of transactions that succeeded, or the greatest u64 if there were more
 abbrev pub succeeded_of : {B : Type 0} → SpoiltBus B → ℕ
 succeeded_of bus = bus.sent
 
--- The state of a faulty bus, which isn't well-behaved. Its history has even the transactions that it dropped, with the
--- replies that it made up. The chip is that of the inner bus.
+-- The state of a faulty bus, which isn't well-behaved: the chip is that of the inner bus, but the history is that of
+-- the faulty bus, with dropped transactions.
 abbrev pub spoilt_state : {B : Type 0} → (B → BusState) → SpoiltBus B → BusState
 spoilt_state state bus = record (state bus.bus) {
   honest = false;
@@ -33,8 +31,7 @@ spoilt_state state bus = record (state bus.bus) {
   polled_ready = polled_ready_in (history_of bus);
 }
 
--- The value of each reply byte of the next transaction if the faulty bus drops it, otherwise `None`. `sent`
--- transactions succeeded before.
+-- the value of each reply byte if the bus drops the transaction after `sent` successful ones, otherwise `None`
 abbrev pub withheld : Spoil → ℕ → Option ℕ
 withheld (Fill byte) sent = Some byte
 withheld (BusyFrom first) sent = None
@@ -57,8 +54,7 @@ pub record IsWithheld {B : Type 0} (byte : ℕ) (asked answer : List ℕ) (outco
   pub inner : new ≡ old
   pub replies : answer ≡ replicate (length asked) byte
 
--- Holds if the transaction was passed on to the inner bus, whose reply is `replied`. Each reply byte of the faulty bus
--- is `byte_for` of the byte of `replied` at the same index.
+-- Holds if each byte of `answer` is `byte_for` of the byte of `replied`, the reply of the inner bus, at its index.
 pub record IsPassedOn (byte_for : ℕ → ℕ) (out asked answer : List ℕ) (old new : BusState) : Type 0 where
   pub replied : List ℕ
   pub as_many : length answer ≡ length replied

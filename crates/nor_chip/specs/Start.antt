@@ -1,4 +1,3 @@
--- The state of a new simulated bus, and the contents of a chip.
 use Rattle.std.specs.Prelude.{◌≡◌, ◌<◌, ◌/◌, ◌%◌, ◌==◌, [], ℕ, List, true, false, length, slice_index}
 use Rattle.nor_model.specs.declared.config.Config.{Config}
 use Rattle.nor_chip.specs.declared.sim.Delays.{Delays}

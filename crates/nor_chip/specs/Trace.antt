@@ -1,4 +1,3 @@
--- The bus that logs each transaction that succeeds, as contracts see it.
 use Rattle.std.specs.Prelude.{◌≡◌, ◌++◌, ◌==◌, ℕ, Bool, true, false, List, [], Option, Result, OnOk, OnErr, length, codes, decimal, nat_lt, if◌then◌else◌}
 use Rattle.std.specs.Io.KnownBytes.{Appends}
 use Rattle.hex.specs.Hex.{encode_lower}
@@ -11,7 +10,6 @@ traced_by traced = traced.bus
 abbrev pub log_of : {B L : Type 0} → TraceBus B L → L
 log_of traced = traced.log
 
--- true if some line could not be written completely, or a flush failed
 abbrev pub has_lost : {B L : Type 0} → TraceBus B L → Bool
 has_lost traced = traced.lost
 

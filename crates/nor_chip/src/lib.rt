@@ -1,6 +1,5 @@
-//! Buses for emulation and tests: a simulated chip in memory, a bus that logs transactions, and a faulty bus. This
-//! crate also exports the items of nor_model (the model of the chip and the contract of a bus), except `is_protected`
-//! and `Kinds`.
+//! Buses for emulation and tests: a bus to a simulated chip, a bus that logs transactions, and a faulty bus. This
+//! crate also exports the items of nor_model, except `is_protected`, `Kinds` and the opcodes.
 //!
 //! ```rust
 //! use nor_chip::{Bus, Config, Delays, Meter, SimBus};

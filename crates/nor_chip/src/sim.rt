@@ -14,7 +14,7 @@ use std::fmt;
 mod cells;
 mod flash;
 
-/// The numbers of polls that show BUSY on a simulated chip.
+/// How long a simulated chip stays busy, counted in polls.
 #[derive(Clone, Copy, Debug, PartialEq, Eq)]
 pub struct Delays {
     /// The number of polls that show BUSY at the start.
@@ -35,8 +35,7 @@ impl fmt::Display for WrongLength {
 
 impl std::error::Error for WrongLength {}
 
-/// A well-behaved bus (`honest`) to a chip that is simulated in memory. The bus carries out the number of transactions
-/// that the last call of `allow` set, and stops at each later one.
+/// A well-behaved bus (`honest`) to a simulated chip. The bus stops after the number of transactions set by `allow`.
 #[derive(Drop)]
 pub struct SimBus {
     flash: Flash,
@@ -56,9 +55,8 @@ impl SimBus {
     ghost use Rattle.nor_chip.specs.Sim.{sim_state, fill_of, torn_of, pace_of, TornTo, WornTo, TearsOff, KeepsBus};
 
     /// Returns a bus to a chip with this configuration, the contents `bytes`, and status 1 and 2, whose bits BUSY and
-    /// SUS are ignored. The first `delays.now` polls show BUSY, for an unknown operation. The bus carries out no
-    /// transaction before `allow` is called. Returns `WrongLength` if the length of `bytes` differs from the chip's
-    /// size.
+    /// SUS are ignored. The bus carries out no transaction before `allow` is called. Returns `WrongLength` if the
+    /// length of `bytes` differs from the chip's size.
     pub fn new(
         config: Config,
         bytes: Vec<u8>,
@@ -94,16 +92,15 @@ impl SimBus {
         })
     }
 
-    /// Returns the chip's contents, from address 0 on.
     pub fn bytes(&self) -> &[u8]
         ensures { AreChipBytes (⟦<SimBus as Bus>⟧.state self.now).chip result.now }
     {
         &self.flash.bytes
     }
 
-    /// Sets whether the chip loses its power at a stop. With `None`, as after `new`, it keeps its power. With
-    /// `Some(fill)`, each byte on which a program or erase in progress works becomes `fill`. A status write in progress
-    /// is undone if `fill` is even, and completed if it is odd. An unknown operation changes nothing.
+    /// Sets whether the chip keeps its power at a stop (`None`, as after `new`) or loses it. With `Some(fill)`, each
+    /// byte on which a running program or erase works becomes `fill`, and a running status write is undone if and only
+    /// if `fill` is even.
     pub fn lose(&mut self, fill: Option<u8>)
         ensures state { ⟦<SimBus as Bus>⟧.state self.new
             ≡ record (⟦<SimBus as Bus>⟧.state self.old) { steady = is_none fill && is_none (torn_of self.old) } }
@@ -114,9 +111,8 @@ impl SimBus {
         self.fill = fill;
     }
 
-    /// Sets how many bytes of a transaction are still sent if the bus stops at it. With `Some(count)`, at most `count`
-    /// are sent, and the chip treats them as a whole transaction without a reply. With `None`, as after `new`, no byte
-    /// is sent. Afterwards the chip may lose its power (`lose`).
+    /// Sets how many bytes of a transaction are still sent if the bus stops at it: with `Some(count)`, at most `count`,
+    /// which the chip treats as a whole transaction without a reply; with `None`, as after `new`, no byte.
     pub fn tear(&mut self, count: Option<u32>)
         ensures state { ⟦<SimBus as Bus>⟧.state self.new
             ≡ record (⟦<SimBus as Bus>⟧.state self.old) { steady = is_none (fill_of self.old) && is_none count } }
@@ -127,7 +123,6 @@ impl SimBus {
         self.torn = count;
     }
 
-    /// Returns the two status bytes, as 05h and 35h would read them.
     pub fn status(&self) -> [u8; 2]
         ensures { result ≡ status_of (⟦<SimBus as Bus>⟧.state self.now).chip }
     {

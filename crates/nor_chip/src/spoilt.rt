@@ -7,8 +7,7 @@ ghost use Rattle.nor_chip.specs.Spoilt.{bus_in, spoil_of, succeeded_of, history_
 
 use nor_model::{Bus, History, Meter, Stopped};
 
-/// The way in which a faulty bus fails. The number of a transaction is one more than the number of transactions that
-/// succeeded before it.
+/// The way in which a faulty bus fails. The number of a transaction is 1 plus the number of successful ones before it.
 #[derive(Clone, Copy, Debug, PartialEq, Eq)]
 pub enum Spoil {
     /// No transaction is carried out. Each transaction succeeds, and each of its reply bytes is the given byte.
@@ -21,7 +20,7 @@ pub enum Spoil {
     Low(u8),
 }
 
-/// A faulty bus. It drops transactions or changes replies in one fixed way, to test how callers react.
+/// A bus that drops transactions or changes replies in one fixed way, to test how callers react.
 #[derive(Drop)]
 pub struct SpoiltBus<B> {
     bus: B,
@@ -31,7 +30,6 @@ pub struct SpoiltBus<B> {
 }
 
 impl<B: Bus> SpoiltBus<B> {
-    /// Returns a faulty bus, which passes transactions on to `inner` and fails as `spoil` says.
     pub fn new(inner: B, spoil: Spoil) -> SpoiltBus<B>
         ensures inner { bus_in result ≡ inner }
         ensures spoil { spoil_of result ≡ spoil }
@@ -53,14 +51,13 @@ impl<B: Bus> SpoiltBus<B> {
         }
     }
 
-    /// Returns the number of transactions that succeeded so far, even if they were dropped, up to the greatest `u64`.
+    /// Returns the number of transactions that succeeded so far, dropped ones included, up to the greatest `u64`.
     pub fn sent(&self) -> u64
         ensures { result ≡ succeeded_of self.now }
     {
         self.sent
     }
 
-    /// Returns the inner bus, in its present state.
     pub fn into_inner(self) -> B
         ensures { result ≡ bus_in self }
     {

@@ -10,11 +10,10 @@ use std::io::{self, Write};
 
 const PIECE: usize = 64;
 
-/// A bus that passes transactions on to an inner bus, and writes a line to a log for each transaction that succeeds:
-/// the bytes sent, in hexadecimal, and if bytes were received, ` > ` and these (if more than three, their number).
+/// A bus that passes transactions on to an inner bus, and logs a line for each transaction that succeeds: the bytes
+/// sent, in hexadecimal, and if bytes were received, ` > ` and these bytes or, for more than three, ` > N bytes`.
 ///
-/// If a line can't be written completely, the transaction still succeeds, but the line counts as lost (`lost`). The bus
-/// buffers nothing. If each write to the log costs a system call, use a log with a buffer, such as `BufWriter`.
+/// The bus buffers nothing. If each write to the log costs a system call, use a log with a buffer, such as `BufWriter`.
 #[derive(Drop)]
 pub struct TraceBus<B, L> {
     bus: B,
@@ -23,7 +22,6 @@ pub struct TraceBus<B, L> {
 }
 
 impl<B: Bus + Drop, L: Write + Drop> TraceBus<B, L> {
-    /// Returns a bus that passes transactions on to `bus` and logs them to `log`.
     pub fn new(bus: B, log: L) -> TraceBus<B, L>
         ensures state { ⟦<TraceBus<B, L> as Bus>⟧.state result ≡ B.state bus }
         ensures log { log_of result ≡ log }
@@ -54,8 +52,7 @@ impl<B: Bus + Drop, L: Write + Drop> TraceBus<B, L> {
         }
     }
 
-    /// Returns the inner bus, in its present state. The log is dropped; its type says what happens to bytes in its
-    /// buffer.
+    /// Returns the inner bus, in its present state, and drops the log.
     pub fn into_inner(self) -> B
         ensures { B.state result ≡ ⟦<TraceBus<B, L> as Bus>⟧.state self }
     {

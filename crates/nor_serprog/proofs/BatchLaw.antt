@@ -1,4 +1,4 @@
--- If the chip of a bus that sends a write enable later made one step, or this step was cut, the bus meets its contract.
+-- If the chip of a `BatchingBus` made one step, or this step was cut, the bus meets its contract (`Transfers`).
 use Rattle.std.proofs.Common.{◌≡◌, ◌∙◌, ℕ, Bool, true, false, List, Ok, Err, inl, inr, refl, ap}
 use Rattle.std.specs.Prelude.{◌&&◌, not}
 use Rattle.std.proofs.lemmas.Bool.{false≢true, and_parts}

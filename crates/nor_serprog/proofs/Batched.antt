@@ -1,4 +1,4 @@
--- A batch over a well-behaved port: it stays settled, and its chip makes one step for each transaction, or is cut.
+-- Over a well-behaved port a batch stays settled, and each transaction makes one step of the chip or is cut.
 use Rattle.std.proofs.Common.{◌≡◌, ◌∙◌, ◌+◌, ◌≤◌, ◌++◌, ℕ, Bool, true, false, List, [], ◌∷◌, length, refl, sym, ap, subst, arith, inl, inr, length-append}
 use Rattle.std.specs.Prelude.{Result, Ok, Err, OnOk, OnErr}
 use Rattle.std.proofs.lemmas.Bool.{false≢true, cases_Bool}
@@ -22,8 +22,6 @@ in_step_if batch waits = elim (cases_Bool (is_in_step batch.link)) [
   | inl in_step ↦ in_step
   | inr lost ↦ absurd (false≢true (sym (batch.spent lost) ∙ waits))
 ]
-
--- ---- the frames
 
 pub sends_enable : (device : Device) → SendsBatch false (0x06 ∷ []) 0 enable_frame device
 sends_enable device = record {
@@ -53,8 +51,6 @@ sends_pair out replies frame pair buffer device exact whole reads both fits hold
   fits = λ yes. omega (arith, ap length both, length-append enable_frame frame, fits, holds);
 }
 
--- ---- the link after an exchange
-
 module _ {P C T E : Type 0} (least : ℕ) (port : P → PortState) (waits : Bool) (out reply : List ℕ)
     (old new : Link P C) where
   pub settled_after : (result : Result T E) → (port new.port).honest ≡ (port old.port).honest
@@ -80,8 +76,6 @@ module _ {P C T E : Type 0} (least : ℕ) (port : P → PortState) (waits : Bool
     buffer = λ honest in_step. absurd (false≢true (sym err ∙ in_step));
   }
 
--- ---- the write enable that waited is sent alone
-
 flushed_once : (waits : Bool) (reply : List ℕ) (old new : PortState) → waits ≡ true → length reply ≡ 0
     → ExchangedBatch false (0x06 ∷ []) reply old new → SameChipOf (enabled_device waits old.device) new.device
 flushed_once true reply old new waited none e = enable_carried reply old.device new.device e.steps none
@@ -101,8 +95,6 @@ module _ {T E : Type 0} (result : Result T E) (waits : Bool) (old new : PortStat
   pub flush_cut : waits ≡ true → OnErr result (InterruptedBatch false (0x06 ∷ []) old new)
       → OnErr result ((out : List ℕ) → IsCut out (enabled_device waits old.device) (enabled_device false new.device))
   flush_cut waited err = on_err_weaker result (flush_cut_once waits old new waited) err
-
--- ---- a transaction is sent after it, or after it was flushed
 
 carried_once : (waits : Bool) (out reply : List ℕ) (base : Device) (mid new : PortState) → waits ≡ false
     → SameChipOf base (enabled_device waits mid.device) → ExchangedBatch false out reply mid new

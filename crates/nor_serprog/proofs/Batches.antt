@@ -29,7 +29,6 @@ none_of : (answer : List ℕ) → length answer ≡ 0 → answer ≡ []
 none_of [] none = refl
 none_of (x ∷ rest) none = absurd (omega (arith, none))
 
--- The state of the programmer after all frames arrived, and before anything was received.
 pub record CarriedBatch (waits : Bool) (out : List ℕ) (replies : ℕ) (old sent : Device) : Type 0 where
   pub answer : List ℕ
   pub len : length answer ≡ replies

@@ -1,4 +1,3 @@
--- If a write enable that waited is cut, the chip of the bus lost its power, or nothing happened to it.
 use Rattle.std.proofs.Common.{◌≡◌, ◌∙◌, ◌⊎◌, ℕ, Bool, true, List, [], ◌∷◌, length, take, refl, sym, ap, subst, inl, inr}
 use Rattle.std.specs.Prelude.{◌||◌}
 use Rattle.std.proofs.lemmas.Bool.{cases_Bool, eqb-true}
@@ -18,7 +17,6 @@ kept_cut (StatusWrite one two) kept = inl refl
 kept_cut Unknown kept = tt
 kept_cut _ kept = refl
 
--- An idle chip whose latch is clear is what a loss of power leaves of the chip whose latch is set.
 unlatched : (chip : Chip) → (chip ≡ enabled true chip) ⊎ PowerLost (enabled true chip) chip
 unlatched chip = elim (cases_Bool (is_idle chip)) [
   | inr busy ↦ inl (busy_same chip busy)

@@ -1,4 +1,4 @@
--- A write enable that waits: carrying it out leaves the chip of the bus, which has the latch set already, as it is.
+-- While a write enable waits, an idle chip's latch counts as set, so carrying out the write enable changes nothing.
 use Rattle.std.proofs.Common.{◌≡◌, ◌∙◌, ◌⊎◌, ℕ, zero, suc, Bool, true, false, List, [], ◌∷◌, length, take, drop, refl, sym, ap, subst, arith, inl, inr}
 use Rattle.std.specs.Prelude.{◌==◌, ◌||◌, if◌then◌else◌}
 use Rattle.std.proofs.lemmas.Bool.{cases_Bool}
@@ -46,7 +46,6 @@ carried_if : (idle : Bool) → ((if idle then WriteEnable else Ignored) ≡ Igno
 carried_if true = inr (refl, refl)
 carried_if false = inl refl
 
--- A write enable that requests reply bytes is ignored.
 done_enable : (chip : Chip) (replies : ℕ) → MayEnable chip (done_of chip (0x06 ∷ []) replies)
 done_enable chip replies =
     let done : Bool → Command = λ b.
@@ -54,7 +53,6 @@ done_enable chip replies =
     if is_carried_out chip command then command else Ignored in
     elim (replies == 0) as (λ b. MayEnable chip (done b)) [ true ↦ carried_if (is_idle chip) | false ↦ inl refl ]
 
--- The first `count` bytes of a write enable are none or all of it.
 pub done_first : (chip : Chip) (count replies : ℕ) → MayEnable chip (done_of chip (take count (0x06 ∷ [])) replies)
 done_first chip zero replies = inl refl
 done_first chip (suc n) replies =

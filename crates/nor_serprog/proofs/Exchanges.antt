@@ -133,7 +133,6 @@ pub on_err : {T E : Type 0} (result : Result T E) (P : Type 0) → P → OnErr r
 on_err (Ok x) P p = tt
 on_err (Err e) P p = p
 
--- Holds if a call that sends nothing did not increase the number of calls left of a well-behaved port.
 pub record UsesCalls (old new : PortState) : Type 0 where
   pub honest : new.honest ≡ old.honest
   pub fewer : old.honest ≡ true → new.left ≤ old.left

@@ -1,5 +1,4 @@
--- Lemmas: what a port was asked to send stays the frames of the transactions of a history (`IsFramed`) when one more
--- transaction is added.
+-- If `IsFramed` holds and one transaction, flush or synchronization is added, `IsFramed` still holds.
 use Rattle.std.proofs.Common.{◌≡◌, ◌∙◌, ◌++◌, ◌⊎◌, inl, inr, true, false, ℕ, Bool, List, [], ◌∷◌, length, refl, sym, subst, ap, arith}
 use Rattle.std.proofs.lemmas.Bool.{false≢true}
 use Rattle.std.proofs.lemmas.List.{append-nil, append_assoc}
@@ -12,11 +11,9 @@ use Rattle.nor_serprog.specs.Frame.{operation_frame}
 use Rattle.nor_serprog.specs.Link.{is_in_step}
 use Rattle.nor_serprog.specs.Asked.{bytes_of_calls, enable_frame, lead_frame, AsksLead, AsksInOrder, FitsOperation, IsLongProgram, IsOneOperation, MayFrame, AreFrames, IsFramed, AreNops, AsksSync, nop_row}
 
--- Holds if the argument is one operation, or a part of a synchronization.
 abbrev Whole : List ℕ → Type 0
 Whole argument = IsOneOperation argument ⊎ AreNops argument
 
--- Nothing waits, and nothing was asked since a bus was made.
 pub framed_none : (start : List (List ℕ)) → IsFramed start start false []
 framed_none start = record {
   later = [];
@@ -25,7 +22,6 @@ framed_none start = record {
   whole = All-nil Whole;
 }
 
--- The write enable alone is one operation.
 lead_whole : Whole enable_frame
 lead_whole =
     inl (record {
@@ -37,7 +33,6 @@ lead_whole =
       is = refl;
     })
 
--- Adds one transaction to the history, for which the port may be asked to send the bytes `last`.
 more : (exchange : Exchange) (earlier : List Exchange) (before last bytes : List ℕ) → AreFrames earlier before
     → MayFrame exchange last → bytes ≡ before ++ last → AreFrames (exchange ∷ earlier) bytes
 more exchange earlier before last bytes framed may is =
@@ -51,7 +46,6 @@ more exchange earlier before last bytes framed may is =
       frame = may;
     }
 
--- A transaction was rejected, and nothing was asked.
 pub framed_rejected : (start asked : List (List ℕ)) (waits : Bool) (history : List Exchange) (out : List ℕ)
     → IsFramed start asked waits history → IsFramed start asked waits (stopped out ∷ history)
 framed_rejected start asked waits history out f = record {
@@ -62,8 +56,6 @@ framed_rejected start asked waits history out f = record {
   whole = f.whole;
 }
 
--- If `IsFramed` holds, and the port was then asked to send the waiting write enable, if any (`AsksLead`), then
--- `IsFramed` holds, and no write enable waits.
 pub framed_flushed : (start old new : List (List ℕ)) (waits : Bool) (history : List Exchange)
     → IsFramed start old waits history → AsksLead waits old new → IsFramed start new false history
 framed_flushed start old new true history f asks = record {
@@ -79,13 +71,11 @@ framed_flushed start old new false history f asks = record {
   whole = f.whole;
 }
 
--- A transaction stopped before its frame was asked for.
 pub framed_stopped : (start old new : List (List ℕ)) (waits : Bool) (history : List Exchange) (out : List ℕ)
     → IsFramed start old waits history → AsksLead waits old new → IsFramed start new false (stopped out ∷ history)
 framed_stopped start old new waits history out f asks =
     framed_rejected start new false history out (framed_flushed start old new waits history f asks)
 
--- A write enable waits from now on.
 pub framed_waits : (start old new : List (List ℕ)) (waits : Bool) (history : List Exchange) (reply : List ℕ)
     → length reply ≡ 0 → IsFramed start old waits history → AsksLead waits old new
     → IsFramed start new true (replied (0x06 ∷ []) reply ∷ history)
@@ -102,7 +92,6 @@ framed_waits start old new waits history reply none f asks =
       whole = g.whole;
     }
 
--- The frame of a transaction was asked for, after the write enable that waited.
 pub framed_asked : (start old new : List (List ℕ)) (waits : Bool) (history : List Exchange) (exchange : Exchange)
     (out : List ℕ) (replies : ℕ) → FitsOperation out replies → MayFrame exchange (operation_frame out replies)
     → IsFramed start old waits history
@@ -139,7 +128,6 @@ framed_asked start old new waits history exchange out replies fits may f (inr (w
           })) g.whole;
     }
 
--- A transaction returned `Ok`.
 pub framed_ok : (start old new : List (List ℕ)) (waits waits' : Bool) (history history' : List Exchange)
     (out reply : List ℕ) (len : ℕ) → length reply ≡ len → history' ≡ replied out reply ∷ history
     → (waits' ≡ true → (out ≡ 0x06 ∷ []) × (len ≡ 0)) → (waits' ≡ true → AsksLead waits old new)
@@ -156,7 +144,6 @@ framed_ok start old new waits false history history' out reply len is added enab
     (subst (FitsOperation out) (sym is) (sent refl).fits, ap (λ (n : ℕ). operation_frame out n) (sym is)) f
     (sent refl).asks)
 
--- The port was asked for a part of what a transaction needs, and nothing waits.
 framed_cut : (start old new : List (List ℕ)) (waits : Bool) (history : List Exchange) (out : List ℕ) (len : ℕ)
     → AsksLead waits old new ⊎ AsksInOrder waits out len old new
     → IsFramed start old waits history → IsFramed start new false (stopped out ∷ history)
@@ -164,7 +151,6 @@ framed_cut start old new waits history out len (inl lead) f = framed_stopped sta
 framed_cut start old new waits history out len (inr sent) f =
     framed_asked start old new waits history (stopped out) out len sent.fits (inr (len, (sent.fits, refl))) f sent.asks
 
--- A transaction failed or was rejected.
 pub framed_err : {P C : Type 0} {over : Ghosts P C} (start : List (List ℕ)) (old new : Batch P C over)
     (history history' : List Exchange) (out : List ℕ) (len : ℕ) → history' ≡ stopped out ∷ history
     → (new ≡ old) ⊎ ((is_in_step new.link ≡ false)
@@ -182,7 +168,6 @@ framed_err {P} {C} {over} start old new history history' out len added (inr (los
     (sym (new.spent lost)) (framed_cut start (over.state old.link.port).asked (over.state new.link.port).asked old.waits
     history out len asks f))
 
--- The write enable that waited was flushed.
 pub framed_flush : {P C : Type 0} {over : Ghosts P C} (start : List (List ℕ)) (old new : Batch P C over)
     (history : List Exchange) → new.waits ≡ false
     → AsksLead old.waits (over.state old.link.port).asked (over.state new.link.port).asked
@@ -192,9 +177,6 @@ framed_flush {P} {C} {over} start old new history none asks f =
     subst (λ (w : Bool). IsFramed start (over.state new.link.port).asked w history) (sym none)
     (framed_flushed start (over.state old.link.port).asked (over.state new.link.port).asked old.waits history f asks)
 
--- ---- synchronization
-
--- The bytes of a synchronization may follow the frames of a history.
 synced : (history : List Exchange) (bytes syncs : List ℕ) → AreNops syncs → AreFrames history bytes
     → AreFrames history (bytes ++ syncs)
 synced [] bytes syncs nops f = All-append (λ (byte : ℕ). (byte ≡ 0x10) ⊎ (byte ≡ 0x00)) bytes syncs f nops
@@ -209,7 +191,6 @@ synced (exchange ∷ earlier) bytes syncs nops f = record {
   frame = f.frame;
 }
 
--- One call of the port was asked for bytes of a synchronization.
 synced_once : (start old new : List (List ℕ)) (history : List Exchange) (syncs : List ℕ) → AreNops syncs
     → new ≡ syncs ∷ old → IsFramed start old false history → IsFramed start new false history
 synced_once start old new history syncs nops asks f = record {
@@ -262,7 +243,6 @@ synced_by start old new history (inr (inr asks)) f =
     synced_once start ((0x00 ∷ []) ∷ old) new history nop_row row_nops asks
     (synced_once start old ((0x00 ∷ []) ∷ old) history (0x00 ∷ []) (nop 0x00 [] (inr refl) none) refl f)
 
--- The programmer was synchronized, if the link was out of step.
 pub framed_sync : {P C : Type 0} {over : Ghosts P C} (start : List (List ℕ)) (old new : Batch P C over)
     (history : List Exchange) → new.waits ≡ old.waits
     → (new ≡ old) ⊎ ((is_in_step old.link ≡ false)

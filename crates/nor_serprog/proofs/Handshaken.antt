@@ -23,8 +23,6 @@ use Rattle.nor_serprog.specs.declared.programmer.AnyProgrammer.{AnyProgrammer}
 use Rattle.nor_serprog.specs.declared.programmer.Least.{Least}
 use Rattle.nor_serprog.specs.Identify.{Concludes, Asked, IsInStepWith, refused, clock_refused, first_handshake_fault, identify_faults, least_fault, IsAnyProgrammerOf, IsProgrammerOf, settings_if_offered, prepared_settings, prepared_port}
 
--- ---- one step
-
 pub goes_on : {T T' C : Type 0} {calls : ℕ} {fault fault' : Option (HandshakeFault C)} {IsValue : T → Type 0}
     {IsValue' : T' → Type 0} {value : T} {value' : T'} {old new : PortState}
     → Concludes calls fault IsValue (Ok value) old new → fault' ≡ None → IsValue' value'
@@ -43,7 +41,6 @@ stops_after done found = record {
   power = record { chip = inl done.asks.chip; worn = λ s. ap (λ (w : ℕ → Bool). w s) done.asks.worn };
 }
 
--- `settings` can be any, because `Concludes` states no settings after an error.
 pub fails_as : {T T' C : Type 0} {calls : ℕ} {fault fault' : Option (HandshakeFault C)} {IsValue : T → Type 0}
     {IsValue' : T' → Type 0} {error : HandshakeFault C} {old new : PortState} (settings : ProgrammerSettings)
     → Concludes calls fault IsValue (Err error) old new → (fault ≡ Some error → fault' ≡ Some error)
@@ -78,8 +75,6 @@ pub concludes_as : {T C : Type 0} {calls : ℕ} {fault fault' : Option (Handshak
 concludes_as (Ok value) same weaker c = goes_on c (same ∙ c.usable) (weaker value c.value)
 concludes_as {old = old} (Err error) same weaker c = fails_as old.device.settings c (λ found. same ∙ found)
 
--- ---- queries
-
 pub offered : (firmware : Firmware) (commands : List ℕ) (opcode : ℕ) (found value : Bool)
     → found ≡ is_in_map commands opcode → commands ≡ firmware.commands → found ≡ value → has_command firmware opcode ≡ value
 offered firmware commands opcode found value is same known =
@@ -101,8 +96,6 @@ replied true bytes bytes' reply some is =
 replied false bytes bytes' reply some is =
     let e : Some bytes' ≡ None = sym some ∙ is in let never : ⊥ = cc in absurd never
 
--- ---- tests of numbers
-
 not_true : (test : Bool) → (test ≡ true → ⊥) → test ≡ false
 not_true true never = absurd (never refl)
 not_true false never = refl
@@ -116,8 +109,6 @@ below m n less = (Decides-ltb m n).1 less
 pub not_below : (m n : ℕ) → n ≤ m → nat_lt m n ≡ false
 not_below m n more = not_true (nat_lt m n) (λ is. let less = (Decides-ltb m n).0 is in omega (arith, more))
 
--- ---- numbers
-
 pub two_read : (n value : ℕ) (reply : List ℕ) → value ≡ from_le_bytes w16 reply → reply ≡ two_of n → n < 65536
     → value ≡ n
 two_read n value reply is same fits =
@@ -127,8 +118,6 @@ pub or_default : (has_it : Bool) (bytes default : List ℕ)
     → unwrap_or (if has_it then Some bytes else None) default ≡ (if has_it then bytes else default)
 or_default true bytes default = refl
 or_default false bytes default = refl
-
--- ---- the clock
 
 pub clock_err : {C : Type 0} (firmware : Firmware) (hertz : ℕ) (reply : List ℕ) (error : HandshakeFault C)
     (old new : PortState) (set : Option ℕ) (IsValue : Option ℕ → Type 0) → firmware.clock hertz ≡ set
@@ -151,8 +140,6 @@ clock_ok firmware hertz n reply old new (Some set) e is a =
     (is ∙ ap (λ (l : List ℕ). from_le_bytes w32 l) done.value ∙ from_le_bytes-to_le_bytes_4 set fits)
     ∙ sym e)
 clock_ok firmware hertz n reply old new None e is a = absurd (a.naked (ap clocked e)).value
-
--- ---- settings
 
 pub set_result : {C : Type 0} (accepts : Bool) (firmware : Firmware) (setting : Command) (reply : List ℕ)
     (opcode : ℕ) (result : Result Unit (HandshakeFault C)) (old new : PortState)
@@ -192,8 +179,6 @@ is_prepared firmware settings bus pins =
     (bus_selected (has_command firmware 0x12) (firmware.takes_buses 8) settings bus)
     ∙ pins_switched (has_command firmware 0x15) (firmware.takes_pins true) _ pins
 
--- ---- steps one after another
-
 abbrev pub unchanged : Firmware → ProgrammerSettings → ProgrammerSettings
 unchanged firmware settings = settings
 
@@ -209,8 +194,8 @@ faults_from least done firmware hertz = first_handshake_fault (drop done (identi
 abbrev pub Starts : {P C : Type 0} → (P → PortState) → Link P C → Type 0
 Starts port link = AwaitsCommand (port link.port) × (is_cut link ≡ false)
 
--- Holds after some steps of a handshake that began with the link `start`. They made at most `calls` calls, found none
--- of the first `done` errors of `identify_faults`, and changed the settings by `after`.
+-- Holds if the steps since the link `start` made at most `calls` calls, found none of the first `done` errors of
+-- `identify_faults`, and changed the settings by `after`.
 pub record HasReached {P C : Type 0} (port : P → PortState) (start : Link P C) (hertz : Option ℕ) (least : Least)
     (calls done : ℕ) (after : Firmware → ProgrammerSettings → ProgrammerSettings) (commands : List ℕ) (link : Link P C) : Type 0 where
   pub asks : OnlyAsks calls

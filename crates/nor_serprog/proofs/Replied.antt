@@ -34,8 +34,6 @@ power_then old sent new chip worn m = record {
   worn = λ s. m.worn s ∙ ap (λ (w : ℕ → Bool). w s) worn;
 }
 
--- ---- the replies are short
-
 queried_short : (has : Bool) (bytes : List ℕ) → length bytes ≤ 32
     → length (if has then 0x06 ∷ bytes else nak) ≤ 33
 queried_short true bytes short = omega arith
@@ -76,8 +74,6 @@ short_one command old idle has = record {
   sends = omega (arith, length-append (frame_of command) [], frame_short old.firmware command has);
   reads = omega (arith, length-append (reply_of old.firmware command) [], reply_short old.firmware command);
 }
-
--- ---- how an exchange ends
 
 pub answered_ok : {C : Type 0} (command : Command) (frame : List ℕ) (count : ℕ) (reply : List ℕ)
     (old sent new : PortState) → AwaitsCommand old → frame ≡ frame_of command

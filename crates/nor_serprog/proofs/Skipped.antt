@@ -18,7 +18,6 @@ use Rattle.nor_serprog.proofs.Exchanges.{UsesCalls, uses_none}
 abbrev pub window : (received : List ℕ) → List ℕ
 window received = drop (length received) (replicate 25 0 ++ received)
 
--- Holds if the first `count` bytes of `wanted` were received, and the others are still pending.
 pub record HasSkipped (wanted last : List ℕ) (count : ℕ) (old now : PortState) : Type 0 where
   pub shows : last ≡ window (take count wanted)
   pub pending : now.device.pending ≡ drop count wanted

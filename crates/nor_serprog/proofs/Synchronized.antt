@@ -14,8 +14,7 @@ row =
     Nop ∷ Nop ∷ Nop ∷ Nop ∷ Nop ∷ Nop ∷ Nop ∷ Nop ∷ Nop
     ∷ SyncNop ∷ SyncNop ∷ Nop ∷ SyncNop ∷ Nop ∷ Nop ∷ SyncNop ∷ SyncNop ∷ SyncNop ∷ Nop ∷ []
 
--- Holds if `bytes` are the frames of `commands`, which each programmer has and which make no settings, and `answers`
--- are the replies to them. The first byte of the replies is not 0.
+-- Holds if `bytes` are the frames of `commands`, which change no settings, and `answers` are the replies to them.
 pub record IsRow (commands : List Command) (bytes answers : List ℕ) : Type 0 where
   pub frames : bytes ≡ frames_of commands
   pub has : (firmware : Firmware) → HaveReplies firmware commands

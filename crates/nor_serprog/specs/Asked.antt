@@ -3,7 +3,7 @@ use Rattle.std.specs.Prelude.{◌≡◌, ◌<◌, ◌≤◌, ◌++◌, ◌⊎◌
 use Rattle.nor_model.specs.Exchange.{Exchange}
 use Rattle.nor_serprog.specs.Frame.{operation_frame}
 
--- All bytes of these calls in order; the last call comes first in the list.
+-- The bytes of these calls in the order of the calls. The last call comes first in the list.
 abbrev pub bytes_of_calls : List (List ℕ) → List ℕ
 bytes_of_calls [] = []
 bytes_of_calls (last ∷ before) = bytes_of_calls before ++ last
@@ -20,12 +20,11 @@ acks is_led = if is_led then 0x06 ∷ [] else []
 abbrev pub AsksLead : (waits : Bool) → (old new : List (List ℕ)) → Type 0
 AsksLead waits old new = new ≡ (if waits then enable_frame ∷ old else old)
 
--- Holds if an O_SPIOP that sends `out` and reads `replies` bytes fits into a frame.
+-- Holds if this crate can encode an O_SPIOP that sends `out` and reads `replies` bytes.
 abbrev pub FitsOperation : (out : List ℕ) → (replies : ℕ) → Type 0
 FitsOperation out replies = (length out ≤ 260) × (replies < 16777216)
 
--- Holds if `out` is a page program (02h) with at least 32 data bytes. This is more than a synchronization sends, so if
--- the frame is cut inside the address, no synchronization completes it.
+-- Holds if `out` is a page program (02h) with at least 32 data bytes.
 abbrev pub IsLongProgram : (out : List ℕ) → Type 0
 IsLongProgram out = (slice_index out 0 ≡ 0x02) × (36 ≤ length out)
 
@@ -50,8 +49,7 @@ abbrev pub AsksSync : (old new : List (List ℕ)) → Type 0
 AsksSync old new =
     (new ≡ old) ⊎ ((new ≡ (0x00 ∷ []) ∷ old) ⊎ (new ≡ nop_row ∷ (0x00 ∷ []) ∷ old))
 
--- Holds if `argument`, what one call of the port was asked to send, is one frame of O_SPIOP, or the frame of a write
--- enable (06h) and then that of a long program.
+-- Holds if `argument` is one frame of O_SPIOP, or the frame of a write enable (06h) and then that of a long program.
 pub record IsOneOperation (argument : List ℕ) : Type 0 where
   pub waits : Bool
   pub out : List ℕ
@@ -60,8 +58,8 @@ pub record IsOneOperation (argument : List ℕ) : Type 0 where
   pub led : waits ≡ true → IsLongProgram out
   pub is : argument ≡ lead_frame waits ++ operation_frame out replies
 
--- Holds if `bytes` are what the port may have been asked to send for one transaction of a history. If the transaction
--- stopped, its frame may request any number of bytes, or may be missing.
+-- Holds if the port may have been asked to send `bytes` for the transaction `exchange`: its frame or, if the
+-- transaction stopped, nothing or a frame that requests any number of reply bytes.
 abbrev pub MayFrame : Exchange → List ℕ → Type 0
 MayFrame exchange bytes = elim exchange.reply [
   | Some reply ↦ FitsOperation exchange.out (length reply) × (bytes ≡ operation_frame exchange.out (length reply))
@@ -78,14 +76,13 @@ pub record EndsFraming (exchange : Exchange) (Earlier : List ℕ → Type 0) (by
   pub earlier : Earlier before
   pub frame : MayFrame exchange last
 
--- Holds if `bytes` are the frames of the transactions of a history, in order, with only synchronizations between them.
--- The last transaction comes first in the history.
+-- Holds if `bytes` are the frames of a history (`MayFrame`), in order, with only NOPs and SYNCNOPs between them.
 abbrev pub AreFrames : List Exchange → List ℕ → Type 0
 AreFrames [] bytes = AreNops bytes
 AreFrames (exchange ∷ earlier) bytes = EndsFraming exchange (AreFrames earlier) bytes
 
 -- Holds if everything that the port was asked to send after `start`, and then the write enable that may wait, are the
--- frames of the transactions of the history, in order, with only synchronizations between them.
+-- frames of the history (`AreFrames`), and each call was to send one operation or only NOPs and SYNCNOPs.
 pub record IsFramed (start asked : List (List ℕ)) (waits : Bool) (history : List Exchange) : Type 0 where
   pub later : List (List ℕ)
   pub since : asked ≡ later ++ start

@@ -1,4 +1,4 @@
--- A link and the write enable that waits to be sent over it, as contracts see them.
+-- A link and the write enable that waits to be sent over the link, as contracts see them.
 use Rattle.std.specs.Prelude.{◌≡◌, ◌≤◌, ℕ, Bool, true}
 use Rattle.nor_serprog.specs.declared.batch.Batch.{Batch}
 use Rattle.nor_serprog.specs.declared.link.Link.{Link}
@@ -18,11 +18,11 @@ waits_in batch = batch.waits
 abbrev pub buffer_in : {P C : Type 0} {over : Ghosts P C} → Batch P C over → ℕ
 buffer_in batch = batch.buffer
 
--- The programmer of the port, with the chip as it is after the write enable that waits.
+-- The programmer of the port, with the chip as if the write enable that waits had been carried out.
 abbrev pub device_at : {P C : Type 0} {over : Ghosts P C} → Batch P C over → Device
 device_at {over = over} batch = enabled_device batch.waits (over.state batch.link.port).device
 
--- Holds if the link is settled, and over a well-behaved port the programmer's serial buffer holds `least` bytes.
+-- Holds if `IsSettled` holds and, for a well-behaved port and a link in step, the serial buffer holds `least` bytes.
 pub record IsSettledFor {P C : Type 0} (least : ℕ) (port : P → PortState) (link : Link P C) : Type 0 where
   pub settled : IsSettled port link
   pub buffer : (port link.port).honest ≡ true → is_in_step link ≡ true

@@ -1,4 +1,4 @@
--- The bus to the chip at a programmer, as contracts see it.
+-- A `SerprogBus`, as contracts see it.
 use Rattle.std.specs.Prelude.{◌/◌, Bool, true, false, List, [], Option}
 use Rattle.nor_model.specs.Bus.{BusState}
 use Rattle.nor_model.specs.Exchange.{Exchange}
@@ -12,8 +12,8 @@ use Rattle.nor_serprog.specs.Device.{PortState}
 use Rattle.nor_serprog.specs.Link.{is_in_step}
 
 -- The state of a bus over a port in this state. A transaction takes three calls of the port: one sends the frame, one
--- receives ACK, and one receives the reply. The bus is not `steady`, since the port can fail in the middle of a
--- transaction, and not `unlimited`, since a frame sends at most 260 bytes.
+-- receives ACK, and one receives the reply. The bus is not `steady`, because the port can fail in the middle of a
+-- transaction, and not `unlimited`, because it is punctual but stops at transactions that are too long.
 abbrev pub over_port : PortState → (history : List Exchange) → BusState
 over_port port history = record {
   chip = port.device.chip;
@@ -37,7 +37,6 @@ link_of bus = bus.link
 abbrev pub port_in : {P C : Type 0} {over : Ghosts P C} → SerprogBus P C over → P
 port_in bus = bus.link.port
 
--- The transactions that the bus was asked to carry out, each with its reply, the last one first.
 abbrev pub history_of : {P C : Type 0} {over : Ghosts P C} → SerprogBus P C over → List Exchange
 history_of bus = bus.history.exchanges
 
@@ -47,8 +46,6 @@ sent_of bus = sent_in (history_of bus)
 abbrev pub polled_ready_of : {P C : Type 0} {over : Ghosts P C} → SerprogBus P C over → Bool
 polled_ready_of bus = polled_ready_in (history_of bus)
 
--- The cause of the last failure. A transaction that is rejected because an earlier one failed leaves this
--- cause as it is.
 abbrev pub cause_of : {P C : Type 0} {over : Ghosts P C} → SerprogBus P C over → Option (Failure C)
 cause_of bus = bus.cause
 

@@ -1,6 +1,5 @@
--- The states of a programmer with its chip and of a port, and the effects of the calls of a well-behaved port. (serprog
--- protocol version 1, flashrom's Documentation/serprog-protocol.txt: "Command And Answer Sequence", and the note on
--- O_SPIOP.)
+-- The states of a programmer with its chip and of a port, and the effects of the calls of a well-behaved port
+-- (flashrom's Documentation/serprog-protocol.txt: "Command And Answer Sequence", and the note on O_SPIOP).
 use Rattle.std.specs.Prelude.{◌≡◌, ◌<◌, ◌≤◌, ◌+◌, ◌++◌, ◌⊎◌, ◌||◌, ℕ, Bool, false, List, [], ◌∷◌, None, length, take, slice_index, ⊤}
 use Rattle.nor_model.specs.Chip.{Chip}
 use Rattle.nor_model.specs.Bus.{unknown_chip}
@@ -16,8 +15,7 @@ pub record Device : Type 0 where
   -- the sectors that the chip has erased
   pub worn : ℕ → Bool
   pub firmware : Firmware
-  -- the type of bus and the state of the pin drivers, unknown after a failure of the port, or after bytes whose effect
-  -- is not specified
+  -- unknown after a failure of the port, or after bytes whose effect is not specified
   pub settings : ProgrammerSettings
   -- the bytes that the programmer received of a command that is not complete yet
   pub begun : List ℕ
@@ -30,13 +28,11 @@ pub record IsIdle (device : Device) : Type 0 where
 
 pub record PortState : Type 0 where
   pub device : Device
-  -- for a well-behaved port, the greatest number of further calls that will succeed, which no program can read
+  -- for a well-behaved port, the greatest number of further calls that can succeed, which code cannot read
   pub left : ℕ
-  -- true if the port is well-behaved, so that it obeys the contract of `Port`
   pub honest : Bool
   -- what each call of `send` was asked to send, the last call first; the port may have failed to send it
   pub asked : List (List ℕ)
-  -- the bytes that calls of `receive` returned, in order
   pub received : List ℕ
 
 abbrev pub with_settings : ProgrammerSettings → PortState → PortState
@@ -52,7 +48,7 @@ pub record MayLoseDevicePower (old new : Device) : Type 0 where
   pub worn : (s : ℕ) → new.worn s ≡ old.worn s
 
 -- Holds if the transaction `out` was cut: the programmer sent its first `count` bytes to the chip and read the bytes
--- `read`, and the chip may have lost its power.
+-- `read`. Then the chip may have lost its power.
 pub record IsCut (out : List ℕ) (old new : Device) : Type 0 where
   pub count : ℕ
   pub read : List ℕ
@@ -68,13 +64,13 @@ pub record OperatesFrame (frame : List ℕ) (old new : Device) : Type 0 where
   pub pending : new.pending ≡ old.pending ++ 0x06 ∷ answer
   pub settings : new.settings ≡ old.settings
 
--- Holds if `bytes`, after the bytes of the incomplete command before them, complete a frame of O_SPIOP.
+-- Holds if `bytes` complete a frame of O_SPIOP, of which the programmer may have received the first bytes before.
 pub record CompletesOperation (bytes : List ℕ) (old : Device) : Type 0 where
   pub whole : IsFrame (old.begun ++ bytes)
   pub opcode : slice_index (old.begun ++ bytes) 0 ≡ 0x13
 
--- Holds if `bytes` are two whole frames of O_SPIOP, which fit into the serial buffer together, and the programmer is
--- idle. The first frame requests no reply bytes.
+-- Holds if `bytes` are two frames of O_SPIOP that fit into the serial buffer of an idle programmer together. The first
+-- frame requests no reply bytes.
 pub record CompletesBoth (first second bytes : List ℕ) (old : Device) : Type 0 where
   pub idle : IsIdle old
   pub is : bytes ≡ first ++ second
@@ -109,22 +105,19 @@ pub record RepliesTo (commands : List Command) (old new : Device) : Type 0 where
   pub chip : new.chip ≡ old.chip
   pub worn : new.worn ≡ old.worn
 
--- Holds if one call sent all of `bytes`. Their effect is specified only if they complete a frame of O_SPIOP, are two
--- frames of O_SPIOP that fit into the serial buffer (`CompletesBoth`), or are whole frames of other commands
--- (`AsksFor`).
+-- Holds if one call sent all of `bytes`. Their effect is specified only for a frame of O_SPIOP or its rest (`done`),
+-- for whole frames of other commands (`replies`), and for two frames of O_SPIOP (`both`).
 pub record IsSent (bytes : List ℕ) (old new : PortState) : Type 0 where
   pub left : old.left ≡ new.left + 1
   pub firmware : new.device.firmware ≡ old.device.firmware
   pub done : CompletesOperation bytes old.device → OperatesFrame (old.device.begun ++ bytes) old.device new.device
   pub replies : (commands : List Command) → AsksFor commands bytes old.device
       → RepliesTo commands old.device new.device
-  -- A programmer whose firmware reports a serial buffer that holds both frames, but which loses bytes of the second
-  -- frame while it carries out the first, has no well-behaved port.
+  -- assumes that no byte of the second frame is lost while the programmer carries out the first
   pub both : (first second : List ℕ) → CompletesBoth first second bytes old.device
       → OperatesBoth first second old.device new.device
 
--- Holds if `frame`, a frame of O_SPIOP, is within the limits of every well-behaved port: it sends at most a page
--- program, requests at most a sector, and no reply is pending.
+-- Holds if no reply is pending, and `frame`, a frame of O_SPIOP, is within the limits of every well-behaved port.
 pub record IsWithinLimits (frame : List ℕ) (device : Device) : Type 0 where
   pub none_pending : device.pending ≡ []
   pub sends : length (out_in frame) ≤ 260
@@ -135,9 +128,8 @@ pub record AreWithinLimits (commands : List Command) (device : Device) : Type 0 
   pub sends : length (frames_of commands) ≤ 260
   pub reads : length (replies_of device.firmware commands) ≤ 4096
 
--- Holds if the port failed while it sent `bytes`, after any number of them. If these would complete a frame of O_SPIOP,
--- its transaction was cut, because a programmer may begin a transaction before its frame is complete. Of two frames,
--- the first was cut, or the first was carried out and the second cut.
+-- Holds if the port failed while it sent `bytes`, after any number of them. If `bytes` would complete a frame of
+-- O_SPIOP, its transaction was cut, because a programmer may begin a transaction before the frame is complete.
 pub record IsCutOff (bytes : List ℕ) (old new : PortState) : Type 0 where
   pub firmware : new.device.firmware ≡ old.device.firmware
   pub none_left_for_commands : (commands : List Command) → AsksFor commands bytes old.device
@@ -193,8 +185,8 @@ pub record Exchanged (out answer : List ℕ) (old new : PortState) : Type 0 wher
   pub settings : new.device.settings ≡ old.device.settings
   pub steps : StepsOnce out answer old.device new.device
 
--- Holds if the transaction `out`, which requests `replies` bytes, of which the caller wanted `wanted`, was cut, and too
--- few calls are left for another transaction.
+-- Holds if the transaction `out` was cut, and too few calls are left for another transaction. The frame of `out`
+-- requests `replies` bytes, and the caller `wanted` bytes.
 pub record Interrupted (out : List ℕ) (replies wanted : ℕ) (old new : PortState) : Type 0 where
   pub few_left : length out ≤ 260 → replies ≤ 4096 → wanted ≤ replies → old.left < 3
   pub few : new.left < 3
@@ -204,8 +196,7 @@ abbrev pub IfOperates : Command → (List ℕ → ℕ → Type 0) → Type 0
 IfOperates (Operate out replies) P = P out.now replies
 IfOperates _ P = ⊤
 
--- The state of a port about which nothing is known except what it was asked to send, and what it returned. The device
--- given here is arbitrary.
+-- The state of a port about which only `asked` and `received` are known. The device given here is arbitrary.
 abbrev pub unknown_port : (asked : List (List ℕ)) → (received : List ℕ) → PortState
 unknown_port asked received = record {
   device = record {

@@ -1,34 +1,27 @@
--- The firmware of a programmer, and its replies to the commands other than O_SPIOP. (serprog protocol version 1,
--- flashrom's Documentation/serprog-protocol.txt: the table of commands and its notes.)
+-- The firmware of a programmer, and its replies to the commands other than O_SPIOP (flashrom's
+-- Documentation/serprog-protocol.txt: the table of commands and its notes).
 use Rattle.std.specs.Prelude.{◌≡◌, ◌<◌, ◌/◌, ◌%◌, ◌^◌, ◌++◌, ◌==◌, ℕ, Bool, true, false, List, [], ◌∷◌, Option, None, Some, IfSome, length, replicate, slice_index, if◌then◌else◌, ⊤}
 use Rattle.std.proofs.Common.{refl, lit<}
 use Rattle.nor_serprog.specs.declared.command.Command.{Command}
 use Rattle.nor_serprog.specs.declared.command.Command.TheVariants.{Nop, QueryInterface, QueryCommands, QueryName, QuerySerialBuffer, QueryBuses, QueryLongestWrite, SyncNop, QueryLongestRead, SetBuses, Operate, SetFrequency, SetPins, SelectChip}
 use Rattle.nor_serprog.specs.Frame.{frame_of, three_of, four_of}
 
--- The firmware of a programmer: its replies to the queries, and the settings that it accepts. No command changes the
--- firmware.
+-- The replies of a programmer to the queries, and the settings that it accepts. No command changes its firmware.
 pub record Firmware : Type 0 where
-  -- the version of the protocol (Q_IFACE)
   pub version : ℕ
-  -- the map of the commands that the programmer has (Q_CMDMAP)
   pub commands : List ℕ
-  -- the name (Q_PGMNAME)
   pub name : List ℕ
-  -- the size of the serial buffer (Q_SERBUF)
   pub buffer : ℕ
   -- the flags of the types of bus: 1 parallel, 2 LPC, 4 FWH, 8 SPI (Q_BUSTYPE)
   pub buses : ℕ
   -- the greatest numbers of bytes that an O_SPIOP may send and may read; 0 means 2^24 (Q_WRNMAXLEN, Q_RDNMAXLEN)
   pub longest_write : ℕ
   pub longest_read : ℕ
-  -- whether the programmer accepts these flags (S_BUSTYPE), this state of the pin drivers (S_PIN_STATE), and this
-  -- number of a chip select (S_SPI_CS)
+  -- whether the programmer acknowledges S_BUSTYPE, S_PIN_STATE and S_SPI_CS with this argument
   pub takes_buses : (flags : ℕ) → Bool
   pub takes_pins : (enabled : Bool) → Bool
   pub takes_select : (number : ℕ) → Bool
-  -- the clock in hertz that the programmer sets if a clock of `hertz` is requested, or `None` if it refuses
-  -- (S_SPI_FREQ)
+  -- the clock in hertz that the programmer sets if `hertz` is requested, or `None` if it refuses (S_SPI_FREQ)
   pub clock : (hertz : ℕ) → Option ℕ
   pub version_fits : version < 65536
   pub commands_len : length commands ≡ 32
@@ -67,8 +60,8 @@ abbrev pub clocked : Option ℕ → List ℕ
 clocked (Some set) = 0x06 ∷ four_of set
 clocked None = nak
 
--- The reply of a programmer with this firmware to a whole frame of a command, if `HasReply` holds. Each programmer has
--- NOP, Q_IFACE, Q_CMDMAP and SYNCNOP. For O_SPIOP it is empty; `OperatesFrame` in Device.antt has its reply.
+-- The reply of a programmer with this firmware to a whole frame of a command, if `HasReply` holds. The list is empty
+-- for O_SPIOP, whose reply is in `OperatesFrame`.
 abbrev pub reply_of : Firmware → Command → List ℕ
 reply_of firmware Nop = 0x06 ∷ []
 reply_of firmware QueryInterface = 0x06 ∷ two_of firmware.version
@@ -85,8 +78,8 @@ reply_of firmware (SetPins enabled) = taken (firmware.takes_pins enabled)
 reply_of firmware (SelectChip number) = taken (firmware.takes_select number)
 reply_of firmware (Operate out replies) = []
 
--- Holds if `reply_of` specifies the reply to this command. A programmer that lacks a command treats the argument bytes
--- after the opcode as commands.
+-- Holds if `reply_of` specifies the reply to this command. O_SPIOP is excluded, and so is a command with arguments that
+-- the programmer lacks, because the programmer would treat the arguments as commands.
 abbrev pub HasReply : Firmware → Command → Type 0
 HasReply firmware (SetBuses flags) = has_command firmware 0x12 ≡ true
 HasReply firmware (SetFrequency hertz) = has_command firmware 0x14 ≡ true
@@ -95,15 +88,14 @@ HasReply firmware (SelectChip number) = has_command firmware 0x16 ≡ true
 HasReply firmware (Operate out replies) = ⊥
 HasReply firmware _ = ⊤
 
--- Two settings of a programmer. The clock and the chip select are not part of this record.
+-- The settings of a programmer, except its clock and its chip select.
 pub record ProgrammerSettings : Type 0 where
   -- the flags of the last S_BUSTYPE that the programmer acknowledged; `None` if it acknowledged none
   pub bus_type : Option ℕ
-  -- true if the last S_PIN_STATE that the programmer acknowledged switched the pin drivers on (a programmer that lacks
-  -- the command may always drive its pins)
+  -- true if the last S_PIN_STATE that the programmer acknowledged switched the pin drivers on
   pub pins_on : Bool
 
--- The settings after a whole frame of a command, which change only if the programmer acknowledges it.
+-- The settings after a whole frame of a command. They change only if the programmer acknowledges the command.
 abbrev pub settings_after : Firmware → Command → ProgrammerSettings → ProgrammerSettings
 settings_after firmware (SetBuses flags) settings =
     if firmware.takes_buses flags then record settings { bus_type = Some flags } else settings

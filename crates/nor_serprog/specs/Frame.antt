@@ -1,5 +1,4 @@
--- The commands of serprog as bytes. (serprog protocol version 1, flashrom's Documentation/serprog-protocol.txt: the
--- table of commands, and its notes on O_SPIOP.)
+-- The commands of serprog as bytes (flashrom's Documentation/serprog-protocol.txt: the table of commands).
 use Rattle.std.specs.Prelude.{◌≡◌, ◌<◌, ◌≤◌, ◌+◌, ◌*◌, ◌/◌, ◌%◌, ◌++◌, ◌==◌, ◌||◌, ℕ, List, [], ◌∷◌, Option, None, Some, length, drop, slice_index, if◌then◌else◌, ⊤}
 use Rattle.nor_serprog.specs.declared.command.Command.{Command}
 use Rattle.nor_serprog.specs.declared.command.Command.TheVariants.{Nop, QueryInterface, QueryCommands, QueryName, QuerySerialBuffer, QueryBuses, QueryLongestWrite, SyncNop, QueryLongestRead, SetBuses, Operate, SetFrequency, SetPins, SelectChip}
@@ -38,8 +37,7 @@ abbrev pub FitsFrame : Command → Type 0
 FitsFrame (Operate out replies) = (length out.now ≤ 260) × (replies < 16777216)
 FitsFrame _ = ⊤
 
--- The number of argument bytes after an opcode, 0 for all opcodes after 16h. It is not used for O_SPIOP (13h) and
--- "write n" (0Dh), whose frames `long_len` describes.
+-- The number of argument bytes after an opcode other than O_SPIOP (13h) and "write n" (0Dh), for which see `long_len`.
 abbrev pub argument_count : (opcode : ℕ) → ℕ
 argument_count opcode =
     if opcode == 0x12 || opcode == 0x15 || opcode == 0x16 then 1
@@ -48,14 +46,13 @@ argument_count opcode =
     else if opcode == 0x0A then 6
     else 0
 
--- The length of a frame of O_SPIOP or "write n". The bytes after its opcode begin with two numbers of three bytes each,
--- of which the first is the number of bytes that follow both.
+-- The length of a frame of O_SPIOP or "write n", from the bytes after its opcode. These begin with two numbers of three
+-- bytes each, and the first number counts the bytes that follow both.
 abbrev pub long_len : List ℕ → Option ℕ
 long_len (a ∷ b ∷ c ∷ rest) = Some (7 + number_in a b c)
 long_len _ = None
 
--- The length of the frame that begins with the bytes `begun`, for a programmer without commands after 16h; `None` if
--- more bytes are needed to determine it.
+-- The length of the frame that begins with the bytes `begun`, or `None` if more bytes are needed to determine it.
 abbrev pub frame_len : (begun : List ℕ) → Option ℕ
 frame_len [] = None
 frame_len (opcode ∷ rest) =

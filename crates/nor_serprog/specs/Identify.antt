@@ -1,5 +1,4 @@
--- The result of the handshake with a programmer (serprog protocol version 1, flashrom's
--- Documentation/serprog-protocol.txt).
+-- The result of the handshake with a programmer (flashrom's Documentation/serprog-protocol.txt).
 use Rattle.std.specs.Prelude.{◌≡◌, ◌<◌, ◌⊎◌, ◌-◌, ◌==◌, ◌&&◌, ◌||◌, not, nat_lt, bit_and, min, max, ℕ, Bool, true, List, [], ◌∷◌, length, slice_index, Option, None, Some, option_and_then, replicate, if◌then◌else◌, Result, IfOk, OnOk, OnErr, IfErr}
 use Rattle.std.specs.Option.{option_or}
 use Rattle.nor_serprog.specs.declared.programmer.HandshakeFault.{HandshakeFault}
@@ -16,10 +15,7 @@ use Rattle.nor_serprog.specs.Firmware.{Firmware, ProgrammerSettings, has_command
 use Rattle.nor_serprog.specs.Link.{is_in_step}
 use Rattle.nor_serprog.specs.Replies.{AwaitsCommand, OnlyAsks, IsPortFailure}
 
--- ---- what a programmer has
-
--- The flags of the types of bus that the programmer supports. A programmer that lacks Q_BUSTYPE is assumed to support
--- SPI (8) only.
+-- The flags of the types of bus that the programmer supports. Without Q_BUSTYPE, SPI (8) is assumed.
 abbrev pub buses_of : Firmware → ℕ
 buses_of firmware = if has_command firmware 0x05 then firmware.buses else 8
 
@@ -33,8 +29,8 @@ write_limit firmware = limit_in (has_command firmware 0x08) firmware.longest_wri
 abbrev pub read_limit : Firmware → ℕ
 read_limit firmware = limit_in (has_command firmware 0x11) firmware.longest_read
 
--- The greatest number of bytes that a transaction may send. If the programmer has Q_SERBUF (04h) but lacks Q_WRNMAXLEN
--- (08h), its frame, which has 7 more bytes, must also fit into the buffer. Even then the number is at least 5.
+-- The greatest number of bytes that a transaction may send. With Q_SERBUF (04h) and without Q_WRNMAXLEN (08h), the
+-- frame, which has 7 more bytes, must also fit into the serial buffer. Even then the number is at least 5.
 abbrev pub part_limit_of : (commands : List ℕ) → (writes buffer : ℕ) → ℕ
 part_limit_of commands writes buffer =
     if is_in_map commands 0x08 then writes
@@ -54,8 +50,6 @@ pub record IsAnyProgrammerOf (firmware : Firmware) (hertz : Option ℕ) (program
 abbrev pub IsProgrammerOf : (firmware : Firmware) → (hertz : Option ℕ) → Programmer → Type 0
 IsProgrammerOf firmware hertz programmer = IsAnyProgrammerOf firmware hertz programmer.reported
 
--- ---- why a programmer can't be used
-
 abbrev pub refused : {C : Type 0} → (opcode : ℕ) → (has_it accepts : Bool) → Option (HandshakeFault C)
 refused opcode has_it accepts = if has_it && not accepts then Some (Failure (Refused opcode)) else None
 
@@ -65,8 +59,7 @@ version_fault firmware = if firmware.version == 1 then None else Some (Version f
 abbrev pub operation_fault : {C : Type 0} → Firmware → Option (HandshakeFault C)
 operation_fault firmware = if has_command firmware 0x13 then None else Some (Lacks 0x13)
 
--- The error `NotSpi` if the programmer does not support SPI, or if it supports other types of bus, too, and lacks
--- S_BUSTYPE (12h), which selects one.
+-- The error `NotSpi` if SPI is missing, or if there are other types of bus but no S_BUSTYPE (12h) to select SPI.
 abbrev pub buses_fault : {C : Type 0} → Firmware → Option (HandshakeFault C)
 buses_fault firmware =
     if not (bit_and (buses_of firmware) 8 == 0) && (buses_of firmware == 8 || has_command firmware 0x12) then None
@@ -80,7 +73,7 @@ abbrev pub read_fault : {C : Type 0} → Firmware → (least : ℕ) → Option (
 read_fault firmware least =
     if nat_lt (read_limit firmware) least then Some (ReadLimit (read_limit firmware)) else None
 
--- The error `SmallBuffer` if only the serial buffer limits a frame, and holds fewer than `least` bytes.
+-- The error `SmallBuffer` if Q_SERBUF (04h) reports fewer than `least` bytes, and Q_WRNMAXLEN (08h) is missing.
 abbrev pub buffer_fault : {C : Type 0} → Firmware → (least : ℕ) → Option (HandshakeFault C)
 buffer_fault firmware least =
     if has_command firmware 0x04 && (not (has_command firmware 0x08) && nat_lt firmware.buffer least)
@@ -134,14 +127,12 @@ abbrev pub select_fault : {C : Type 0} → Firmware → (number : ℕ) → Optio
 select_fault firmware number =
     if has_command firmware 0x16 then refused 0x16 true (firmware.takes_select number) else Some (Lacks 0x16)
 
--- ---- the settings that the handshake makes
-
 abbrev pub settings_if_offered : Firmware → (opcode : ℕ) → Command → ProgrammerSettings → ProgrammerSettings
 settings_if_offered firmware opcode command settings =
     if has_command firmware opcode then settings_after firmware command settings else settings
 
--- The settings of a programmer that was prepared for SPI: SPI (8) is selected and the pin drivers are on, each only if
--- the programmer has the command for it.
+-- The settings of a programmer that was prepared for SPI (8), with its pin drivers on. A setting stays as it was if the
+-- programmer lacks its command.
 abbrev pub prepared_settings : Firmware → ProgrammerSettings → ProgrammerSettings
 prepared_settings firmware settings = record {
   bus_type = if has_command firmware 0x12 then Some 8 else settings.bus_type;
@@ -151,22 +142,19 @@ prepared_settings firmware settings = record {
 abbrev pub prepared_port : PortState → PortState
 prepared_port port = with_settings (prepared_settings port.device.firmware port.device.settings) port
 
--- ---- the result of the handshake
-
 abbrev pub IsPortFault : {C : Type 0} → HandshakeFault C → Type 0
 IsPortFault (Failure failure) = IsPortFailure failure
 IsPortFault _ = ⊥
 
 -- Holds for the result of a part of the handshake with at most `calls` calls, over a well-behaved port to an idle
--- programmer. `fault` is the error that the firmware causes. `old` is the state of the port before this part, except
--- that it has the settings that the programmer has after a success.
--- the settings that the programmer has after success.
+-- programmer. `fault` is the error that the firmware causes, if any. `old` is the state before this part, but with the
+-- settings that the programmer has after success.
 pub record Concludes {T C : Type 0} (calls : ℕ) (fault : Option (HandshakeFault C)) (IsValue : T → Type 0)
     (result : Result T (HandshakeFault C)) (old new : PortState) : Type 0 where
   pub usable : OnOk result (fault ≡ None)
   pub value : IfOk result IsValue
   pub asks : OnOk result (OnlyAsks calls old new)
-  -- an error is the one that the firmware causes; or the port failed, because fewer than `calls` calls were left
+  -- an error is `fault`, or a failure of the port because fewer than `calls` calls were left
   pub fails : IfErr result (λ found. (fault ≡ Some found) ⊎ (IsPortFault found × (old.left < calls)))
   pub power : OnErr result (MayLoseDevicePower old.device new.device)
 

@@ -11,7 +11,7 @@ pub record AwaitsCommand (port : PortState) : Type 0 where
   pub honest : port.honest ≡ true
   pub idle : IsIdle port.device
 
--- Holds if at most `calls` calls were made, and the programmer is idle again. The chip was not selected.
+-- Holds if at most `calls` calls were made and the programmer is idle again. Chip, firmware and settings are unchanged.
 pub record OnlyAsks (calls : ℕ) (old new : PortState) : Type 0 where
   pub left : old.left ≤ new.left + calls
   pub awaits : AwaitsCommand new
@@ -20,8 +20,7 @@ pub record OnlyAsks (calls : ℕ) (old new : PortState) : Type 0 where
   pub firmware : new.device.firmware ≡ old.device.firmware
   pub settings : new.device.settings ≡ old.device.settings
 
--- Holds if the port is well-behaved, no command is incomplete, and exactly `bytes` are pending: 1 to 25 of them, the
--- first of which is not 0.
+-- Holds if exactly `bytes` are pending at a well-behaved port, and no command is incomplete.
 pub record IsPending (bytes : List ℕ) (port : PortState) : Type 0 where
   pub honest : port.honest ≡ true
   pub begun : port.device.begun ≡ []
@@ -34,8 +33,7 @@ abbrev pub IsPortFailure : {C : Type 0} → Failure C → Type 0
 IsPortFailure (Port cause) = ⊤
 IsPortFailure _ = ⊥
 
--- Holds for the result of a call of a link that fails only because fewer than `calls` calls of the port were left. The
--- chip is then as it was or has lost its power.
+-- Holds for the result of a call that fails only because fewer than `calls` calls of the port were left.
 pub record AsksUnlessFew {C : Type 0} (calls : ℕ) (result : Result Unit (Failure C))
     (old new : PortState) : Type 0 where
   pub done : OnOk result (OnlyAsks calls old new)
@@ -50,16 +48,13 @@ abbrev pub IsRefused : {C : Type 0} → (opcode calls left : ℕ) → Failure C 
 IsRefused opcode calls left failure = IsRefusal opcode failure ⊎ (IsPortFailure failure × (left < calls))
 
 -- Holds for the result of an exchange of `command`, which requests `count` reply bytes, over a well-behaved port to an
--- idle programmer. For SYNCNOP, whose reply is NAK and ACK, only `power` says something.
+-- idle programmer. For SYNCNOP, whose reply is NAK and ACK, only the field `power` says something.
 pub record EndsExchange {C : Type 0} (command : Command) (count : ℕ) (reply : List ℕ) (result : Result Unit (Failure C))
     (old new : PortState) : Type 0 where
-  -- if the programmer replies ACK and `count` bytes: success with these bytes, or a failure of the port because fewer
-  -- than three calls were left
   pub acked : (bytes : List ℕ) → reply_of old.device.firmware command ≡ 0x06 ∷ bytes → count ≡ length bytes
       → OnOk result ((reply ≡ bytes) × OnlyAsks 3
       (with_settings (settings_after old.device.firmware command old.device.settings) old) new)
       × IfErr result (λ failure. IsPortFailure failure × (old.left < 3))
-  -- if the programmer replies NAK: `Refused`, or a failure of the port because fewer than two calls were left
   pub refused : reply_of old.device.firmware command ≡ nak
       → OnOk result ⊥ × IfErr result (IsRefused (slice_index (frame_of command) 0) 2 old.left)
   pub power : OnErr result (MayLoseDevicePower old.device new.device)

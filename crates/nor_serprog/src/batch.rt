@@ -1,5 +1,4 @@
-//! A write enable that waits to be sent over a link. It is sent together with the page program that it enables, which
-//! saves a round trip.
+//! A write enable that waits to be sent over a link, together with the page program that it enables.
 ghost use Rattle.std.specs.Prelude.{◌≡◌, ◌<◌, ◌≤◌, ◌⊎◌, ◌++◌, ◌∷◌, [], ℕ, List, true, false, length, OnOk, OnErr, IfOk};
 ghost use Rattle.nor_serprog.specs.Device.{StepsOnce, IsCut};
 ghost use Rattle.nor_serprog.specs.Enabled.{SameChipOf};
@@ -14,15 +13,13 @@ const ENABLE: [u8; 8] = [0x13, 1, 0, 0, 0, 0, 0, 0x06];
 
 const LONGEST_PAIR: usize = 275;
 
-// The least length of a page program that is sent together with its write enable: an opcode, three address bytes and 32
-// data bytes. A synchronization sends 20 bytes. If the frame of a program is cut inside the address, these bytes can't
-// complete it, even if `Link::synchronize` takes the ACK of the write enable for the reply to its NOP.
+// The least length of a page program that is sent together with its write enable: opcode, address and 32 data bytes. A
+// synchronization sends only 20 bytes, which cannot complete the frame of a program that was cut inside its address.
 const LONG_PROGRAM: usize = 36;
 
-/// A link, and whether the frame of a write enable waits to be sent over it (`BatchingBus` describes when it is sent).
-///
-/// Erases and status writes are never sent together with their write enable. So if the host stops in the middle of such
-/// a frame, no reply is pending, and a later `Link::synchronize` can't take an old ACK for the reply to its NOP.
+/// A link, and whether a write enable waits to be sent over this link. Erases and status writes are not sent together
+/// with their write enable. So if the host crashes inside the frame of an erase or status write, no old ACK is pending
+/// that `Link::synchronize` could take for the reply to its NOP.
 #[derive(Drop)]
 pub(crate) struct Batch<P: Port + Drop> {
     link: Link<P>,
@@ -35,7 +32,6 @@ pub(crate) struct Batch<P: Port + Drop> {
 impl<P: Port + Drop> Batch<P> {
     ghost use Rattle.nor_serprog.specs.Batch.{batch_link, waits_in, buffer_in, device_at, IsSettledBatch};
 
-    /// Returns a batch over a link whose programmer was identified. Nothing waits.
     pub(crate) fn new(link: Link<P>, programmer: &AnyProgrammer) -> Batch<P>
         ensures link { batch_link result ≡ link }
         ensures empty { waits_in result ≡ false }
@@ -56,14 +52,8 @@ impl<P: Port + Drop> Batch<P> {
     }
 
     /// Makes one transaction. A write enable that requests no reply bytes waits for the next transaction instead, if
-    /// its frame fits into the serial buffer.
-    ///
-    /// Returns `OutOfStep` or `CutFrame` if the link was out of step. Otherwise returns `TooLong` if the transaction
-    /// does not fit into one frame, or reads more than the programmer can; then nothing was sent, and the write enable
-    /// still waits. After any other error nothing waits.
-    ///
-    /// Over a well-behaved port, the chip, as if the write enable that waits had been carried out (`device_at`), makes
-    /// one step, or this step is cut.
+    /// its frame fits into the serial buffer. Changes nothing and returns `TooLong` if the transaction is too long, or
+    /// `OutOfStep` or `CutFrame` if the link was out of step. After any other error no write enable waits.
     pub(crate) fn transact(&mut self, out: &[u8], reply: &mut [u8]) -> Result<(), Failure<P::Cause>>
         ensures silent { is_in_step (batch_link self.old) ≡ false → self.new ≡ self.old }
         ensures was_in_step { OnOk result (is_in_step (batch_link self.old) ≡ true) }
@@ -111,7 +101,7 @@ impl<P: Port + Drop> Batch<P> {
         self.link.exchange_batch(&frame, false, reply)
     }
 
-    /// Sends the write enable that waits, and reads its ACK. Nothing waits afterwards, even after an error.
+    /// Sends the write enable, if it waits, and reads its ACK. Nothing waits afterwards, even after an error.
     pub(crate) fn flush(&mut self) -> Result<(), Failure<P::Cause>>
         ensures silent { is_in_step (batch_link self.old) ≡ false → self.new ≡ self.old }
         ensures ok { is_in_step (batch_link self.old) ≡ true → OnOk result (is_in_step (batch_link self.new) ≡ true) }

@@ -1,4 +1,4 @@
-//! A bus to the chip at a serial programmer that needs few round trips.
+//! A bus that sends a write enable and the page program after it with one call of the port.
 ghost use Rattle.std.specs.Prelude.{◌≡◌, ◌≤◌, ◌⊎◌, ◌∷◌, ◌++◌, [], ℕ, List, true, false, length, OnOk, OnErr, IsSome, option_copied};
 ghost use Rattle.nor_model.specs.Bus.{Transfers};
 ghost use Rattle.nor_serprog.specs.Batch.{IsSettledBatch};
@@ -8,36 +8,25 @@ use crate::{AnyProgrammer, Failure, Link, Port, Programmer, Sync};
 use nor_model::{Bus, History, Stopped};
 
 /// A bus to the chip at a serial programmer, over any port. It needs fewer round trips than `SerprogBus`, because it
-/// sends a write enable (06h) together with the page program (02h) after it, if that has at least 32 data bytes, and
-/// the programmer's serial buffer holds both frames.
+/// sends a write enable (06h) together with the page program (02h) after it, if the program has at least 32 data bytes
+/// and the programmer's serial buffer holds both frames.
 ///
-/// Nothing is sent after any other frame before ACK and its reply were received. If a byte of a frame is lost on the
-/// way, the programmer takes the next byte that it receives as the last one of the frame, and the chip may carry out a
-/// command that was never sent, on another sector or with other status bits. After a write enable this does no harm:
-/// both frames have to arrive whole, or the chip ignores the command.
+/// Any other transaction is sent only after the reply to the previous frame was received. Otherwise, if a byte of a
+/// frame is lost, the programmer takes the next byte for the last one of this frame, and the chip may carry out a
+/// command that was never sent. A page program may follow its write enable at once, because the chip ignores a program
+/// without a write enable.
 ///
-/// - `transfer` of a write enable that reads no reply may return `Ok` before it is sent. If it fails later, the
-///   transaction or `flush` that sends it returns `Stopped`; without one of these it is never sent.
-/// - Every other transaction that isn't rejected sends the write enable that waits. It returns `Ok` only after ACK was
-///   received for each frame (`acked`), so nothing waits then.
-/// - Nothing waits if the programmer does not report the size of its serial buffer.
-/// - Everything that the port was asked to send since the bus was made is, in order, the frames of the transactions in
-///   the history, with only synchronizations between them (`frames`).
+/// - A write enable that requests no reply bytes waits if the serial buffer holds its frame: `transfer` returns `Ok`
+///   without sending it. Only the next transaction or `flush` sends it, and returns `Stopped` if this fails.
+/// - A transaction that sends more than 260 bytes, or reads 2^24 bytes or more, or more than the programmer can, is
+///   rejected: nothing is sent, and a write enable that waits still waits.
+/// - After any other failed transaction or `flush`, nothing waits or is sent until `synchronize` returns `Ok`.
+/// - The history lists failed and rejected transactions without a reply, and a waiting write enable with an empty
+///   reply.
 ///
-/// Over any port the history lists each transaction with its reply; a transaction that failed or was rejected is listed
-/// without a reply. A write enable that waits is already in the history, with an empty reply.
-///
-/// A transaction that sends more than 260 bytes, or reads 2^24 bytes or more, or more than the programmer can, is
-/// rejected: nothing is sent, and the write enable that waits still waits. After any other transaction that failed,
-/// nothing waits, and no transaction is sent until `synchronize` returns `Ok`.
-///
-/// Over a well-behaved port, the bus that `emulated` returns is well-behaved, for transactions of any length. Its chip
-/// is the programmer's, with the write enable latch set while a write enable waits and the chip is idle. If this write
-/// enable is never carried out, the chip is as after a loss of power, which also clears the latch. The bus is not
-/// punctual, and may stop at any transaction, even if calls of the port are left.
-///
-/// The buses that `new` and `over` return are for real chips, and may have chips of further types. A contract sees no
-/// such bus as well-behaved, although it sends the same bytes.
+/// Over a well-behaved port, the bus that `emulated` returns is well-behaved and unlimited, but not punctual. Its chip
+/// is the programmer's, with the write enable latch set while a write enable waits and the chip is idle. The buses that
+/// `new` and `over` return may have chips of further rows, so for contracts these buses are not well-behaved.
 #[derive(Drop)]
 pub struct BatchingBus<P: Port + Drop> {
     batch: Batch<P>,
@@ -68,9 +57,8 @@ impl<P: Port + Drop> BatchingBus<P> {
         BatchingBus::over(link, *programmer.reported())
     }
 
-    /// Returns a bus over a link whose programmer was identified (`AnyProgrammer::identify`). The bus rejects each
-    /// transaction that reads more than the programmer can, but sends up to 260 bytes, even if the programmer's limit
-    /// is lower. Wrap it in a `SplittingBus`, which splits longer transactions.
+    /// Returns a bus over a link whose programmer was identified (`AnyProgrammer::identify`). The bus sends up to 260
+    /// bytes even if the programmer's limit is lower, so wrap it in a `SplittingBus` (nor_buses).
     pub fn over(link: Link<P>, programmer: AnyProgrammer) -> BatchingBus<P>
         ensures link { link_of result ≡ link }
         ensures empty { waits_of result ≡ false }
@@ -89,9 +77,9 @@ impl<P: Port + Drop> BatchingBus<P> {
         }
     }
 
-    /// Returns a bus as `over` does, except that its chip is of no further type, as a chip of the model. The link must
-    /// be in step. If the port is well-behaved, the programmer must be idle, and `programmer` must not report a longer
-    /// serial buffer than it has; `AnyProgrammer::identify` returns what it reports.
+    /// Returns a bus as `over` does, but for a chip of the model (`has_further_types` is false). The link must be in
+    /// step. Over a well-behaved port, the programmer must be idle, with at least the serial buffer that `programmer`
+    /// reports.
     pub fn emulated(link: Link<P>, programmer: AnyProgrammer) -> BatchingBus<P>
         requires in_step { is_in_step link ≡ true }
         requires idle { (P.state (port_of link)).honest ≡ true → IsIdle (P.state (port_of link)).device }
@@ -127,16 +115,15 @@ impl<P: Port + Drop> BatchingBus<P> {
         self.batch.link().port()
     }
 
-    /// Returns the cause of the last transaction or `flush` that failed. If a transaction is rejected because an
-    /// earlier one failed, the cause of the earlier one stays.
+    /// Returns the cause of the last transaction or `flush` that failed, if any. A transaction that is rejected because
+    /// the link is out of step leaves the cause as it is.
     pub fn cause(&self) -> Option<&Failure<P::Cause>>
         ensures { option_copied result ≡ cause_of self.now }
     {
         self.cause.as_ref()
     }
 
-    /// Sends the write enable that waits, and reads its ACK. Returns `Stopped` if the exchange failed. The history does
-    /// not change, even then.
+    /// Sends the write enable, if it waits, and reads its ACK. Returns `Stopped` if the exchange failed.
     pub fn flush(&mut self) -> Result<(), Stopped>
         ensures history { history_of self.new ≡ history_of self.old }
         ensures sent { sent_of self.new ≡ sent_of self.old }
@@ -155,8 +142,7 @@ impl<P: Port + Drop> BatchingBus<P> {
         }
     }
 
-    /// Synchronizes the programmer after a transaction failed, as `Link::synchronize` does. If the link is in step
-    /// already, nothing is sent. The history of the bus does not change.
+    /// Synchronizes the programmer, as `Link::synchronize` does, or sends nothing if the link is in step.
     pub fn synchronize(&mut self) -> Result<(), Failure<P::Cause>>
         ensures history { history_of self.new ≡ history_of self.old }
         ensures sent { sent_of self.new ≡ sent_of self.old }

@@ -7,8 +7,7 @@ ghost use Rattle.nor_serprog.specs.declared.command.Answer.TheVariants as Answer
 use arrayvec::ArrayVec;
 use thiserror::Error;
 
-/// The greatest number of bytes that an O_SPIOP of this crate sends to the chip: an opcode, three address bytes and a
-/// page.
+/// The greatest number of bytes that an O_SPIOP of this crate sends: an opcode, three address bytes and a page.
 pub const LONGEST_OUT: usize = 260;
 
 // The length of the header of an O_SPIOP frame: its opcode and two 24-bit lengths.
@@ -22,7 +21,7 @@ const REPLIES_END: u32 = 1 << 24;
 pub type Frame = ArrayVec<u8, LONGEST_FRAME>;
 
 /// A command of the serprog protocol, version 1 (flashrom's Documentation/serprog-protocol.txt). The commands for
-/// parallel chips, and those after 16h, are left out.
+/// parallel chips, and those after 16h, are left out. The given lengths of replies don't count the ACK.
 #[derive(Clone, Copy, Debug, PartialEq, Eq)]
 pub enum Command<'a> {
     /// 00h, NOP: has no effect.
@@ -55,15 +54,14 @@ pub enum Command<'a> {
     SelectChip(u8),
 }
 
-/// The error for a command that does not fit into a frame: it sends more than 260 bytes to the chip, or reads 2^24
-/// bytes or more.
+/// The error for a command that does not fit into a frame, because it sends or reads too many bytes.
 #[derive(Clone, Copy, Debug, PartialEq, Eq, Error)]
 #[error("a transaction that sends more than 260 bytes or reads 16777216 or more does not fit into a serprog frame")]
 pub struct TooLong;
 
 impl Command<'_> {
     /// Returns the frame of the command, or `TooLong`, which only `Operate` can cause. A programmer reads exactly this
-    /// command from the frame, and no longer frame begins with it.
+    /// command from the frame, and no longer frame begins with this frame.
     pub fn encode(self) -> Result<Frame, TooLong>
         ensures fits { IsOk result ↔ FitsFrame self.entry }
         ensures exact { IfOk result (λ frame. frame.items ≡ frame_of self.entry) }
@@ -125,11 +123,8 @@ fn operation(out: &[u8], replies: u32) -> Result<Frame, TooLong>
     Ok(frame)
 }
 
-/// Returns the length of the frame that begins with the bytes `begun`, as a programmer computes it, or `None` if more
-/// bytes are needed to determine it. Further bytes never change a length that is known.
-///
-/// The function knows the commands 00h to 16h, including those for parallel chips. It treats any other opcode as a
-/// command without arguments.
+/// Returns the length of the frame that begins with the bytes `begun`, or `None` if more bytes are needed to determine
+/// this length. An opcode after 16h counts as a command without arguments.
 pub fn frame_len(begun: &[u8]) -> Option<usize>
     ensures value { result ≡ frame_len_of begun.now }
     ensures known { (more : List ℕ) → IsSome result → frame_len_of (begun.now ++ more) ≡ result }
@@ -162,7 +157,7 @@ fn arguments_len(opcode: u8) -> usize
 pub enum Answer {
     /// 06h, ACK: the command was carried out, and the bytes that it returns follow.
     Ack,
-    /// 15h, NAK: the command was refused, and nothing follows. The reply to SYNCNOP is NAK and then ACK.
+    /// 15h, NAK: the command was refused, and nothing follows, except after SYNCNOP, whose reply is NAK and then ACK.
     Nak,
     /// Any other byte, which begins no valid reply.
     Other(u8),

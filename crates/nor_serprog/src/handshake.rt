@@ -131,7 +131,6 @@ pub(crate) fn require_version<P: Port + Drop>(
     Ok(())
 }
 
-// Returns the map of the programmer's commands, or the error `Lacks` if the map lacks O_SPIOP.
 pub(crate) fn query_commands<P: Port + Drop>(
     link: &mut Link<P>,
 ) -> Result<Map, HandshakeFault<P::Cause>>
@@ -183,7 +182,6 @@ fn query_buses<P: Port + Drop>(
     }
 }
 
-// Returns whether a programmer with the types of bus `buses` can be set to SPI. `selects` says that it has S_BUSTYPE.
 fn can_select_spi(buses: u8, selects: bool) -> bool
     ensures { result ≡ (not (bit_and buses 8 == 0) && (buses == 8 || selects)) }
 {
@@ -230,7 +228,6 @@ pub(crate) fn query_read_limit<P: Port + Drop>(
     Ok(limit)
 }
 
-// Returns the limit that was reported: 2^24 if the programmer replied 0, or lacks the query (`None`).
 fn limit_of(reply: Option<[u8; 3]>) -> u32
     ensures { (offered : Bool) (limit : ℕ) → limit < 16777216
         → reply ≡ (if offered then Some (three_of limit) else None) → result ≡ limit_in offered limit }
@@ -247,8 +244,7 @@ fn limit_of(reply: Option<[u8; 3]>) -> u32
 }
 
 // Returns the size of the serial buffer, or 0 if the programmer lacks Q_SERBUF. Returns the error `SmallBuffer` if the
-// programmer has Q_SERBUF but lacks Q_WRNMAXLEN, and a frame of `least` bytes does not fit into the buffer. A
-// programmer that has Q_WRNMAXLEN accepts a frame of the length that it allows, whatever the size of its buffer.
+// programmer has Q_SERBUF but lacks Q_WRNMAXLEN, and the size is less than `least`.
 pub(crate) fn query_buffer<P: Port + Drop>(
     link: &mut Link<P>,
     commands: &Map,

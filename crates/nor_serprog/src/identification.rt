@@ -24,17 +24,14 @@ const S_PIN_STATE: u8 = 0x15;
 
 const S_SPI_CS: u8 = 0x16;
 
-// The length of a frame of O_SPIOP without the bytes that are sent to the chip.
 const HEADER_LEN: u32 = 7;
 
 // The number of bytes that the shortest part of a program sends: an opcode, three address bytes and one data byte.
 const SHORTEST_PART: u32 = 5;
 
 impl AnyProgrammer {
-    /// Identifies the programmer on a new link, and prepares it for SPI, with the steps and results of
-    /// `Programmer::identify`, but for lower limits: a transaction must be able to send 5 bytes and read 1 byte.
-    /// Without Q_WRNMAXLEN, 12 bytes must fit into the serial buffer (Q_SERBUF). The error that the firmware causes is
-    /// `narrow_fault`.
+    /// Identifies the programmer on a new link as `Programmer::identify` does, but with lower limits: a transaction
+    /// must be able to send 5 bytes and read 1 byte, and the serial buffer, if it is checked, must hold 12 bytes.
     pub fn identify<P: Port + Drop>(
         link: &mut Link<P>,
         hertz: Option<u32>,
@@ -54,13 +51,11 @@ impl AnyProgrammer {
         identify_for(link, hertz, least)
     }
 
-    /// Makes the programmer use the chip select with this number (S_SPI_CS, 16h) for all transactions from now on.
-    /// `link` must be the one to this programmer.
+    /// Makes the programmer use the chip select `number` (S_SPI_CS, 16h) for all later transactions. `link` must be the
+    /// link to this programmer. Returns `Failure` if the exchange failed, which contains `Refused` after NAK.
     ///
-    /// Returns `Lacks` if the programmer lacks the command; nothing is sent then, because the programmer would treat
-    /// the number as a command. Returns a `Failure` if the exchange failed, which is `Refused` if there is no such chip
-    /// select. If the link is in step, over a well-behaved port to an idle programmer, other errors occur only if fewer
-    /// than three calls were left.
+    /// Returns `Lacks`, and sends nothing, if the programmer lacks the command, because such a programmer would treat
+    /// the number as a command.
     pub fn select_chip<P: Port + Drop>(
         &self,
         link: &mut Link<P>,
@@ -85,26 +80,22 @@ impl AnyProgrammer {
 impl Programmer {
     ghost use Rattle.nor_serprog.specs.Programmer.{has_chip_selects};
 
-    /// Identifies the programmer on a new link, and prepares it for SPI transactions. No transaction is sent, so the
-    /// chip is not selected. The steps (flashrom's Documentation/serprog-protocol.txt):
+    /// Identifies the programmer on a new link, and prepares it for SPI without selecting the chip. The steps
+    /// (flashrom's Documentation/serprog-protocol.txt):
     ///
-    /// - synchronize
-    /// - require version 1 of the protocol (Q_IFACE), and the command O_SPIOP (Q_CMDMAP)
-    /// - require that the programmer supports SPI (Q_BUSTYPE), and select it (S_BUSTYPE); without S_BUSTYPE, require
-    ///   that SPI is its only type of bus
+    /// - synchronize, and require version 1 of the protocol (Q_IFACE) and the command O_SPIOP (Q_CMDMAP)
+    /// - require SPI (Q_BUSTYPE), and select it (S_BUSTYPE); without S_BUSTYPE, SPI must be the only type of bus
     /// - require that a transaction may send 260 bytes (Q_WRNMAXLEN) and read 4,096 bytes (Q_RDNMAXLEN)
-    /// - without Q_WRNMAXLEN, require that 267 bytes fit into the serial buffer (Q_SERBUF)
-    /// - read the name (Q_PGMNAME)
-    /// - if `hertz` is given, request a clock of at most that frequency (S_SPI_FREQ)
-    /// - switch the pin drivers on (S_PIN_STATE)
+    /// - with Q_SERBUF but without Q_WRNMAXLEN, require that 267 bytes fit into the serial buffer
+    /// - read the name (Q_PGMNAME), request a clock of at most `hertz`, if given (S_SPI_FREQ), and switch the pin
+    ///   drivers on (S_PIN_STATE)
     ///
-    /// After the first two steps, a command that is not in the programmer's map is not sent, and its step is skipped,
-    /// except that a clock requested without S_SPI_FREQ is an error.
+    /// After the first step, a command that is not in the programmer's map is not sent, and the part of a step that
+    /// needs this command is skipped. A clock that is requested without S_SPI_FREQ is an error.
     ///
-    /// If the port is well-behaved, the programmer is idle and the link is not `Sync::Cut`, the firmware determines the
-    /// result, unless the port fails because fewer than 58 calls were left. The error that the firmware causes is that
-    /// of the first step that fails (`identify_fault`). After `Ok` the programmer is then idle again, its chip is as it
-    /// was, and the settings are `prepared_settings`.
+    /// Over a well-behaved port to an idle programmer, and unless the link is `Sync::Cut`, the call fails only with the
+    /// first error that the firmware causes (`identify_fault`), or because fewer than 58 calls of the port were left.
+    /// After `Ok` the programmer is idle.
     pub fn identify<P: Port + Drop>(
         link: &mut Link<P>,
         hertz: Option<u32>,
@@ -182,8 +173,6 @@ fn identify_for<P: Port + Drop>(
     })
 }
 
-// Returns the greatest number of bytes that a transaction may send. Without Q_WRNMAXLEN its frame must also fit into
-// the serial buffer (Q_SERBUF).
 fn part_limit(commands: &Map, longest_write: u32, serial_buffer: u16) -> u32
     requires { 5 ≤ longest_write }
     ensures value { result ≡ part_limit_of commands.now longest_write serial_buffer }

@@ -1,18 +1,12 @@
-//! Buses to a SPI NOR chip that is connected to a serial programmer. They speak the serprog protocol, version 1, over
-//! any port. The program `flashnor_serprog` uses this crate; the program `flashnor` does not.
+//! Buses to a SPI NOR chip at a serial programmer that speaks serprog, version 1, over any port. The program
+//! `flashnor-serprog` uses this crate; the program `flashnor` does not.
 //!
 //! - `command.rt`: commands as bytes (frames), and the first byte of a reply
-//! - `port.rt`: the contract of a port to a programmer
-//! - `wire.rt`: the record of what a port was asked to send, for contracts only
-//! - `link.rt`: exchanges of a frame and its reply, and synchronization
-//! - `skipping.rt`: skips what is received before a wanted reply
-//! - `handshake.rt`: the steps of the handshake
-//! - `identification.rt`: identifies a programmer and prepares it for SPI
-//! - `programmer.rt`: the replies of a programmer to its identification, and the reasons why a programmer cannot be
-//!   used
+//! - `port.rt`, `wire.rt`: the contract of a port to a programmer, and the record of its calls, for contracts only
+//! - `link.rt`, `skipping.rt`: exchanges of a frame and its reply, and synchronization
+//! - `identification.rt`, `handshake.rt`, `programmer.rt`: identification of a programmer, its steps and results
 //! - `bus.rt`: a bus that carries out each transaction with one O_SPIOP
-//! - `batch.rt`: a write enable that waits, to be sent together with the next command
-//! - `batching.rt`: a bus that sends a write enable together with the command that it enables
+//! - `batching.rt`, `batch.rt`: a bus that sends a write enable together with the page program that it enables
 #![tactic(auto)]
 
 mod batch;

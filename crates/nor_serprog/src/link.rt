@@ -14,32 +14,28 @@ use crate::skipping::{ROW_ANSWERS_LEN, skip_past};
 use crate::{Answer, Command, Frame, Port};
 use thiserror::Error;
 
-/// Why an exchange with a programmer failed. `C` is the type for the cause of a failure of the port.
+/// The reason why an exchange or `Link::synchronize` failed. `C` is the type for the cause of a failure of the port.
 #[derive(Debug, Drop, Error)]
 #[error_bound(C: std::fmt::Display)]
 pub enum Failure<C> {
-    /// The port failed.
     #[error("the port failed: {0}")]
     Port(C),
     /// The programmer replied NAK (15h) to the command with this opcode.
     #[error("the programmer refused command {0:02X}h")]
     Refused(u8),
-    /// The reply began with this byte, which is neither ACK (06h) nor NAK (15h).
     #[error("the programmer answered {0:02X}h, which is neither ACK nor NAK")]
     Strange(u8),
     /// The transaction sends more than 260 bytes, or reads 2^24 bytes or more, or more than the programmer can return.
     /// Nothing was sent, and the link is as it was.
     #[error("a transaction of this length does not fit into one serprog frame")]
     TooLong,
-    /// Nothing was sent, because the link isn't synchronized: it is new, or an earlier exchange or `synchronize`
-    /// failed.
+    /// Nothing was sent, because the link is new, or an earlier exchange or `synchronize` failed.
     #[error("an earlier exchange with the programmer failed, and it was not synchronized since")]
     OutOfStep,
-    /// Nothing was sent, because a frame may have been sent only in part: any further byte could complete it.
+    /// Nothing was sent, because a frame may have been sent only in part: any further byte could complete this frame.
     #[error("a frame may have been cut off: disconnect the programmer from power before it is used again")]
     CutFrame,
-    /// 65,536 bytes were received without the expected reply: the reply to the first NOP, or the replies to the
-    /// sequence of NOP and SYNCNOP that follows.
+    /// An expected reply of `synchronize` was not among the next 65,536 bytes.
     #[error("the programmer gave a wrong reply to SYNCNOP")]
     NoSync,
 }
@@ -47,13 +43,11 @@ pub enum Failure<C> {
 /// Whether the replies of a programmer can be matched to the frames that were sent.
 #[derive(Clone, Copy, Debug, PartialEq, Eq)]
 pub enum Sync {
-    /// Since `synchronize` returned `Ok`, each call that sent frames received ACK for each of them, and as many reply
-    /// bytes as its caller requested.
+    /// Since `synchronize` returned `Ok`, each frame received ACK, and each requested reply byte was received.
     InStep,
-    /// The link isn't synchronized: it is new, `synchronize` failed, or an exchange failed after its whole frame was
-    /// sent, so that bytes of the reply may still arrive.
+    /// The link is new, `synchronize` failed (not with `CutFrame`), or an exchange failed after its frames were sent.
     Lost,
-    /// A frame may have been sent only in part, so the programmer may treat the next bytes as the rest of it.
+    /// A frame may have been sent only in part, so the programmer may treat the next bytes as the rest of this frame.
     Cut,
 }
 
@@ -66,10 +60,9 @@ pub struct Link<P: Port + Drop> {
 
 const O_SPIOP: u8 = 0x13;
 
-// The sequence of SYNCNOP (10h) and NOP (00h) that `synchronize` sends. These commands have no effect, and
-// `synchronize` recognizes their replies. The sequence begins with nine zeros, because the frame of a status write
-// (01h) has ten bytes. If the programmer still waits for the rest of such a frame, it receives zeros only, and these
-// set no one-time bit.
+// The sequence of SYNCNOP (10h) and NOP (00h) that `synchronize` sends. It begins with nine zeros, because the frame of
+// a status write (01h) has ten bytes: a programmer that still waits for the rest of such a frame receives only zeros,
+// which set no one-time bit.
 const ROW: [u8; 19] = [
     0x00, 0x00, 0x00, 0x00, 0x00, 0x00, 0x00, 0x00, 0x00, 0x10, 0x10, 0x00, 0x10, 0x00, 0x00, 0x10,
     0x10, 0x10, 0x00,
@@ -82,7 +75,7 @@ const ROW_ANSWERS: [u8; ROW_ANSWERS_LEN] = [
 ];
 
 impl<P: Port + Drop> Link<P> {
-    /// Returns a link over this port. It is not synchronized yet.
+    /// Returns a link over this port, which is not synchronized yet.
     pub fn new(port: P) -> Link<P>
         ensures port { port_of result ≡ port }
         ensures lost { is_in_step result ≡ false }
@@ -108,17 +101,12 @@ impl<P: Port + Drop> Link<P> {
         self.sync
     }
 
-    /// Sends the frame of a command, and reads the reply: ACK, and then exactly as many bytes as `reply` holds.
-    ///
-    /// If the link was out of step, the call returns `OutOfStep` or `CutFrame` and does not use the port. Otherwise
-    /// returns `TooLong` if the command does not fit into one frame; then nothing was sent, and the link is as it was.
-    /// After any other error no exchange sends anything until `synchronize` returns `Ok`.
+    /// Sends the frame of `command`, and reads the reply: ACK, and then exactly as many bytes as `reply` holds. Sends
+    /// nothing and returns `OutOfStep` or `CutFrame` if the link was out of step, or `TooLong` if the command does not
+    /// fit into one frame. After any other error no exchange sends anything until `synchronize` returns `Ok`.
     ///
     /// If the port is well-behaved, the link is in step and the programmer is idle, the firmware determines the reply
-    /// to each command except O_SPIOP and SYNCNOP. A command with arguments must be in the programmer's map. If the
-    /// firmware replies ACK and as many bytes as `reply` holds, the call fills `reply` with these bytes. If the
-    /// firmware replies NAK, the call returns `Refused`. In both cases the only other error is a failure of the port
-    /// because fewer than three calls were left (`EndsExchange`).
+    /// to each command except O_SPIOP, SYNCNOP and a command with arguments that the programmer lacks (`EndsExchange`).
     pub fn exchange(
         &mut self,
         command: Command<'_>,
@@ -156,8 +144,7 @@ impl<P: Port + Drop> Link<P> {
         }
     }
 
-    /// Returns the error for a command that is too long to be sent. That is `TooLong` if the link is in step, and
-    /// otherwise `OutOfStep` or `CutFrame`.
+    /// Returns `TooLong` if the link is in step, and otherwise `OutOfStep` or `CutFrame`.
     pub(crate) fn rejection(&self) -> Failure<P::Cause> {
         match self.sync {
             Sync::InStep => Failure::TooLong,
@@ -202,17 +189,10 @@ impl<P: Port + Drop> Link<P> {
         Ok(())
     }
 
-    /// Sends `frames`, the frames of one O_SPIOP or of two, with one call of the port, and then reads their replies: an
-    /// ACK for each frame, and after the last ACK as many bytes as `reply` holds. `is_led` says that there are two
-    /// frames; the first of them requests no reply bytes.
-    ///
-    /// If the link was out of step, the call returns `OutOfStep` or `CutFrame` and does not use the port. The call
-    /// returns `Ok` only after it received ACK for each frame. After any other error the programmer may have carried
-    /// out any of the frames. After each error no exchange sends anything until `synchronize` returns `Ok`.
-    ///
-    /// If the port is well-behaved and the programmer is idle, success means that the chip carried out the write enable
-    /// and the O_SPIOP after it (`ExchangedBatch`), and after an error one of them was cut (`InterruptedBatch`). Two
-    /// frames must fit into the serial buffer.
+    /// Sends `frames` with one call of the port: the frame of one O_SPIOP or, if `is_led`, of two, the first of which
+    /// requests no reply bytes. Then reads an ACK for each frame, and after the last ACK as many bytes as `reply`
+    /// holds. Returns `OutOfStep` or `CutFrame`, and sends nothing, if the link was out of step. After any error no
+    /// exchange sends anything until `synchronize` returns `Ok`.
     pub(crate) fn exchange_batch(
         &mut self,
         frames: &[u8],
@@ -249,22 +229,17 @@ impl<P: Port + Drop> Link<P> {
         Ok(())
     }
 
-    /// Synchronizes the link, so that each later reply is matched to the frame that it belongs to. Sends one NOP, and
-    /// skips all received bytes up to its reply, ACK. Then sends a fixed sequence of NOP and SYNCNOP, and skips all
-    /// bytes up to the replies to this sequence (serprog protocol, flashrom's Documentation/serprog-protocol.txt, 00h
-    /// and 10h).
+    /// Synchronizes the link, so that each later reply is matched to the frame that it belongs to (flashrom's
+    /// Documentation/serprog-protocol.txt, 00h and 10h). Sends one NOP, and skips all received bytes up to the first
+    /// ACK. Then sends a fixed sequence of NOP and SYNCNOP, and skips all bytes up to the replies to this sequence.
     ///
-    /// Returns `CutFrame`, and does not use the port, if a frame may have been sent only in part: further bytes could
-    /// complete the frame, and the chip would carry out a command that was never intended. The link can't know about a
-    /// frame that another run sent in part. A programmer that waits for the rest of such a frame does not reply to the
-    /// NOP, so it receives this one byte of the frame, and nothing more until it is synchronized again. Disconnect it
-    /// from power first.
+    /// Returns `CutFrame`, and sends nothing, if a frame may have been sent only in part, because further bytes could
+    /// complete this frame. The link cannot know about a frame that another run sent in part: in that case, disconnect
+    /// the programmer from power first. Returns `Port` if the port fails, or `NoSync` if no ACK is among the next
+    /// 65,536 bytes, or the replies to the sequence are not among the 65,536 bytes after the ACK.
     ///
     /// If the link is not `Sync::Cut`, the port is well-behaved and the programmer is idle, the call fails only if
-    /// fewer than 28 calls of the port were left. The chip is not selected.
-    ///
-    /// Returns `Port` if the port fails. Returns `NoSync` if the reply to the first NOP isn't among the next 65,536
-    /// bytes, or the replies to the sequence aren't among the 65,536 bytes after it.
+    /// fewer than 28 calls of the port were left.
     pub fn synchronize(&mut self) -> Result<(), Failure<P::Cause>>
         ensures nature { (P.state (port_of self.new)).honest ≡ (P.state (port_of self.old)).honest }
         ensures asked { AsksSync (P.state (port_of self.old)).asked (P.state (port_of self.new)).asked }
@@ -283,8 +258,7 @@ impl<P: Port + Drop> Link<P> {
             return Err(Failure::CutFrame);
         }
         self.sync = Sync::Lost;
-        // Only this byte is sent before a reply is received. If the programmer is waiting for the rest of a frame, it
-        // treats the byte as part of that frame. A zero is the byte that does least harm there.
+        // A programmer that waits for the rest of a frame takes this byte as part of it. A zero does least harm there.
         send_all(&mut self.port, &[0x00])?;
         skip_past(&mut self.port, &[0x06])?;
         send_all(&mut self.port, &ROW)?;
@@ -316,7 +290,6 @@ fn send<P: Port>(port: &mut P, frame: &Frame) -> Result<(), Failure<P::Cause>>
     port.send(frame).map_err(Failure::Port)
 }
 
-// Sends `bytes` with one call of the port.
 fn send_all<P: Port>(port: &mut P, bytes: &[u8]) -> Result<(), Failure<P::Cause>>
     ensures nature { (P.state port.new).honest ≡ (P.state port.old).honest }
     ensures asked { (P.state port.new).asked ≡ bytes.now ∷ (P.state port.old).asked }
@@ -333,8 +306,6 @@ fn send_all<P: Port>(port: &mut P, bytes: &[u8]) -> Result<(), Failure<P::Cause>
     port.send(bytes).map_err(Failure::Port)
 }
 
-// Receives the reply to the command with the opcode `opcode`: ACK, and then as many bytes as `reply` holds. Returns
-// `Refused` after NAK, and `Strange` after any other first byte.
 fn receive_answer<P: Port>(
     port: &mut P,
     opcode: u8,
@@ -363,8 +334,7 @@ fn receive_answer<P: Port>(
     }
 }
 
-// Receives the reply to a frame of O_SPIOP that requests no reply bytes, if there is such a frame (`is_led`). Returns
-// `Ok` only if the reply is ACK.
+// Receives the ACK for the first of two frames, if there are two (`is_led`).
 fn receive_acks<P: Port>(port: &mut P, is_led: bool) -> Result<(), Failure<P::Cause>>
     ensures nature { (P.state port.new).honest ≡ (P.state port.old).honest }
     ensures unasked { (P.state port.new).asked ≡ (P.state port.old).asked }

@@ -8,7 +8,6 @@ use crate::{Failure, Port};
 /// The length of the longest reply that is searched for, which is the reply to the sequence of `Link::synchronize`.
 pub(crate) const ROW_ANSWERS_LEN: usize = 25;
 
-// The greatest number of bytes that a search receives.
 const MOST_STALE: u32 = 1 << 16;
 
 /// Receives bytes until the last ones are `wanted`. Returns `NoSync` if they aren't after 65,536 bytes.

@@ -3,8 +3,7 @@ ghost use Rattle.std.specs.Prelude.{◌≡◌, ◌∷◌, ◌++◌, []};
 
 use nor_model::History;
 
-/// The bytes that each call of a port was asked to send, and the bytes that its calls received. A port has one `Wire`,
-/// to which it adds the bytes of each call; it takes no memory.
+/// The record of what each call of a port was asked to send, and of the bytes that were received. It takes no memory.
 #[derive(Drop)]
 pub struct Wire {
     sent: History,

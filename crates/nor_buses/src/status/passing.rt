@@ -14,9 +14,8 @@ use nor_model::{Bus, Stopped, is_changing};
 impl<B: Bus + Drop> CheckedStatus<B> {
     ghost use Rattle.nor_buses.specs.Checked.{history_of, inner_state, known_of, locks_of};
 
-    // Makes a transaction that is no status write, and no poll or read of status 2 with one reply byte. A read of the
-    // ID (9Fh alone, with three reply bytes) must return the known ID. After a read of data, SFDP or the unique ID, the
-    // ID is read.
+    // Makes a transaction that is no status write and no checked read of a status register. A read of the ID (9Fh with
+    // three reply bytes) must return the known ID. After a read of data, SFDP or the unique ID, the ID is read.
     pub(super) fn pass_on(&mut self, out: &[u8], reply: &mut [u8]) -> Result<(), Stopped>
         ensures history { history_of self.new ≡ history_of self.old }
         ensures locks { locks_of self.new ≡ locks_of self.old }

@@ -39,8 +39,7 @@ impl<B: Bus + Drop> CheckedStatus<B> {
         Stopped
     }
 
-    // Reads the ID, and stops if it differs from the known ID. If no ID is known, the ID that was read is known from
-    // then on.
+    // Reads the ID, and stops if it differs from the known ID. The first ID that is read becomes the known ID.
     pub(super) fn read_id(&mut self) -> Result<[u8; 3], Stopped>
         ensures history { history_of self.new ≡ history_of self.old }
         ensures status { KeepsStatus (known_of self.old) (known_of self.new) }
@@ -69,7 +68,7 @@ impl<B: Bus + Drop> CheckedStatus<B> {
         Ok(found)
     }
 
-    // Stops because two replies differ. Reads the ID first, because the chip may be lost.
+    // Stops because two replies differ. Reads the ID first, so that a lost chip is recorded as `Lost`, not `Differs`.
     fn differ(&mut self) -> Stopped
         ensures history { history_of self.new ≡ history_of self.old }
         ensures status { KeepsStatus (known_of self.old) (known_of self.new) }
@@ -88,8 +87,8 @@ impl<B: Bus + Drop> CheckedStatus<B> {
         }
     }
 
-    // Polls once, with two reply bytes. Returns a byte that shows BUSY, if there is one. Otherwise returns the first
-    // byte, and stops if the two bytes differ.
+    // Polls once, with two reply bytes. Returns a byte that shows BUSY, if there is one. Otherwise stops if the two
+    // bytes differ, and returns their value if they are equal.
     pub(super) fn poll_once(&mut self) -> Result<u8, Stopped>
         ensures history { history_of self.new ≡ history_of self.old }
         ensures status { KeepsStatus (known_of self.old) (known_of self.new) }
@@ -122,8 +121,7 @@ impl<B: Bus + Drop> CheckedStatus<B> {
     }
 
     // Polls once, and returns the status if it shows BUSY. Otherwise reads the ID, polls again, and reads the ID again.
-    // Stops if any reply bytes of the polls differ. If the second poll shows BUSY, stops without a read of the ID: a
-    // busy chip would ignore this read, so it would count as lost.
+    // Stops if the polls differ. After a second poll that shows BUSY no ID is read, because a busy chip ignores 9Fh.
     pub(super) fn poll_twice(&mut self) -> Result<u8, Stopped>
         ensures history { history_of self.new ≡ history_of self.old }
         ensures status { KeepsStatus (known_of self.old) (known_of self.new) }

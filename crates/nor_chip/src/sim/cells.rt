@@ -16,8 +16,7 @@ fn clear_bits(bytes: &mut [u8], from: usize, sent: &[u8])
     }
 }
 
-// Programs the bytes of `sent` into one page. Only the last byte sent for each index counts, so all but the last 256
-// bytes are skipped.
+// Programs `sent` into the page that contains `at`. Only the last 256 bytes of `sent` count, so all others are skipped.
 pub(crate) fn program(bytes: &mut [u8], at: usize, sent: &[u8])
     requires { at / 256 * 256 + 256 ≤ length bytes.old }
     ensures { HasPageProgrammed at sent.now bytes.old bytes.new }

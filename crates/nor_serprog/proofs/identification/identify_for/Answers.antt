@@ -7,8 +7,6 @@ use Rattle.nor_serprog.proofs.Handshaken.{Starts, HasReached, unchanged, after_b
 use Rattle.nor_serprog.proofs.identification.identify_for.Goals.{After-require_version, After-query_commands, After-require_spi, After-set, After-query_write_limit, After-query_read_limit, After-query_buffer, After-query_name, After-set_frequency, After-set-2}
 use Rattle.nor_serprog.proofs.identification.identify_for.Goals as goal
 
--- ---- the handshake before each of its steps
-
 at_version : (g : _) (c : After-require_version g) → Starts g.P.Port.state c.args.link.now
     → HasReached g.P.Port.state c.args.link.now c.args.hertz c.args.least 28 0 unchanged (g.P.Port.state c.args.link.now.port).device.firmware.commands
     c.synchronize.new.link
@@ -81,8 +79,6 @@ at_pins g c start =
     goes unchanged 8 c.set_frequency.new.link s (c.in_ok-frequency.ensures.concludes _ s.ready s.map)
     (c.in_ok-frequency.ensures.in_step s.ready.in_step) s.map refl
 
--- ---- a step fails
-
 pub returns-in_err-require_version-clause-identifies : goal.returns-in_err-require_version-clause-identifies
 returns-in_err-require_version-clause-identifies g c awaits whole =
     let s = at_version g (goal.at.returns-in_err-require_version-clause-identifies g c).After-require_version (awaits, whole) in
@@ -144,8 +140,6 @@ returns-in_err-set-2-clause-identifies g c awaits whole =
     let takes = (g.P.Port.state c.args.link.now.port).device.firmware.takes_pins true in
     returns_error c.from_residual-in_err-set-2.result c.from_residual-in_err-set-2.ensures.1
     (fails_at after_pins 9 s (c.in_err-set-2.ensures.concludes _ takes s.ready s.map (λ h. h) refl refl) (omega arith) refl)
-
--- ---- all steps succeed
 
 pub returns-clause-identifies : goal.returns-clause-identifies
 returns-clause-identifies g c awaits whole =

@@ -8,8 +8,6 @@ on_ok : {T E : Type 0} (r : Result T E) (P : Type 0) → P → OnOk r P
 on_ok (Ok done) P holds = holds
 on_ok (Err stop) P holds = tt
 
--- If a transaction is neither a poll, nor a read of status 2, nor a status write, the fields of `BelievesStatus` about
--- these three hold trivially.
 pub returns-in_default-clause-believes : goal.returns-in_default-clause-believes
 returns-in_default-clause-believes g c = on_ok c.pass_on.result _ record {
   poll = λ is len ready. record {

@@ -23,8 +23,6 @@ returns-in_err-skip_past-clause-synchronized g c awaits whole =
     (row_missed (Nop ∷ []) _ _ 1 _ old (g.P.Port.state c.send_all.new.port) new first_row awaits
     c.send_all.ensures.nature (c.in_ok-send_all.ensures.sent awaits.honest) c.in_err-skip_past.ensures.skips))
 
--- If the first NOP was sent to an idle programmer and its reply was received, the programmer is idle again after two
--- calls.
 first : (g : _) (c : After-send_all-2 g) → AwaitsCommand (g.P.Port.state c.args.self.now.port)
     → OnlyAsks 2 (g.P.Port.state c.args.self.now.port) (g.P.Port.state c.skip_past.new.port)
 first g c awaits =
