@@ -1,4 +1,3 @@
--- The contents that a host crash may leave of a file after a change.
 use Rattle.std.proofs.Common.{◌≡◌, ◌∙◌, ◌≤◌, ◌⊎◌, ℕ, List, Some, Result, Ok, refl, sym, ap, subst, arith, length, take}
 use Rattle.std.proofs.Common.{option_map}
 use Rattle.std.proofs.lemmas.List.{take_all}

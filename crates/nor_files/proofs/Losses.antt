@@ -1,4 +1,3 @@
--- The files in memory that an interruption leaves.
 use Rattle.std.proofs.Common.{◌≡◌, ◌∙◌, ◌<◌, ℕ, suc, false, List, [], ◌∷◌, ◌++◌, Option, refl, ap, inl, inr, arith}
 use Rattle.std.proofs.Common.{drop, get_or, is_some, length, take}
 use Rattle.std.proofs.lemmas.List.{take_at}
@@ -38,8 +37,7 @@ all_lost (was ∷ old) (now ∷ new) name many each =
     let later = all_lost old new name (omega (arith, many)) (λ k d within. each (suc k) d (omega (arith, within))) in
     grind arith
 
--- Holds if an interruption of the files `old` may leave the files `new`: a read returns what a host crash might have
--- left, and a later host crash can leave nothing else.
+-- Holds if `new` is what an interruption may leave of `old`, and a later host crash can leave nothing else.
 pub record AreLeft (old new : List Stored) (left : ℕ) (borrowed : Option Name) : Type 0 where
   pub at_rest : AreAtRest (files_state new left borrowed)
   pub allowed : (name : Name) → MayLeave (file_named old name) (file_named new name).seen

@@ -1,4 +1,4 @@
--- Two names are apart if a read, a host crash or a borrowed vault or log distinguishes them.
+-- On lawful files, `one` and `other` are apart if a read, a host crash or a borrowed vault or log distinguishes them.
 use Rattle.std.proofs.Common.{◌≡◌, Bool, true, false, inl, refl, sym}
 use Rattle.nor_files.specs.Files.{AreApart, FilesState, Name, is_lawful}
 use Rattle.nor_files.specs.OneFile.{AreOneFile, NamesAreOfOne}

@@ -1,4 +1,3 @@
--- Lemmas about the entries for files in a list, which are found by their names.
 use Rattle.std.proofs.Common.{◌≡◌, ◌≢◌, ◌∙◌, ◌+◌, ◌<◌, ℕ, suc, zero, Bool, true, false, cond, List, [], ◌∷◌, ◌++◌}
 use Rattle.std.proofs.Common.{Option, None, Some, refl, sym, ap, arith, length, get_or, not, set, position}
 use Rattle.std.specs.List.{position_or_len}

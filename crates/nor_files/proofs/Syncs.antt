@@ -1,4 +1,3 @@
--- The effect of a sync of one file, or of its directory, on all files in memory.
 use Rattle.std.proofs.Common.{◌≡◌, ◌∙◌, [], Bool, true, false, List, ap, inl, inr, not, refl, sym}
 use Rattle.std.specs.Cmp.Lexicographic.{same_text}
 use Rattle.std.proofs.lemmas.Bool.{cases_Bool, false_from_ne_true, false≢true}

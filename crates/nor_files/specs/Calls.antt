@@ -4,15 +4,14 @@ use Rattle.std.specs.Prelude.{drop, is_some, length, max, option_map, replicate,
 use Rattle.nor_journal.specs.Vault.{VaultState}
 use Rattle.nor_files.specs.Files.{AllStay, FilesState, Found, IsKnownFile, IsDurable, Name, OthersStay, KeepsFile, View}
 
--- Holds if `found` is what a read of the file returns: `None` if it is missing, else its first `most` bytes. Nothing is
--- said if the files don't obey the contract, or if a vault or log in this file is borrowed.
+-- Holds if the file isn't known, or `found` has its first `most` bytes, or the file is missing and `found` is None.
 abbrev pub ReadsFile : Name → ℕ → Found → View → Type 0
 ReadsFile name most found view = IsKnownFile name view → found ≡ option_map (take most) (view.seen name)
 
 pub record Succeeds (old new : FilesState) : Type 0 where
   pub left : old.left ≡ new.left + 1
 
--- The effect of a failed call: no more calls can succeed than before, and if none could, each file is as it was.
+-- Holds if no more calls can succeed than before and, if none could, each file is as it was.
 pub record Fails (old new : FilesState) : Type 0 where
   pub left : new.left ≤ old.left
   pub none_left : old.left ≡ 0 → AllStay old new
@@ -21,16 +20,14 @@ abbrev pub Counts : {T E : Type 0} → Result T E → (old new : FilesState) →
 Counts (Ok _) old new = Succeeds old new
 Counts (Err _) old new = Fails old new
 
--- The effect of a call on one file, except for calls that lend or take back a vault or log. Each file whose name is
--- apart from `name` is as it was.
+-- Holds if the call was counted, and each file whose name is apart from `name` is as it was.
 pub record WorksOn {T E : Type 0} (name : Name) (result : Result T E) (old new : FilesState) : Type 0 where
   pub counts : Counts result old new
   pub borrowed : new.borrowed ≡ old.borrowed
   pub out : new.view.out name ≡ old.view.out name
   pub others : OthersStay name old new
 
--- The effect of opening a file in order to overwrite it later. On files that obey the contract, a successful call
--- returns whether the file exists, unless a vault or log in it is borrowed.
+-- Holds if each file is as it was and, for a known file, a successful call returned whether the file exists.
 pub record Holds {E : Type 0} (name : Name) (result : Result Bool E) (old new : FilesState) : Type 0 where
   pub counts : Counts result old new
   pub borrowed : new.borrowed ≡ old.borrowed
@@ -60,19 +57,17 @@ abbrev pub LeavesOrEmpty : Name → (old new : FilesState) → Type 0
 LeavesOrEmpty name old new = (left : Found) → new.may_leave name left
     → old.may_leave name left ⊎ ((old.view.seen name ≡ None) × (left ≡ Some []))
 
--- The effect of a sync of a file. After a failure it is unknown what a read returns, but a host crash can leave only
--- what it could leave before.
+-- Holds if the sync succeeded (`IsSynced`), or failed and a host crash can leave only what it could leave before.
 abbrev pub Syncs : {T E : Type 0} → Name → Result T E → (old new : FilesState) → Type 0
 Syncs name (Ok _) old new = IsSynced name old new
 Syncs name (Err _) old new = LeavesNoMore name old new
 
--- The effect of the sync of a directory on a file in it (`IsPlaced`). After a failure the file is as it was.
 abbrev pub Places : {T E : Type 0} → Name → Result T E → (old new : FilesState) → Type 0
 Places name (Ok _) old new = IsPlaced name old new
 Places name (Err _) old new = KeepsFile name old new
 
--- Holds if `has` is a mix of the old bytes `had` and the written `bytes`: at each index it has the byte of one of them,
--- where a byte past the end counts as 0. It is as long as `had` or longer, but not longer than both lists.
+-- Holds if `has` has at each index the byte of `had` or of `bytes` (0 past the end of a list), is at least as long as
+-- `had`, and is at most as long as the longer of `had` and `bytes`.
 pub record IsMixed (had bytes has : List ℕ) : Type 0 where
   pub shortest : length had ≤ length has
   pub longest : length has ≤ max (length had) (length bytes)
@@ -89,15 +84,13 @@ written_over bytes had = bytes ++ drop (length bytes) had
 abbrev pub with_length : ℕ → List ℕ → List ℕ
 with_length len had = take len had ++ replicate (len - length had) 0
 
--- The effect of overwriting a file in place. A host crash can leave only what it could leave before, or a mix of one of
--- these contents and `bytes`, even if the call failed.
+-- Holds if a successful call overwrote the file, and after any call a host crash leaves only what `LeavesMixes` allows.
 pub record WritesOver {T E : Type 0} (name : Name) (bytes : List ℕ) (result : Result T E)
     (old new : FilesState) : Type 0 where
   pub seen : (any : T) → result ≡ Ok any → new.view.seen name ≡ option_map (written_over bytes) (old.view.seen name)
   pub leaves : LeavesMixes name bytes old new
 
--- The effect of setting the length of a file. A host crash can leave only what it could leave before, or one of these
--- contents with its length changed to `len`, even if the call failed.
+-- Holds if a success set the length and, in any case, a host crash leaves only old contents, perhaps with length `len`.
 pub record SetsLength {T E : Type 0} (name : Name) (len : ℕ) (result : Result T E) (old new : FilesState) : Type 0 where
   pub seen : (any : T) → result ≡ Ok any → new.view.seen name ≡ option_map (with_length len) (old.view.seen name)
   pub leaves : (left : Found) → new.may_leave name left → old.may_leave name left
@@ -118,14 +111,12 @@ pub record Borrows (name : Name) (old new : FilesState) : Type 0 where
   pub out : new.view.out name ≡ true
   pub others : OthersStay name old new
 
--- The effect of a failed call that lends a vault. On files that obey the contract, if no vault or log in the file was
--- borrowed before, a host crash can leave only what it could leave before, or an empty file if the file was missing.
+-- Holds if a call that lends a vault failed. For a known file, a host crash leaves only what `LeavesOrEmpty` allows.
 pub record BorrowsNone (name : Name) (old new : FilesState) : Type 0 where
   pub fails : Fails old new
   pub leaves : IsKnownFile name old.view → LeavesOrEmpty name old new
 
--- The effect of taking back the vault in the file, which then has its bytes. If the vault is sealed, a host crash can
--- leave nothing else.
+-- Holds if the file has exactly the bytes of the vault that was taken back, durably if the vault is sealed.
 pub record TakesBack (name : Name) (vault : VaultState) (old new : FilesState) : Type 0 where
   pub borrowed : new.borrowed ≡ None
   pub in_store : new.view.out name ≡ false

@@ -1,10 +1,8 @@
--- The system's files, as contracts see them.
 use Rattle.std.specs.Prelude.{◌≡◌, ◌⊎◌, ⊤, false, true, None, codes, not}
 use Rattle.nor_files.specs.Files.{FilesState, Name}
 use Rattle.nor_files.specs.Named.{are_same_names}
 
--- The state of a store of which nothing is known. Each call may fail in each way, and two names are apart if they
--- differ. That `is_one_file` recognizes two names of one file is assumed and tested.
+-- The state of files about which nothing is known: each call may fail in each way, and names that differ are apart.
 abbrev pub unknown : FilesState
 unknown = record {
   view = record {
@@ -17,6 +15,6 @@ unknown = record {
   may_leave = λ name left. ⊤;
 }
 
--- Holds for the names that `unseen_stream` may return: the second names of standard output and standard error.
+-- Holds for the names that `unseen_stream` may return, one of standard output and one of standard error.
 abbrev pub IsStreamName : Name → Type 0
 IsStreamName name = (name ≡ codes "/dev/fd/1") ⊎ (name ≡ codes "/dev/fd/2")

@@ -10,8 +10,7 @@ Found = Option (List ℕ)
 
 -- A condition of a named file, or of two names, that a call may find or return as an error.
 pub data Failure : Type 0 where
-  -- the file can't be looked up, opened or read, or a read of it may block forever; in `read_named`, `hold` and
-  -- `share`, the program may also be out of memory
+  -- the file can't be looked up, opened or read, a read of it may block forever, or memory runs out
   Unread : Name → Failure
   -- a file or link of this name exists, but can't be opened for overwriting, or can't be locked
   Unheld : Name → Failure
@@ -20,10 +19,10 @@ pub data Failure : Type 0 where
   Unmade : Name → Failure
   -- a file or link of this name exists, or the file is a journal, which isn't truncated
   There : Name → Failure
-  -- The file can't be created, written or synced, its length can't be set, or its directory can't be synced. Or a later
-  -- run would not find what was written: the name refers to another file, or the file has another length (`still_has`)
-  -- or lost the vault that was sealed in it (`is_kept`).
+  -- the file can't be created, changed or synced, its directory can't be synced, or a later run would not find what was
+  -- written (see `still_has` and `is_kept`)
   Unwritten : Name → Failure
+  -- the two names refer to one file
   Shared : Name → Name → Failure
   -- the file is a regular file to which the program prints
   Printed : Name → Failure
@@ -34,8 +33,7 @@ pub record Nature : Type 0 where
   pub lawful : Bool
   -- true for each failure that a call may ever find or return
   pub fails : Failure → Bool
-  -- Whether two names are apart. On lawful files they then refer to different files. A file may have several names (`a`
-  -- and `./a`, links), so two names that differ may be names of one file.
+  -- whether two names are apart; other names may refer to one file even if they differ, as `a` and `./a` do
   pub apart : Name → Name → Bool
 
 -- The part of the state that determines what a read returns.
@@ -43,14 +41,12 @@ pub record View : Type 0 where
   pub nature : Nature
   -- whether a vault or a log in the file of this name is borrowed, so that its bytes are unknown
   pub out : Name → Bool
-  -- the result of a read of the file of this name
   pub seen : Name → Found
 
 pub record FilesState : Type 1 where
   pub view : View
-  -- The greatest number of calls that can still succeed, counting `hold`, `sync`, `sync_folder`, `write_over`,
-  -- `set_len`, `make`, `vault_in_new` and `vault_in`. No program can read it. If it is 0, as after a kill or a host
-  -- crash, each of these calls on lawful files fails and changes nothing.
+  -- The greatest number of calls of `hold`, `sync`, `sync_folder`, `write_over`, `set_len`, `make`, `vault_in_new` and
+  -- `vault_in` that can still succeed. If it is 0, each of these calls on lawful files fails and changes nothing.
   pub left : ℕ
   -- the file whose vault was borrowed last and not yet taken back
   pub borrowed : Option Name
@@ -60,7 +56,6 @@ pub record FilesState : Type 1 where
 abbrev pub is_lawful : View → Bool
 is_lawful view = view.nature.lawful
 
--- Holds if the names `one` and `other` are apart in both orders.
 abbrev pub AreApart : Nature → (one other : Name) → Type 0
 AreApart nature one other = (nature.apart one other ≡ true) × (nature.apart other one ≡ true)
 
@@ -69,18 +64,16 @@ pub record IsKnownFile (name : Name) (view : View) : Type 0 where
   pub lawful : is_lawful view ≡ true
   pub in_store : view.out name ≡ false
 
--- Holds if the files obey the contract, and no vault or log in any of them is borrowed.
 pub record AreAtRest (files : FilesState) : Type 0 where
   pub lawful : is_lawful files.view ≡ true
   pub in_store : (name : Name) → files.view.out name ≡ false
 
--- Holds if the file is as it was. A host crash can leave only what it could leave before.
+-- Holds if the file is as it was, and a host crash can leave only what it could leave before.
 pub record KeepsFile (name : Name) (old new : FilesState) : Type 0 where
   pub out : new.view.out name ≡ old.view.out name
   pub seen : new.view.seen name ≡ old.view.seen name
   pub leaves : (left : Found) → new.may_leave name left → old.may_leave name left
 
--- Holds if each file is as it was. A host crash can leave only what it could leave before.
 pub record AreUntouched (old new : FilesState) : Type 0 where
   pub view : new.view ≡ old.view
   pub leaves : (name : Name) (left : Found) → new.may_leave name left → old.may_leave name left
@@ -88,11 +81,10 @@ pub record AreUntouched (old new : FilesState) : Type 0 where
 abbrev pub AllStay : (old new : FilesState) → Type 0
 AllStay old new = (name : Name) → KeepsFile name old new
 
--- Holds if, on files that obey the contract, each file without a borrowed vault or log is as it was (`KeepsFile`).
 abbrev pub KnownStay : (old new : FilesState) → Type 0
 KnownStay old new = (name : Name) → IsKnownFile name old.view → KeepsFile name old new
 
--- Holds if each file whose name is apart from `name` is as it was. Nothing is said about other names of this file.
+-- Holds if each file whose name is apart from `name` is as it was.
 abbrev pub OthersStay : Name → (old new : FilesState) → Type 0
 OthersStay name old new = (other : Name) → AreApart old.view.nature name other → KeepsFile other old new
 

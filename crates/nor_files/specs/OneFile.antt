@@ -1,4 +1,3 @@
--- Which names a store treats as names of one file, and what this requires of the files.
 use Rattle.std.specs.Prelude.{◌≡◌, ◌⊎◌, true, false}
 use Rattle.nor_files.specs.Files.{FilesState, Found, Name, Nature, is_lawful}
 use Rattle.nor_files.specs.Files.Failure.{Shared}
@@ -13,7 +12,7 @@ pub record AreOneFile (one other : Name) (files : FilesState) : Type 0 where
   pub leaves : (left : Found) → files.may_leave one left → files.may_leave other left
   pub back : (left : Found) → files.may_leave other left → files.may_leave one left
 
--- The law of names: on files that obey the contract, the state treats two names of one file alike.
+-- Holds if, on lawful files, names that may be one file agree in what is read, borrowed and left by a host crash.
 abbrev pub NamesAreOfOne : FilesState → Type 0
 NamesAreOfOne files = is_lawful files.view ≡ true → (one other : Name) → MayBeOneFile files.view.nature one other
     → AreOneFile one other files

@@ -22,11 +22,9 @@ content_found content = option_map bytes_in content
 
 pub record File : Type 0 where
   pub seen : Found
-  -- the changes since the last sync, newest first
   pub steps : List Step
   -- whether a host crash may remove the file
   pub unplaced : Bool
-  -- whether a vault or a log in the file is borrowed
   pub out : Bool
 
 abbrev pub file_in : Stored → File
@@ -54,15 +52,15 @@ Becomes (Written bytes) MayHaveBeen left = IsMixOf bytes.items MayHaveBeen left
 Becomes (Cut len) MayHaveBeen left = IsCutOf len MayHaveBeen left
 Becomes Lent MayHaveBeen left = ⊤
 
--- Holds if `left` is what a read returns, or a content that the file may have had before its newest change, or one into
--- which this change may turn such a content.
+-- Holds if `left` is the present content `seen`, or a possible content before the newest change, or one into which this
+-- change may turn such a content.
 abbrev pub MayBe : List Step → Found → Found → Type 0
 MayBe [] seen left = left ≡ seen
 MayBe (step ∷ earlier) seen left = (left ≡ seen) ⊎ (MayBe earlier (content_found step.before) left
     ⊎ Becomes step.change (MayBe earlier (content_found step.before)) left)
 
--- Holds if a host crash may leave `left`. A file that the crash may remove (`true`) is then missing, or `May` holds.
--- Any other file satisfies `May`, and `left` is a file if and only if a read finds one now.
+-- If a host crash may remove the file (`true`), holds if `May` holds or `left` is None. Otherwise (`false`), holds if
+-- `May` holds, and `left` is None if and only if `seen` is None.
 abbrev pub OrMissing : Bool → Type 0 → (seen left : Found) → Type 0
 OrMissing true May seen left = (left ≡ None) ⊎ May
 OrMissing false May seen left = (is_some left ≡ is_some seen) × May
@@ -130,8 +128,8 @@ abbrev pub FileCreates : {T E : Type 0} → Result T E → (old new : Stored) �
 FileCreates (Ok _) old new = IsCreatedNow old new
 FileCreates (Err _) old new = IsUnchanged old new
 
--- The effect of lending a vault or a log in the file, which is then empty. If the file had to be new (`is_new`), a host
--- crash can't remove it. Otherwise a host crash may remove it if it was missing, or if a host crash could before.
+-- Holds if a vault or a log in the file was lent, so the file is empty. If it had to be new (`is_new`), a host crash
+-- can't remove it. Otherwise a host crash may remove it if it was missing, or if a host crash could before.
 pub record IsBorrowed (is_new : Bool) (old new : Stored) : Type 0 where
   pub name : new.name ≡ old.name
   pub missing : is_new ≡ true → (file_in old).seen ≡ None
@@ -163,8 +161,7 @@ pub record FileForgets (old new : Stored) : Type 0 where
   pub name : new.name ≡ old.name
   pub allowed : MayLeave (file_in old) (file_in new).seen
 
--- The effect of an interruption of the process or the host. A read returns what a host crash might have left, and a
--- later host crash can leave nothing else.
+-- Holds if a read now returns what a host crash might have left, and a later host crash can leave nothing else.
 pub record FileLoses (old new : Stored) : Type 0 where
   pub name : new.name ≡ old.name
   pub allowed : MayLeave (file_in old) (file_in new).seen

@@ -25,23 +25,19 @@ struct Unseen {
     error: io::Error,
 }
 
-/// The system's files, through the runtime. Contracts know nothing about them: that each call works on the named file
-/// and obeys the contract of `Store` is assumed, and tested.
+/// The system's files. That each call works on the named file and obeys the contract of `Store` is assumed, and tested.
 ///
-/// Files opened by `hold` and `share` stay open and locked until the store is dropped. A later `read_named`, `sync`,
-/// `write_over` or `set_len` of the same name works on the file that was opened and locked, even if the name refers to
-/// another file by then. In this case `sync` returns `NotFound`.
-///
-/// `make` returns `NotFound` for a name that wasn't passed to `hold` or `share` before. The file that it creates stays
-/// open and locked, too. `sync`, `write_over` and `set_len` return `NotFound` for a name under which `hold`, `share` or
-/// `make` has opened no file.
+/// A file opened by `hold`, `share` or `make` stays open and locked until the store is dropped. Later reads, writes and
+/// syncs of its name work on this file. If the name then refers to another file, `sync` returns `NotFound`. `make`
+/// returns `NotFound` for a name that wasn't passed to `hold` or `share`; `sync`, `write_over` and `set_len` return
+/// `NotFound` for a name without an open file.
 #[derive(Drop)]
 pub struct Disk<'a, R: Files> {
     files: &'a R,
     held: Vec<Held<R::File>>,
     // Names that could not be looked up when `look_ahead` was called.
     unseen: RefCell<Vec<Unseen>>,
-    // The file whose vault was taken back last. It stays open, which also keeps its lock.
+    // The file whose vault was taken back last, kept open so that it stays locked.
     vaulted: Option<VaultedFile<'a, R>>,
     sealed: bool,
 }
@@ -253,8 +249,7 @@ where
         sealed
     }
 
-    // Ignores `_name`, since the file of the vault knows the name that was given to `vault_in_new`. Only the contract
-    // uses `_name`: it says which file may have been removed, replaced or changed.
+    // Ignores `_name`, because the file of the vault knows the name that was given to `vault_in_new`.
     fn is_kept(&self, _name: &str) -> bool {
         match &self.vaulted {
             Some(file) if self.sealed => file.check().is_ok(),
@@ -284,8 +279,7 @@ fn missing_or(error: io::Error) -> io::Result<Option<Vec<u8>>>
     }
 }
 
-/// Reads the rest of `file`, but not more than `most` bytes. Before it reads, it allocates one byte more than the
-/// length that the file reports, or than `most` if that is less.
+/// Reads the rest of `file`, but not more than `most` bytes.
 pub fn read_up_to<F: Read + OpenFile + Drop>(
     alloc: Global,
     file: F,

@@ -6,9 +6,8 @@ use std::io::ErrorKind;
 use std::path::Path;
 use std::rt::Files;
 
-/// Syncs the directory of this file, so that a host crash neither removes a file that was created in it nor restores a
-/// file that was removed from it. Returns success and syncs nothing if the directory is missing, may not be opened for
-/// reading, or can't be synced on its file system. Any other failure is an error.
+/// Syncs the directory of this file, so that a host crash neither removes a file created in it nor restores a removed
+/// one. Succeeds without a sync if the directory is missing, may not be opened for reading, or can't be synced.
 pub fn sync_folder<R: Files>(files: &R, name: &str) -> io::Result<()> {
     let folder = match File::open(files, folder_of(name)) {
         Ok(folder) => folder,

@@ -1,5 +1,4 @@
-//! The files that `hold` and `share` keep open and locked until the run ends: the chip's files, if the run will write
-//! them, and the journal that a restore or `--check-journal` reads.
+//! The files that `hold`, `share` and `make` of a `Disk` keep open and locked until the run ends.
 
 use crate::identity::is_same;
 use crate::locks::LockFile;
@@ -21,9 +20,8 @@ pub struct Held<F> {
 }
 
 /// Opens a file of the chip that the run will write, and locks it exclusively. A missing file is recorded as missing.
-///
-/// Fails if the name is a dangling link, or refers to anything but a regular file. Also fails if the file can't be
-/// looked up, opened for reading and writing, or locked, or if the program is out of memory.
+/// Fails if the name refers to anything but a regular file, if the file can't be looked up, opened for reading and
+/// writing, or locked, or if memory runs out.
 pub fn hold_chip<R: Files>(files: &R, alloc: Global, name: &str) -> Result<Held<R::File>, LockFault>
 where
     R::File: LockFile,
@@ -41,8 +39,8 @@ where
     })
 }
 
-/// Opens a journal that the run reads, and locks it for reading. A name that doesn't refer to a regular file, or that
-/// can't be looked up, is recorded as missing.
+/// Opens a journal that the run reads, and locks it for reading. If the name doesn't refer to a regular file, or can't
+/// be looked up, the file is recorded as missing.
 pub fn hold_journal<R: Files>(
     files: &R,
     alloc: Global,
@@ -137,7 +135,7 @@ pub fn write_from_start<F: Write + Seek>(file: &mut F, bytes: &[u8]) -> io::Resu
     file.write_all(bytes)
 }
 
-/// Syncs an open file, and checks it as `check_under` does. The error is `NotFound`, too, if no file is open.
+/// Syncs an open file, and checks it as `check_under` does. If no file is open, the error is `NotFound`.
 pub fn sync_under<R: Files>(files: &R, held: &Held<R::File>) -> io::Result<()> {
     let Some(file) = &held.file else {
         return Err(ErrorKind::NotFound.into());
@@ -146,9 +144,8 @@ pub fn sync_under<R: Files>(files: &R, held: &Held<R::File>) -> io::Result<()> {
     check_under(files, held)
 }
 
-/// Checks that the name of an open file still refers to it, and that it has the length `len`, if there is one.
-/// Otherwise a later run would not find what this run wrote, so the error is `NotFound`. The error is `NotFound`, too,
-/// if no file is open.
+/// Checks that the name of an open file still refers to this file, and that the file has the length `len`, if `len` is
+/// set. Otherwise, or if no file is open, returns `NotFound`, or the error of the look-up if the look-up fails.
 pub fn check_under<R: Files>(files: &R, held: &Held<R::File>) -> io::Result<()> {
     let Some(file) = &held.file else {
         return Err(ErrorKind::NotFound.into());

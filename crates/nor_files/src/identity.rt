@@ -1,5 +1,4 @@
-//! Finds out whether two names refer to the same file of the system, and whether a name refers to the file to which an
-//! output stream of the program prints.
+//! Compares the files to which names refer, with each other and with the files to which the program prints.
 ghost use Rattle.std.specs.Prelude.{◌≡◌, ◌⊎◌, IfErr, IfSome};
 ghost use Rattle.nor_files.specs.Disk.{IsStreamName};
 
@@ -11,8 +10,8 @@ use std::os::unix::fs::MetadataExt;
 use std::rt::Files;
 use std::{fs, io};
 
-/// If both files exist, they must have the same device and inode. If neither exists, the names must have the same last
-/// part, in the same existing directory. A link to a file that doesn't exist counts as missing.
+/// Returns whether both files exist and have the same device and inode, or neither exists and the names have the same
+/// last part in the same existing directory. If a name can't be looked up, returns this name as the error.
 pub fn is_one_file<'n, R: Files>(files: &R, one: &'n str, other: &'n str) -> Result<bool, &'n str>
     ensures { IfErr result (λ name. name.now ≡ one.now ⊎ name.now ≡ other.now) }
 {
@@ -50,8 +49,7 @@ pub fn is_stream<'n, R: Files>(files: &R, stream: Stream, name: &'n str) -> Resu
     }
 }
 
-/// Returns `/dev/fd/1` if standard output can't be looked up by either of its names, else `/dev/fd/2` if standard error
-/// can't.
+/// Returns `/dev/fd/1` if standard output can't be looked up, or else `/dev/fd/2` if standard error can't, or `None`.
 pub fn unseen_stream<R: Files>(files: &R) -> Option<&'static str>
     ensures { IfSome result (λ name. IsStreamName name.now) }
 {
@@ -64,8 +62,7 @@ pub fn unseen_stream<R: Files>(files: &R) -> Option<&'static str>
     None
 }
 
-// Returns the metadata of a stream of this process, which Linux shows under two names. The first name exists only if
-// the mounted /proc shows this process.
+// Returns the metadata of a stream of this process. The first name works only if the mounted /proc shows this process.
 fn look_at<R: Files>(files: &R, stream: Stream) -> Option<Metadata> {
     let (first, second) = match stream {
         Stream::Output => ("/proc/self/fd/1", "/dev/fd/1"),

@@ -1,18 +1,16 @@
-//! Locks on files, so that no run changes a file that another run has locked. On a file system without locks nothing
-//! prevents such a change.
+//! Locks on files, so that no run changes a file that another run has locked.
 
 use std::fs::{File, TryLockError};
 use std::io;
 use std::io::ErrorKind;
 
-/// A file that can be locked against other runs, until it is closed.
+/// A file that can be locked against other runs until it is closed. On a file system without locks, both calls lock
+/// nothing and return true.
 pub trait LockFile {
-    /// Locks the file exclusively, without waiting. Returns false if another process has locked it. On a file system
-    /// without locks, it locks nothing and returns true.
+    /// Locks the file exclusively, without waiting. Returns false if another process has locked it.
     fn lock_alone(&self) -> io::Result<bool>;
 
-    /// Locks the file for reading, without waiting. Other runs can lock it for reading at the same time. Returns false
-    /// if another process has locked it exclusively. On a file system without locks, it locks nothing and returns true.
+    /// Locks the file for reading, without waiting. Returns false if another process has locked it exclusively.
     fn lock_shared(&self) -> io::Result<bool>;
 }
 

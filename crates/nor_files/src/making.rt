@@ -23,11 +23,8 @@ where
     make_alone(files, name, &mut options, mode)
 }
 
-/// Creates the file of a journal as `make_new` does, but each write appends to it.
-///
-/// If another program truncates the journal while it is written, the later bytes follow the remaining ones directly.
-/// The file is then too short, which `VaultedFile::check` notices. Other writes would leave a gap of zero bytes, and
-/// the file would have the expected length.
+/// Creates the file of a journal as `make_new` does, but each write appends to it. If another program truncates the
+/// file meanwhile, it stays too short, which `VaultedFile::check` detects, instead of getting a gap of zero bytes.
 pub fn make_journal<R: Files>(files: &R, name: &str, mode: u32) -> Result<R::File, CreateFault>
 where
     R::File: LockFile,
@@ -55,8 +52,7 @@ where
     Ok(file)
 }
 
-/// Creates or truncates the named file. The files that `open_log` refuses are refused here, too, and a FIFO, a device
-/// or a terminal isn't truncated.
+/// Creates or truncates the named file, but opens a FIFO, a device or a terminal as it is. Fails as `open_log` does.
 pub fn make_empty<R: Files>(files: &R, name: &str) -> Result<R::File, CreateFault>
 where
     R::File: LockFile,
@@ -68,10 +64,9 @@ where
     }
 }
 
-/// Creates the named file, or opens it for a log. A regular file is locked, and is truncated only at the first write or
-/// flush of the log. A FIFO, a device or a terminal is opened as it is, without a lock.
-///
-/// A journal is never truncated, because it may be the only way to restore a chip. For a journal, the error is `There`.
+/// Creates the named file, or opens it for a log. A regular file is locked, and the `LogFile` truncates it later. For a
+/// journal, the error is `There`, because a journal may be the only way to restore a chip. A FIFO, a device or a
+/// terminal is opened as it is, without a lock.
 pub fn open_log<R: Files>(files: &R, name: &str) -> Result<LogFile<R::File>, CreateFault>
 where
     R::File: LockFile,
@@ -131,8 +126,7 @@ fn is_journal<F: Read>(file: &mut F) -> io::Result<bool> {
     }
 }
 
-/// A file that is truncated just before its first write, or at a flush if nothing was written. If a run ends before
-/// that, the file keeps its old bytes.
+/// A file that is truncated just before its first write or flush, unless `append` was called before.
 #[derive(Drop)]
 pub struct LogFile<F> {
     file: F,
@@ -150,8 +144,7 @@ impl<F: OpenFile> LogFile<F> {
 }
 
 impl<F: OpenFile + Read + Seek> LogFile<F> {
-    /// Returns whether the file is empty, or begins with these bytes. A FIFO, a device or a terminal isn't read, and
-    /// the result is true. The file is read through the descriptor that is written later, so both are the same file.
+    /// Returns whether the file is empty, or begins with these bytes. A FIFO, a device or a terminal counts as empty.
     pub fn is_empty_or_begins(&mut self, start: &[u8]) -> io::Result<bool> {
         if !self.is_old {
             return Ok(true);
@@ -225,8 +218,8 @@ impl<'a, R: Files> VaultedFile<'a, R> {
         self.check()
     }
 
-    /// Checks that a later run finds this file under its name, with the number of bytes written. A file without a name
-    /// isn't checked. Returns `NotFound` if the name refers to another file, or if the length differs.
+    /// Checks that a later run finds this file under its name, with the number of bytes written. If not, returns
+    /// `NotFound` or the error of the look-up. A file without a name isn't checked.
     pub fn check(&self) -> io::Result<()> {
         let Some(name) = &self.name else {
             return Ok(());
@@ -254,7 +247,7 @@ fn write_again<F: Write>(file: &mut F, bytes: &[u8]) -> io::Result<usize>
 }
 
 impl<R: Files> Write for VaultedFile<'_, R> {
-    // A vault treats each error as a refusal. Therefore a write that a signal interrupted is tried again here.
+    // Retries a write that a signal interrupted, because a vault treats each error as a refusal.
     fn write(&mut self, bytes: &[u8]) -> io::Result<usize> {
         match write_again(&mut self.file, bytes) {
             Ok(taken) => {

@@ -11,14 +11,12 @@ use std::alloc::{AllocError, Global};
 use std::io::{ErrorKind, Sink};
 use std::{io, mem};
 
-/// Files in memory that obey the contract of `Store`. At most a given number of calls of these functions succeed:
-/// `hold`, `sync`, `sync_folder`, `write_over`, `set_len`, `make`, `vault_in_new`, `vault_in` and `log_in`. Each
-/// further call fails and changes nothing.
+/// Files in memory that obey the contract of `Store`. At most `left` counted calls succeed, which are calls of `hold`,
+/// `sync`, `sync_folder`, `write_over`, `set_len`, `make`, `vault_in_new`, `vault_in` and `log_in`.
 ///
-/// A host crash may leave each byte as it was at the last sync of the file, or as any later write or change of length
-/// made it. A file whose vault or log was borrowed since its last sync may have any bytes. A file that was created may
-/// be missing until its directory is synced. `vault_in_new` syncs the directory, and `return_vault` of a sealed vault
-/// syncs the file and the directory.
+/// A host crash may leave each byte as it was at the last sync of the file, or as any later change made it. A file
+/// whose vault or log was borrowed since that sync may have any bytes. A new file may be missing until its directory is
+/// synced.
 #[derive(Drop)]
 pub struct Memory {
     alloc: Global,
@@ -45,8 +43,7 @@ impl Memory {
         }
     }
 
-    /// Creates or replaces the named file durably, so that it has these bytes even after a host crash. This doesn't
-    /// count as a call. Fails if memory runs out.
+    /// Creates or replaces the named file durably. This doesn't count as a call. Fails if memory runs out.
     pub fn put(&mut self, name: &str, bytes: &[u8]) -> Result<(), AllocError>
         ensures left { self.new.left ≡ self.old.left }
         ensures puts { OnOk result (IsDurable name.now (Some bytes.now) (memory_state self.new)) }
@@ -58,8 +55,7 @@ impl Memory {
         Ok(())
     }
 
-    /// Makes the last counted call fail halfway if it is a `write_over`: if only one call is left, a `write_over`
-    /// writes only the first half of its bytes, and then fails. It succeeds only if it has no bytes to write.
+    /// Makes the last counted call, if it is a non-empty `write_over`, write only the first half of its bytes and fail.
     pub fn tear(&mut self)
         ensures left { self.new.left ≡ self.old.left }
         ensures stay { AllStay (memory_state self.old) (memory_state self.new) }

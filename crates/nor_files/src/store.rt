@@ -11,9 +11,9 @@ use std::{fmt, io};
 pub enum LockFault {
     /// The file can't be looked up, opened or read, or the program is out of memory.
     Unread(io::Error),
-    /// A file or link of this name exists, but can't be overwritten or locked: it may be read-only, a FIFO, a device or
-    /// a dangling link.
+    /// A file or link of this name exists, but can't be overwritten or locked, for example a device or a dangling link.
     Unheld,
+    /// Another process has locked the file.
     Busy,
 }
 
@@ -32,9 +32,9 @@ impl Error for LockFault {}
 /// The reason why a file can't be created or truncated.
 #[derive(Debug, Drop)]
 pub enum CreateFault {
-    /// The file must be new, but a file or link of its name exists. Or the file is a journal, which `Disk` never
-    /// truncates.
+    /// A file or link of this name exists, but the file must be new, or is a journal, which `Disk` never truncates.
     There,
+    /// Another process has locked the file.
     Busy,
     /// The file can't be created, read, truncated or locked, or its directory can't be synced.
     Unmade(io::Error),
@@ -87,6 +87,7 @@ impl From<CreateFault> for io::Error {
     }
 }
 
+/// A stream to which the program prints: standard output or standard error.
 #[derive(Clone, Copy)]
 pub enum Stream {
     Output,
@@ -96,23 +97,14 @@ pub enum Stream {
 /// The files of a run, by their names.
 ///
 /// Contracts see the files as a `FilesState`. If the state is lawful, the files obey the contract: each call has the
-/// effect that its clauses give for success or failure, and the state says what a host crash may leave at each moment.
-/// For files that aren't lawful, such as those of `Disk`, most clauses say nothing. On lawful files, each call that is
-/// counted fails and changes nothing if no call is left. A clause proved for every lawful store therefore covers an
-/// interruption at each of these calls.
+/// effect that its clauses give, and each counted call (see `left` of `FilesState`) fails and changes nothing if no
+/// call is left. A clause proved for every lawful store therefore covers an interruption at each of these calls. For
+/// files that aren't lawful, such as those of `Disk`, most clauses say nothing.
 ///
-/// A file may have several names. The state says which names are *apart*. On lawful files, names that are apart refer
-/// to different files, and a call on one of these names leaves the file of the other as it was. `is_one_file` returns
-/// false only for names that are apart. Names that aren't apart are names of one file, so a read of either name returns
-/// the same (`names_of_one`).
-///
-/// Apart from this, a call promises nothing about other names of the file that it changes, with these exceptions on
-/// lawful files:
-///
-/// - `hold`, `share`, and a counted call that fails because no call is left, leave all files as they were
-/// - after a successful `sync` or any `sync_folder`, a read of another name returns the same as before, if no vault or
-///   log in that file is borrowed
-/// - after any `sync`, a host crash can leave of each name only what it could leave before
+/// A file may have several names. On lawful files, names that are *apart* refer to different files, and a call on one
+/// of them leaves the file of the other as it was. Names that aren't apart are names of one file, so a read of either
+/// name returns the same (`names_of_one`). Except for this, only the clauses `stay` and `no_more` promise something
+/// about other names of a file that a call changes.
 pub trait Store: AllocGlobal {
     ghost use Rattle.std.specs.Prelude.{◌≡◌, ◌⊎◌, false, true, None, Err, IfErr, IfOk, IfSome, Ok, OnErr, OnOk};
     ghost use Rattle.std.specs.Prelude.{is_some, option_map};
@@ -136,10 +128,7 @@ pub trait Store: AllocGlobal {
 
     /// Returns whether the two names refer to one file: they are equal, or refer to the same file of the system, or, if
     /// neither file exists yet, have the same last part in the same directory. If a name can't be looked up, returns
-    /// this name as the error.
-    ///
-    /// If the result is false, the names are apart. On lawful files, a call on one of them then leaves the file of the
-    /// other as it is. For the system's files it is only proved that the names differ.
+    /// this name as the error. If the result is false, the names are apart.
     fn is_one_file<'n>(&self, one: &'n str, other: &'n str) -> Result<bool, &'n str>
         ensures shared { IfOk result (λ is_one. is_one ≡ true
             → (state self.now).view.nature.fails (Shared one.now other.now) ≡ true) }
@@ -150,29 +139,25 @@ pub trait Store: AllocGlobal {
         ensures unseen { IfErr result (λ name. (state self.now).view.nature.fails (Unread name.now) ≡ true) };
 
     /// Returns whether the named file is a regular file to which this stream prints. If the stream isn't a regular file
-    /// or can't be looked up (see `unseen_stream`), the result is false. Otherwise, if the name can't be looked up,
-    /// returns the name as the error.
+    /// or can't be looked up, returns false. Otherwise, if the name can't be looked up, returns the name as the error.
     fn is_stream<'n>(&self, stream: Stream, name: &'n str) -> Result<bool, &'n str>
         ensures printed { IfOk result (λ is_stream. is_stream ≡ true
             → (state self.now).view.nature.fails (Printed name.now) ≡ true) }
         ensures unseen { IfErr result (λ unseen. (unseen.now ≡ name.now)
             × ((state self.now).view.nature.fails (Unread name.now) ≡ true)) };
 
-    /// Returns why `is_one_file`, `is_stream` or `unseen_stream` failed: the system's error when this name is looked up
-    /// again or, if the file is missing, when its directory is. Returns `None` if the file is found by now, if only the
-    /// file or its directory is missing, or if the store has no files of the system. Contracts claim nothing about it.
+    /// Returns the system's error if this name or, for a missing file, its directory can't be looked up. A missing file
+    /// or directory is no error: the result is then `None`. No clause says anything about the result.
     fn look_up_error(&self, name: &str) -> Option<io::Error>;
 
-    /// Returns a name of standard output or standard error, if this stream can't be looked up. No file can then be
-    /// compared with the stream.
+    /// Returns a name of a `Stream` that can't be looked up, and so can't be compared with files, or `None`.
     fn unseen_stream(&self) -> Option<&'static str>
         ensures { IfSome result (λ name. IsStreamName name.now
             × ((state self.now).view.nature.fails (Unread name.now) ≡ true)) };
 
-    /// Looks up a file before the run opens other files. If the look-up fails, a later `read_named` of a `Disk` finds
-    /// no file of this name, or returns the error of the look-up, unless a call such as `hold` opened one. Without this
-    /// rule, a name such as `/dev/fd/6` could refer to a file that the run itself opened in the meantime. Contracts see
-    /// no effect. `look_ahead` itself fails only if the program is out of memory.
+    /// Looks up a file before the run opens other files, so that a name such as `/dev/fd/6` can't refer to a file that
+    /// the run opens itself. If the look-up fails, a later `read_named` of a `Disk` finds no file or returns this
+    /// error, unless `hold`, `share` or `make` opened the file. Fails only if memory runs out.
     fn look_ahead(&self, name: &str) -> Result<(), AllocError>;
 
     /// Returns whether a file or a link of this name exists.
@@ -183,40 +168,30 @@ pub trait Store: AllocGlobal {
     fn is_waiting(&self, name: &str) -> bool
         ensures { result ≡ true → (state self.now).view.nature.fails (Unread name.now) ≡ true };
 
-    /// Returns the bytes of the named file, but not more than the first `most`, or `None` if the file is missing. Fails
-    /// if the file can't be opened or read, or if the program is out of memory. For a lawful file without a borrowed
-    /// vault or log, the clause `read` says which bytes are returned.
+    /// Returns at most the first `most` bytes of the named file, or `None` if it is missing. Fails if the file can't be
+    /// opened or read, or if memory runs out.
     fn read_named(&self, name: &str, most: u64) -> io::Result<Option<Vec<u8>>>
         ensures read { IfOk result (λ found.
             ReadsFile name.now most (option_map (λ bytes. bytes.items) found) (state self.now).view) }
         ensures unread { OnErr result ((state self.now).view.nature.fails (Unread name.now) ≡ true) };
 
     /// Opens and locks the named file, if it exists, so that it can be overwritten later. Returns whether the file
-    /// exists. On lawful files, all files are as they were.
-    ///
-    /// The lock of a `Disk` keeps other runs from locking the file until the store is dropped, if the file system has
-    /// locks. Contracts don't describe locks.
+    /// exists. A `Disk` keeps the lock until the store is dropped, if the file system has locks.
     fn hold(&mut self, name: &str) -> Result<bool, LockFault>
         ensures nature { (state self.new).view.nature ≡ (state self.old).view.nature }
         ensures holds { is_lawful (state self.old).view ≡ true
             → Holds name.now result (state self.old) (state self.new) }
         ensures fails { IfErr result (IsLockFault (state self.old).view.nature name.now) };
 
-    /// Locks the named file, if it exists, for reading. All files are as they were. `Disk` locks only a regular file.
-    ///
-    /// The lock of a `Disk` keeps other runs from locking the file in order to overwrite it, until the store is
-    /// dropped, if the file system has locks. Contracts don't describe locks.
+    /// Locks the named file for reading, if it exists, and changes no file. A `Disk` locks only a regular file, and
+    /// keeps the lock until the store is dropped, if the file system has locks.
     fn share(&mut self, name: &str) -> Result<(), LockFault>
         ensures same { AreUntouched (state self.old) (state self.new) }
         ensures fails { IfErr result (IsLockFault (state self.old).view.nature name.now) };
 
-    /// Syncs the bytes and the length of the named file. Contracts promise the following for lawful files without a
-    /// borrowed vault or log:
-    ///
-    /// - after success a read of each file returns the same as before, even by another name of this file
-    /// - after success a host crash leaves these bytes of this file, or no file if that was possible before
-    /// - after a failure it is unknown what a read of this file returns
-    /// - after success or failure a host crash can leave only what it could leave before
+    /// Syncs the bytes and the length of the named file. For lawful files without a borrowed vault or log, a host crash
+    /// then leaves exactly these bytes, or no file if that was possible before. If the sync fails, it is unknown what a
+    /// read returns, but a host crash can leave only what it could leave before.
     fn sync(&mut self, name: &str) -> io::Result<()>
         ensures nature { (state self.new).view.nature ≡ (state self.old).view.nature }
         ensures alone { is_lawful (state self.old).view ≡ true
@@ -239,10 +214,9 @@ pub trait Store: AllocGlobal {
             → Places name.now result (state self.old) (state self.new) }
         ensures fails { OnErr result ((state self.old).view.nature.fails (Unwritten name.now) ≡ true) };
 
-    /// Overwrites the named file in place with `bytes`, from its start, without truncating it.
-    ///
-    /// For lawful files without a borrowed vault or log, a failed call may have written some of the bytes. Until the
-    /// next sync, a host crash may leave any mix of old and new bytes, whether the call succeeded or failed.
+    /// Overwrites the named file in place with `bytes`, from its start, without truncating it. For lawful files without
+    /// a borrowed vault or log, a failed call may have written some of the bytes, and until the next sync a host crash
+    /// may leave any mix of old and new bytes.
     fn write_over(&mut self, name: &str, bytes: &[u8]) -> io::Result<()>
         ensures nature { (state self.new).view.nature ≡ (state self.old).view.nature }
         ensures alone { is_lawful (state self.old).view ≡ true
@@ -264,16 +238,12 @@ pub trait Store: AllocGlobal {
 
     /// Returns false if a later run would not find what this run wrote to the named file. A `Disk` checks that the name
     /// still refers to the file that `hold`, `share` or `make` opened, and that the file has the length of the last
-    /// `set_len`, unless a `write_over` followed. The bytes aren't compared. Without an open file of this name, a
-    /// `Disk` returns false.
-    ///
-    /// A `sync` of a `Disk` checks the same, so a run calls `still_has` if something else happened after the last
-    /// `sync`.
+    /// `set_len`, unless a `write_over` followed. Without an open file of this name, a `Disk` returns false.
     fn still_has(&self, name: &str) -> bool
         ensures { result ≡ false → (state self.now).view.nature.fails (Unwritten name.now) ≡ true };
 
-    /// Creates the named file, which must not exist. The new file is empty. A host crash may remove it until its
-    /// directory is synced. On lawful files, a failure leaves the file as it was, if no vault or log in it is borrowed.
+    /// Creates the named file, which must not exist. The new file is empty, and a host crash may remove it until its
+    /// directory is synced. For lawful files without a borrowed vault or log, a failure leaves the file as it was.
     fn make(&mut self, name: &str) -> io::Result<()>
         ensures nature { (state self.new).view.nature ≡ (state self.old).view.nature }
         ensures alone { is_lawful (state self.old).view ≡ true
@@ -282,14 +252,9 @@ pub trait Store: AllocGlobal {
             → Creates name.now result (state self.old) (state self.new) }
         ensures fails { OnErr result ((state self.old).view.nature.fails (Unwritten name.now) ≡ true) };
 
-    /// Creates the named file, which must not exist, and lends a vault in it. Give the vault to `return_vault` when it
-    /// is complete. `Disk` syncs the directory of the file.
-    ///
-    /// If the file exists, `Disk` returns `There`, unless the program is out of memory. Lawful files always return
-    /// `There` if the file exists and no vault or log in it is borrowed.
-    ///
-    /// If this call fails on lawful files, and no vault or log in the file was borrowed before, a host crash can leave
-    /// of the file only what it could leave before, or an empty file if the file was missing.
+    /// Creates the named file, and lends a vault in it, which `return_vault` takes back. `Disk` syncs the directory. If
+    /// the file exists, the error is `There` (a `Disk` may return `Memory` instead). After a failure for lawful files
+    /// without a borrowed vault or log, a host crash can leave only what it could leave before, or an empty new file.
     fn vault_in_new(&mut self, name: &str) -> Result<Self::Filed, CreateFault>
         ensures nature { (state self.new).view.nature ≡ (state self.old).view.nature }
         ensures fresh { IfOk result (λ vault. IsFresh (Self.Filed.state vault)) }
@@ -305,8 +270,8 @@ pub trait Store: AllocGlobal {
             → OthersStay name.now (state self.old) (state self.new) }
         ensures unmade { IfErr result (IsCreateFault (state self.old).view.nature name.now) };
 
-    /// Creates or truncates the named file, and lends a vault in it. Give the vault to `return_vault` when it is
-    /// complete. `Disk` refuses to truncate a journal.
+    /// Creates or truncates the named file, and lends a vault in it, which `return_vault` takes back. A `Disk` refuses
+    /// to truncate a journal.
     fn vault_in(&mut self, name: &str) -> Result<Self::Filed, CreateFault>
         ensures nature { (state self.new).view.nature ≡ (state self.old).view.nature }
         ensures fresh { IfOk result (λ vault. IsFresh (Self.Filed.state vault)) }
@@ -318,28 +283,24 @@ pub trait Store: AllocGlobal {
             → OthersStay name.now (state self.old) (state self.new) }
         ensures unmade { IfErr result (IsCreateFault (state self.old).view.nature name.now) };
 
-    /// Takes back the vault that was borrowed last, and returns whether it is sealed. On lawful files, this vault is
-    /// faithful (`telling`), and the file then has exactly the bytes of the vault. If the vault is sealed, a host crash
-    /// can leave nothing else.
+    /// Takes back the vault that was borrowed last, and returns whether it is sealed. On lawful files, the file then
+    /// has exactly the bytes of the vault and, if the vault is sealed, a host crash can leave nothing else.
     fn return_vault(&mut self, vault: Self::Filed) -> bool
         ensures nature { (state self.new).view.nature ≡ (state self.old).view.nature }
         ensures sealed { result ≡ (Self.Filed.state vault).sealed }
         ensures takes { is_lawful (state self.old).view ≡ true → (name : Name) → (state self.old).borrowed ≡ Some name
             → TakesBack name (Self.Filed.state vault) (state self.old) (state self.new) };
 
-    /// Returns whether a later run will find the vault that was taken back last, if this vault was sealed. The vault is
-    /// found if `name`, the name of its file, still refers to this file, and the file has as many bytes as were written
-    /// to the vault. Returns true if this vault wasn't sealed, or if no vault was taken back. `Disk` checks only files
-    /// that `vault_in_new` created, and uses the name given there instead of `name`.
+    /// Returns false if the vault that was taken back last was sealed, but a later run would not find it. A `Disk`
+    /// checks only files that `vault_in_new` created: whether their names still refer to them, and their lengths.
     fn is_kept(&self, name: &str) -> bool
         ensures { result ≡ false → (state self.now).view.nature.fails (Unwritten name.now) ≡ true };
 
-    /// Returns the system's error of the last write or sync that failed in the vault that was taken back last, or
-    /// `None` if none failed. Contracts claim nothing about it. A store without files of the system returns `None`.
+    /// Returns the system's error of the last failed write or sync of the vault that was taken back last, if any.
     fn vault_error(&self) -> Option<io::Error>;
 
-    /// Creates or truncates the named file, and lends it as a log. `Disk` refuses to truncate a journal. It truncates
-    /// any other existing regular file just before the first write, or at a flush if nothing was written.
+    /// Creates or truncates the named file, and lends it as a log. A `Disk` refuses a journal, and lends any other file
+    /// as a `LogFile`, which truncates a regular file just before the first write or flush, unless `append` is called.
     fn log_in(&mut self, name: &str) -> Result<Self::Log, CreateFault>
         ensures nature { (state self.new).view.nature ≡ (state self.old).view.nature }
         ensures alone { is_lawful (state self.old).view ≡ true
@@ -352,8 +313,7 @@ pub trait Store: AllocGlobal {
     ghost seen_may_stay: { (files : Self) (name : Name)
         → (state files).may_leave name ((state files).view.seen name) };
 
-    // A law of lawful files: names that aren't apart are names of one file, and so are names for which `is_one_file`
-    // may return true. Without this law, a store could say that no two names are apart, and then change any file in
-    // each call.
+    // A law of lawful files: names that aren't apart, or for which `is_one_file` may return true, are names of one
+    // file. Without this law, a store could say that no two names are apart, and then change any file in each call.
     ghost names_of_one: { (files : Self) → NamesAreOfOne (state files) };
 }

@@ -20,8 +20,7 @@ pub enum Content {
 
 #[derive(Drop)]
 pub enum Change {
-    /// The file was overwritten in place with these bytes, or after a torn write only with the first of them, from its
-    /// start.
+    /// These bytes overwrote the file in place, from its start. A failed write may have written only a prefix of them.
     Written(Vec<u8>),
     /// The length was set to this number of bytes.
     Cut(u64),
@@ -40,9 +39,8 @@ pub struct Step {
 pub enum Loss {
     /// Nothing: only the process was killed.
     Nothing,
-    /// The host crashed. The changes since the last sync are lost, and so is a file that was created if its directory
-    /// wasn't synced since. Exception: a file that was created for a vault or log since its last sync keeps its present
-    /// bytes, if a host crash can't remove it.
+    /// The host crashed. Changes since the last sync are lost, and so is a created file whose directory wasn't synced.
+    /// A file created for a vault or log since its last sync keeps its bytes, if its directory was synced.
     Unsynced,
 }
 
@@ -89,6 +87,7 @@ impl Stored {
         self.name.as_slice() == name
     }
 
+    /// Returns whether the file exists, and no vault or log in it is borrowed.
     pub fn is_at_hand(&self) -> bool
         ensures { result ≡ (is_some self.now.content && not self.now.out) }
     {
@@ -104,8 +103,7 @@ impl Stored {
         }
     }
 
-    // Replaces the content of the file, and records the change. Memory for the record is reserved first, so that
-    // nothing changes if memory runs out.
+    // Replaces the content, and records the change. Memory is reserved first, so that a failure changes nothing.
     fn change(&mut self, content: Content, change: Change) -> Result<(), AllocError>
         ensures { Alters result content change self.old self.new }
     {
@@ -116,8 +114,7 @@ impl Stored {
     }
 
     /// Overwrites the file in place with `bytes`, from its start. If `bytes` has more than `most` bytes, writes only
-    /// the first `most` of them and returns an error. Fails with `NotFound` if the file is missing. Also fails if
-    /// memory runs out.
+    /// the first `most` and returns an error. Also fails if the file is missing (`NotFound`) or memory runs out.
     pub fn write(&mut self, alloc: Global, bytes: &[u8], most: usize) -> io::Result<()>
         ensures { FileWrites bytes.now result self.old self.new }
     {
@@ -151,6 +148,7 @@ impl Stored {
         self.steps.clear();
     }
 
+    /// Records that the directory of the file was synced.
     pub fn place(&mut self)
         ensures { FilePlaces self.old self.new }
     {
@@ -169,8 +167,8 @@ impl Stored {
         Ok(())
     }
 
-    /// Creates or truncates the file, to lend a vault or a log in it. Fails if memory runs out. With `is_new`, fails
-    /// with `AlreadyExists` if the file exists, and otherwise creates it so that a host crash can't remove it.
+    /// Creates or truncates the file, to lend a vault or a log in it. With `is_new`, fails with `AlreadyExists` if the
+    /// file exists, and a host crash can't remove the new file. Fails if memory runs out.
     pub fn lend(&mut self, alloc: Global, is_new: bool) -> io::Result<()>
         ensures { FileBorrows is_new result self.old self.new }
     {
@@ -184,6 +182,7 @@ impl Stored {
         Ok(())
     }
 
+    /// Creates or replaces the file durably, with these bytes.
     pub fn settle(&mut self, bytes: Vec<u8>)
         ensures { FileIsDurable bytes.items self.old self.new }
     {
@@ -204,8 +203,7 @@ impl Stored {
         self.out = false;
     }
 
-    // Removes the file if a host crash may remove it. Otherwise restores the content that the file had at the last
-    // sync. But a file that was missing at the last sync was created for a vault or log, and keeps its present bytes.
+    // Removes the file if a host crash may. Otherwise undoes all `steps`, unless the file was missing before them.
     fn forget(&mut self)
         ensures { FileForgets self.old self.new }
     {

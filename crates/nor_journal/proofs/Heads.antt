@@ -1,4 +1,3 @@
--- Reading and writing a header agree with its encoding.
 use Rattle.std.proofs.Common.{◌≡◌, ◌≢◌, ◌∙◌, ℕ, ◌+◌, ◌-◌, ◌≤◌, List, [], ◌∷◌, ◌++◌, length, get_or, take, drop, refl}
 use Rattle.std.proofs.Common.{sym, ap, arith, Option, Some, None, Result, Ok, Err}
 use Rattle.std.specs.Prelude.{IfSome, MatchResult}
@@ -33,7 +32,7 @@ said k bytes magic unique status fits long begins is two =
     rw (← begins, ← is, ← two, ← id, number, ← take-add 8 3 bytes, ← take-add 11 k bytes)
     (rw (← take-add (11 + k) 2 bytes, ← take-add (11 + k + 2) 4 bytes) (sym (take-append-drop (11 + k + 2 + 4) bytes)))
 
--- Holds if `part` has eight bytes and `unique` is `part`, or `part` has another length and `unique` is None.
+-- Holds if `unique` is `part` and has eight bytes, or `unique` is None and `part` doesn't have eight bytes.
 abbrev IsUnique : (part : List ℕ) → Option (List ℕ) → Type 0
 IsUnique part unique = MatchOption unique (length part ≢ 8) (λ u. (part ≡ u) × (length u ≡ 8))
 

@@ -1,4 +1,3 @@
--- The length of a journal's encoding.
 use Rattle.std.proofs.Common.{◌≡◌, ℕ, ◌+◌, ◌*◌, List, [], ◌∷◌, ◌++◌, length, refl, arith}
 use Rattle.std.proofs.lemmas.List.{length-append}
 use Rattle.sha2.proofs.Facts256.{length-sha256}

@@ -1,4 +1,3 @@
--- The positions of the parts of a journal in the bytes that are read.
 use Rattle.std.proofs.Common.{◌≡◌, ℕ, ◌+◌, ◌-◌, ◌*◌, ◌≤◌, List, ◌++◌, length, take, drop, refl, sym, ap, ◌∙◌}
 use Rattle.std.proofs.Common.{append_assoc, arith, inr}
 use Rattle.std.proofs.lemmas.List.{take-append-drop, length-append, length-drop, length-take, take_at, drop_at}

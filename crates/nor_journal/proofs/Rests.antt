@@ -1,5 +1,5 @@
--- Lemmas about the final state of a vault that a function borrows, for a result that still borrows the vault or an
--- error. The handwritten proofs of `Writer::into_result`, `Writer::start` and `Writer::sector` use them.
+-- Lemmas for the handwritten proofs of `into_result`, `start` and `sector`: the result of a function determines the
+-- final state of a vault that the function borrows. Rattle doesn't prove this if the vault's type is a parameter.
 use mathlib.Core.Path.{◌≡◌, refl}
 use mathlib.Core.Logic.{inl, inr}
 use mathlib.Core.Option.{Option, some, none}
@@ -82,7 +82,6 @@ module _ {M : Type 1} {𝓤 : Ura M} (𝓛 : Logic 𝓤) (A E : RattleType) (w :
       feq_i ! (List Val) (live 1 (vcons w vnil) ∷ []) (live 1 (vcons w vnil) ∷ []) refl $ fjoin ! $
       fpack ! (List Val) (tagged_with (form_of (shape N)) (payload (rowss N.parts)) (inr (inl (x, tt))) (live 1 (vcons w vnil) ∷ [])) (w ∷ []) $ done !
 
--- the code after the first statement, or all of the code if it is a single statement
 abbrev pub tail : Body → Body
 tail (seq first rest) = rest
 tail body = body

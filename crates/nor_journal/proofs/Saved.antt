@@ -1,4 +1,3 @@
--- Lemmas about the list of saved sectors, for loops over it and for the search for a sector.
 use Rattle.std.proofs.Common.{add-one, ◌≡◌, ℕ, zero, suc, ◌+◌, ◌/◌, ◌<◌, ◌≤◌, cond, eqb, List, [], ◌∷◌, ◌++◌, length}
 use Rattle.std.proofs.Common.{take, refl, sym, ap, ◌∙◌, arith, Option, Some, None, inl, inr}
 use Rattle.std.specs.Prelude.{◌↔◌, slice_get}
@@ -127,7 +126,7 @@ sector_saved h bytes k i s j view has within is =
       (rising_at (h.size / 4096) 0 (saved_records k bytes) i s has.rising at).0,
     )
 
--- Holds if the record that is searched for can only be from index `low` up to, but not including, `high`.
+-- Holds if only the records from index `low` up to, but not including, `high` can have the number `number`.
 pub record IsSought (saved : List SavedSector) (number low high : ℕ) : Type 0 where
   pub order : low ≤ high
   pub within : high ≤ length saved

@@ -1,4 +1,3 @@
--- Lemmas about the set of sectors that a journal saves, while it is written and when it is read.
 use Rattle.std.proofs.Common.{◌≡◌, ℕ, ◌+◌, ◌*◌, ◌/◌, ◌%◌, ◌<◌, ◌≤◌, Bool, true, false, List, [], refl, sym, subst, ◌∙◌}
 use Rattle.std.proofs.Common.{arith, Option}
 use Rattle.std.specs.Prelude.{Result, Ok, Err, IsOkAnd}

@@ -1,4 +1,3 @@
--- Lemmas about encoding and decoding numbers, and about consecutive records and the ascending list of their sectors.
 use Rattle.std.proofs.Common.{◌≡◌, ℕ, ◌+◌, ◌^◌, ◌<◌, ◌≤◌, List, ◌++◌, length, get_or, take, drop, refl, arith, inl, inr}
 use Rattle.std.proofs.Common.{zero, suc, ◌*◌, ◌/◌, [], ◌∷◌, sym, ap, ◌∙◌, add-one, Some}
 use Rattle.std.proofs.lemmas.Bool.{cases_lt}

@@ -38,7 +38,6 @@ none_more_below : (set : ℕ → Bool) (n : ℕ) → set n ≡ false
     → (s : ℕ) → (nat_lt s (n + 1) && set s) ≡ (nat_lt s n && set s)
 none_more_below set n is s = grind (arith, nat_tests)
 
--- Holds if some content continues `c`, with its header, and saves exactly the chip's sectors in the set below n.
 pub record GoesOn (chip : ℕ → ℕ) (set : ℕ → Bool) (c : Content) (n : ℕ) : Type 0 where
   pub content : Content
   pub same : SameHeader c content

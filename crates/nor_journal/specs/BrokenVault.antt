@@ -1,4 +1,3 @@
--- The vault that refuses one call, described by its inner vault.
 use Rattle.std.specs.Prelude.{◌≡◌, ℕ, ◌⊎◌, min, List, length, take}
 use Rattle.nor_journal.specs.declared.broken.BrokenVault.{BrokenVault}
 use Rattle.nor_journal.specs.declared.vault.VaultFault.{VaultFault}
@@ -14,8 +13,8 @@ calls_left vault = vault.calls_left
 abbrev pub kept_of : {V : Type 0} → BrokenVault V → ℕ
 kept_of vault = vault.kept
 
--- The effect of a refused `put` of `piece` on the inner vault. Either the inner vault accepted the first `kept` bytes
--- of the piece, or all of a shorter one, or it refused these; `fault.kept` is the number of bytes that it accepted.
+-- Holds if the inner vault accepted the first `kept` bytes of `piece`, or all of a shorter piece, or refused these
+-- bytes, and `fault.kept` is the number of bytes that the inner vault accepted.
 abbrev pub Broke : ℕ → VaultState → List ℕ → VaultState → VaultFault → Type 0
 Broke kept old piece new fault =
     (Took old (take kept piece) new × (fault.kept ≡ min kept (length piece)))

@@ -17,36 +17,30 @@ journal_fault_number Order = 5
 journal_fault_number Long = 6
 journal_fault_number Digest = 7
 
--- The length of a header in bytes. Its last four bytes are the size.
+-- The length of a header in bytes. The header's last four bytes are the chip's size.
 abbrev pub header_length : (unique : Option (List ℕ)) → ℕ
 header_length None = 17
 header_length (Some _) = 25
 
 abbrev pub HeaderFault : List ℕ → JournalFault → Type 0
--- the bytes end within the magic, or after a valid magic but within the header
 HeaderFault bytes Short = (length bytes < 8)
     ⊎ ((unique : Option (List ℕ)) × (take 8 bytes ≡ magic unique) × (length bytes < header_length unique))
--- the first eight bytes aren't the magic of a format
 HeaderFault bytes Magic = (8 ≤ length bytes) × ((unique : Option (List ℕ)) → take 8 bytes ≢ magic unique)
--- the header is complete, but the size in it isn't a size that a chip may have
 HeaderFault bytes Size = (unique : Option (List ℕ)) × (take 8 bytes ≡ magic unique)
     × (header_length unique ≤ length bytes)
     × (is_chip_size (number_at (drop (header_length unique - 4) bytes)) ≡ false)
 HeaderFault bytes _ = ⊥
 
--- Holds if the record at the beginning of `rest` has this fault, on a chip with `sectors` sectors. Numbers of records
--- ascend, so `least` is the least possible one.
+-- Holds if the record at the beginning of `rest` has this fault. The record's number must be at least `least` and below
+-- `sectors`.
 abbrev pub RecordFault : (sectors least : ℕ) → (rest : List ℕ) → JournalFault → Type 0
--- the number is incomplete, or the number is valid but the sector's bytes are incomplete
 RecordFault sectors least rest Short =
     (length rest < 4) ⊎ ((least ≤ number_at rest) × (number_at rest < sectors) × (length rest < 4100))
--- the number isn't the end mark, and no sector of the chip has this number
 RecordFault sectors least rest Place = (4 ≤ length rest) × (take 4 rest ≢ end_mark) × (sectors ≤ number_at rest)
--- a sector of the chip has this number, but the number isn't greater than that of the record before
 RecordFault sectors least rest Order = (4 ≤ length rest) × (number_at rest < sectors) × (number_at rest < least)
 RecordFault sectors least rest _ = ⊥
 
--- Holds if `rest` begins with the end mark, and the digest after it is incomplete, wrong, or followed by more bytes.
+-- Holds if `rest` begins with the end mark, and the digest after that is incomplete, followed by bytes, or wrong.
 abbrev pub EndFault : (before rest : List ℕ) → JournalFault → Type 0
 EndFault before rest Short = (take 4 rest ≡ end_mark) × (length rest < 36)
 EndFault before rest Long = (take 4 rest ≡ end_mark) × (36 < length rest)
@@ -58,7 +52,6 @@ EndFault before rest _ = ⊥
 abbrev pub NextFault : Content → List ℕ → JournalFault → Type 0
 NextFault c rest fault = RecordFault (c.size / 4096) (next_number c) rest fault ⊎ EndFault (front c) rest fault
 
--- Holds if `bytes` begin with the header and records of a valid content, and the bytes after these have this fault.
 pub record FaultAfterFront (bytes : List ℕ) (fault : JournalFault) : Type 0 where
   pub content : Content
   pub is_content : IsContent content

@@ -1,4 +1,3 @@
--- The state of a vault in a file, and the effect of its calls on the file.
 use Rattle.std.specs.Prelude.{ℕ, Bool, false, List, [], ◌∷◌, take, Option, Result, Ok, Err, if◌then◌else◌}
 use Rattle.std.specs.Io.KnownBytes.{Appends, Keeps}
 use Rattle.nor_journal.specs.declared.file_vault.FileVault.{FileVault}
@@ -20,13 +19,12 @@ filed_by vault = record {
   failures = vault.failures;
 }
 
--- The effect of `put` on the contents of a file, if known: the whole piece is appended, or only its first `kept` bytes.
+-- Holds if known contents grow by the whole piece or, if `put` failed, only by its first `kept` bytes.
 abbrev pub FileTakes : {T : Type 0} → (old new : Option (List ℕ)) → List ℕ → Result T VaultFault → Type 0
 FileTakes old new piece (Ok _) = Appends old new piece
 FileTakes old new piece (Err fault) = Appends old new (take fault.kept piece)
 
--- The effect of a sync on a file, if its contents are known. They don't change, and a sync that succeeds makes them
--- durable.
+-- Holds if known contents didn't change and, if the sync succeeded, are now durable (`synced`).
 abbrev pub SyncsFile : {T E : Type 0} → (old new synced : Option (List ℕ)) → Result T E → Type 0
 SyncsFile old new synced (Ok _) = Keeps old new × Keeps old synced
 SyncsFile old new synced (Err _) = Keeps old new

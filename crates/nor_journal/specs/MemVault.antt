@@ -1,9 +1,7 @@
--- The state of a vault in memory.
 use Rattle.std.specs.Prelude.{ℕ, true, vec_capacity}
 use Rattle.nor_journal.specs.declared.mem_vault.MemVault.{MemVault}
 use Rattle.nor_journal.specs.Vault.{VaultState}
 
--- how many bytes the vault's buffer holds before it has to grow
 abbrev pub room_of : MemVault → ℕ
 room_of vault = vec_capacity vault.bytes
 

@@ -28,23 +28,22 @@ pub record IsHeader (h : Head) : Type 0 where
   pub status : length h.status ≡ 2
   pub size : is_chip_size h.size ≡ true
 
--- Holds if `bytes`, the bytes after the header `h`, begin with k complete records in ascending order.
+-- Holds if `bytes`, the bytes after the header `h`, begin with `k` complete records of ascending sectors of the chip.
 pub record HasRecords (h : Head) (bytes : List ℕ) (k : ℕ) : Type 0 where
   pub within : 4100 * k ≤ length bytes
   pub rising : AreRising (h.size / 4096) 0 (saved_records k bytes)
 
--- Holds if `bytes`, the bytes after the header `h`, begin with valid records, or none, and then one with this fault.
 pub record FaultAfterRecords (h : Head) (bytes : List ℕ) (fault : JournalFault) : Type 0 where
   pub count : ℕ
   pub records : HasRecords h bytes count
   pub next : RecordFault (h.size / 4096) (next_number (content_at h count bytes)) (drop (4100 * count) bytes) fault
 
--- Holds if `bytes`, the bytes after the header `h`, begin with k valid records (`HasRecords`) and then the end mark.
+-- Holds if `bytes`, the bytes after the header `h`, begin with `k` valid records and then the end mark.
 pub record EndsAfter (h : Head) (bytes : List ℕ) (k : ℕ) : Type 0 where
   pub records : HasRecords h bytes k
   pub mark : take 4 (drop (4100 * k) bytes) ≡ end_mark
 
--- Holds if `bytes` begin with a complete record that has this number, from `least` up to, but not including, `sectors`.
+-- Holds if `bytes` begin with a complete record whose number is `number`, at least `least` and below `sectors`.
 pub record BeginsRecord (sectors least : ℕ) (bytes : List ℕ) (number : ℕ) : Type 0 where
   pub is : number ≡ number_at bytes
   pub rises : least ≤ number

@@ -34,15 +34,14 @@ pub record HasOneMore (saved : ℕ → Bool) (sector : ℕ) (more : ℕ → Bool
   pub here : more sector ≡ true
   pub others : (s : ℕ) → s ≢ sector → more s ≡ saved s
 
--- Holds if `bytes` are a prefix of a journal that satisfies `JournalSaves`.
+-- Holds if `bytes` are a prefix of a journal that satisfies `JournalSaves` for the same header, chip and sectors.
 pub record IsJournalPrefix (head : Content) (old : ℕ → ℕ) (saved : ℕ → Bool) (bytes : List ℕ) : Type 0 where
   pub content : Content
   pub same : SameHeader head content
   pub saves : Saves old saved content
   pub begins : StartsWith (text content) bytes
 
--- Holds if `bytes` are a journal that has the header of `head`, and saves exactly the sectors in `saved` of a chip with
--- the contents `old`.
+-- Holds if `bytes` are a journal with `head`'s header that saves exactly the sectors `saved` of the contents `old`.
 pub record JournalSaves (head : Content) (old : ℕ → ℕ) (saved : ℕ → Bool) (bytes : List ℕ) : Type 0 where
   pub content : Content
   pub same : SameHeader head content

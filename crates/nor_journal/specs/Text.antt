@@ -10,15 +10,12 @@ pub record SavedSector : Type 0 where
   pub number : ℕ
   pub bytes : List ℕ
 
--- The content of a journal. `IsContent` says when it is valid.
+-- The content of a journal: the chip's ID (3 bytes), unique ID (8 bytes, or None in format 1), status 1 and 2, and size
+-- in bytes, and the saved sectors. `IsContent` says when a content is valid.
 pub record Content : Type 0 where
-  -- the three bytes of the chip's ID
   pub id : List ℕ
-  -- the eight bytes of its unique ID, or None for a journal of format 1
   pub unique : Option (List ℕ)
-  -- status 1 and status 2
   pub status : List ℕ
-  -- the chip's size in bytes
   pub size : ℕ
   pub saved : List SavedSector
 
@@ -26,7 +23,7 @@ pub record IsSectorBelow (sectors : ℕ) (s : SavedSector) : Type 0 where
   pub place : s.number < sectors
   pub whole : length s.bytes ≡ 4096
 
--- Holds if the list of sectors ascends from `least` on, and each sector has 4,096 bytes and a number below `sectors`.
+-- Holds if the sectors ascend, and each has 4,096 bytes and a number that is at least `least` and below `sectors`.
 abbrev pub AreRising : (sectors least : ℕ) → List SavedSector → Type 0
 AreRising sectors least [] = ⊤
 AreRising sectors least (s ∷ rest) =
@@ -40,12 +37,10 @@ pub record IsContent (c : Content) : Type 0 where
   pub size : is_chip_size c.size ≡ true
   pub saved : AreRising (c.size / 4096) 0 c.saved
 
--- The first eight bytes of a journal: format 1 has no unique ID, format 2 has one.
 abbrev pub magic : (unique : Option (List ℕ)) → List ℕ
 magic None = codes "NORUNDO1"
 magic (Some _) = codes "NORUNDO2"
 
--- The header: the magic, the ID, the unique ID (only in format 2), the status bytes and the size.
 unfoldable pub head : Content → List ℕ
 head c = magic c.unique ++ c.id ++ unwrap_or c.unique [] ++ c.status ++ number_text c.size
 

@@ -1,16 +1,15 @@
--- The state of a vault in contracts, and the effect of its two calls.
+-- The state of a vault in contracts, and the effects of its two calls.
 use Rattle.std.specs.Prelude.{◌≡◌, ◌≢◌, ℕ, ◌+◌, ◌%◌, ◌^◌, ◌≤◌, Bool, true, false, List, [], ◌++◌, length, take, Result, Ok, Err}
 use Rattle.std.specs.Io.{StartsWith}
 use Rattle.nor_journal.specs.declared.vault.VaultFault.{VaultFault}
 
 pub record VaultState : Type 0 where
-  -- true for a faithful vault, which holds exactly the bytes it accepted
+  -- true for a faithful vault, which holds exactly the bytes that it accepted
   pub telling : Bool
   -- The accepted bytes, in order. If the vault isn't faithful, contracts know only that they aren't empty after a byte
   -- was accepted and before the seal.
   pub bytes : List ℕ
   pub sealed : Bool
-  -- the number of refusals, modulo 2^64
   pub failures : ℕ
 
 abbrev pub new_vault : Bool → VaultState
@@ -19,12 +18,10 @@ new_vault telling = record { telling = telling; bytes = []; sealed = false; fail
 abbrev pub one_more_failure : (failures : ℕ) → ℕ
 one_more_failure failures = (failures + 1) % 2 ^ 64
 
--- Holds if the number of refusals changed, because the vault refused a call.
 abbrev pub CountsRefusal : (old new : VaultState) → Type 0
 CountsRefusal old new = new.failures ≢ old.failures
 
--- The effect of an accepted piece, which is appended to a faithful vault. Any vault is empty after the piece only if it
--- was empty before and the piece is empty.
+-- Holds if the vault accepted `piece`, which a faithful vault appends to its bytes.
 pub record Took (old : VaultState) (piece : List ℕ) (new : VaultState) : Type 0 where
   pub telling : new.telling ≡ old.telling
   pub sealed : new.sealed ≡ old.sealed
@@ -32,21 +29,19 @@ pub record Took (old : VaultState) (piece : List ℕ) (new : VaultState) : Type 
   pub bytes : old.telling ≡ true → new.bytes ≡ old.bytes ++ piece
   pub empty : new.bytes ≡ [] → (old.bytes ≡ []) × (piece ≡ [])
 
--- The effect of every refusal: the number of refusals is one higher (modulo 2^64).
+-- Holds if the vault refused a call, so the number of refusals is one higher (modulo 2^64).
 pub record Refused (old new : VaultState) : Type 0 where
   pub telling : new.telling ≡ old.telling
   pub sealed : new.sealed ≡ old.sealed
   pub failures : new.failures ≡ one_more_failure old.failures
 
--- The effect of a refused piece. A faithful vault has accepted its first `kept` bytes. Any vault is empty after the
--- refusal only if it was empty before and `kept` is 0.
+-- Holds if the vault refused `piece` after its first `kept` bytes, which a faithful vault appended.
 pub record PutRefused (old : VaultState) (piece : List ℕ) (kept : ℕ) (new : VaultState) : Type 0 where
   pub refused : Refused old new
   pub within : kept ≤ length piece
   pub bytes : old.telling ≡ true → new.bytes ≡ old.bytes ++ take kept piece
   pub empty : new.bytes ≡ [] → (old.bytes ≡ []) × (kept ≡ 0)
 
--- The effect of a seal. The bytes of a faithful vault don't change.
 pub record Sealed (old new : VaultState) : Type 0 where
   pub telling : new.telling ≡ old.telling
   pub sealed : new.sealed ≡ true
@@ -58,7 +53,6 @@ abbrev pub Puts : {T : Type 0} → (old : VaultState) → (piece : List ℕ) →
 Puts old piece (Ok _) new = Took old piece new
 Puts old piece (Err fault) new = PutRefused old piece fault.kept new
 
--- The effect of a `seal`. A refused seal has the same effect as a refused `put` of no bytes.
 abbrev pub Seals : {T : Type 0} → (old : VaultState) → Result T VaultFault → (new : VaultState) → Type 0
 Seals old (Ok _) new = Sealed old new
 Seals old (Err fault) new = PutRefused old [] fault.kept new
@@ -67,29 +61,27 @@ Seals old (Err fault) new = PutRefused old [] fault.kept new
 abbrev pub HoldsPrefix : VaultState → (whole : List ℕ) → Type 0
 HoldsPrefix vault whole = vault.telling ≡ true → StartsWith whole vault.bytes
 
--- Holds if a journal may be written to the vault, because it is unsealed and has accepted no byte.
 pub record IsFresh (vault : VaultState) : Type 0 where
   pub empty : vault.bytes ≡ []
   pub unsealed : vault.sealed ≡ false
 
--- The effect of pieces that were all accepted: no refusal was counted.
+-- Holds if the vault accepted all pieces of a call, so no refusal was counted.
 pub record Accepted (old new : VaultState) : Type 0 where
   pub telling : new.telling ≡ old.telling
   pub sealed : new.sealed ≡ old.sealed
   pub failures : new.failures ≡ old.failures
 
--- the effect of writing several pieces, which ends after the last piece or at the first refusal
+-- Holds if the vault accepted every piece of a call that succeeded, or refused a piece of a call that failed.
 abbrev pub PutsOn : {T : Type 0} → VaultState → Result T VaultFault → VaultState → Type 0
 PutsOn old (Ok _) new = Accepted old new
 PutsOn old (Err _) new = Refused old new
 
--- The effect of accepted last pieces and an accepted seal: no refusal was counted.
 pub record Completed (old new : VaultState) : Type 0 where
   pub telling : new.telling ≡ old.telling
   pub sealed : new.sealed ≡ true
   pub failures : new.failures ≡ old.failures
 
--- the effect of writing the last pieces and then sealing, which ends after the seal or at the first refusal
+-- Holds if the call succeeded and the vault is sealed, or the call failed and the vault refused a piece or the seal.
 abbrev pub Completes : {T : Type 0} → VaultState → Result T VaultFault → VaultState → Type 0
 Completes old (Ok _) new = Completed old new
 Completes old (Err _) new = Refused old new

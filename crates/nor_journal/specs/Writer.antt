@@ -1,4 +1,3 @@
--- The bytes that a writer has written to its vault so far.
 use Rattle.std.specs.Prelude.{◌≡◌, ℕ, ◌≤◌, Bool, true, List, Result, Ok, Err}
 use Rattle.std.specs.Borrow.{MutBor}
 use Rattle.sha2.specs.Hashers.{Holds256}
@@ -26,8 +25,8 @@ pub record HasWritten {V : Type 0} (state : V → VaultState) (writer : Writer V
   pub is : IsContent content
   pub put : HasPut state writer (front content)
 
--- Holds if exactly the header of `head`, and the records of the sectors in `saved`, all with numbers below n, were
--- written. Their bytes are those on a chip with the contents `old`.
+-- Holds if exactly the header of `head` and records of the sectors in `saved`, all below `n`, were written. The bytes
+-- of these records are those of a chip with the contents `old`.
 pub record HasPutSectors {V : Type 0} (state : V → VaultState) (writer : Writer V) (head : Content)
     (old : ℕ → ℕ) (saved : ℕ → Bool) (n : ℕ) : Type 0 where
   pub content : Content

@@ -5,20 +5,20 @@ ghost use Rattle.nor_journal.specs.BrokenVault.{inner_vault, calls_left, kept_of
 
 use crate::vault::{Vault, VaultFault};
 
-/// A vault that refuses one call, and passes every other call on to an inner vault. The calls of `put` and `seal` are
-/// counted together, from 1. The number of refusals also includes those of the inner vault.
+/// A vault that passes calls on to an inner vault, but refuses one of them.
 #[derive(Drop)]
 pub struct BrokenVault<V: Vault> {
     inner: V,
-    // the number of coming calls up to and including the refused one, or 0 if no further call is to be refused
+    // the number of calls up to and including the refused one, or 0 if no further call is to be refused
     calls_left: u64,
     kept: usize,
     failures: u64,
 }
 
 impl<V: Vault> BrokenVault<V> {
-    /// Returns a vault over `inner` that refuses its `nth` call, or no call if `nth` is 0. If that call is a `put`, the
-    /// vault first writes the first `kept` bytes of the piece, or all of a shorter piece, to `inner`.
+    /// Returns a vault over `inner` that refuses its `nth` call, or no call if `nth` is 0. Calls of `put` and `seal`
+    /// are counted together, from 1. A refused `put` first writes the first `kept` bytes of the piece to `inner`, or
+    /// all of a shorter piece.
     pub fn new(inner: V, nth: u64, kept: usize) -> BrokenVault<V>
         ensures state { ⟦<BrokenVault<V> as Vault>⟧.state result ≡ record (V.state inner) { failures = 0 } }
         ensures inner { inner_vault result ≡ inner }
@@ -33,14 +33,12 @@ impl<V: Vault> BrokenVault<V> {
         }
     }
 
-    /// Returns the inner vault.
     pub fn inner(&self) -> &V
         ensures { result.now ≡ inner_vault self.now }
     {
         &self.inner
     }
 
-    /// Consumes the wrapper and returns the inner vault.
     pub fn into_inner(self) -> V
         ensures { result ≡ inner_vault self }
     {
@@ -48,7 +46,7 @@ impl<V: Vault> BrokenVault<V> {
         inner
     }
 
-    /// Returns the number of refusals, modulo 2^64.
+    /// Returns the number of refusals, including those of the inner vault, modulo 2^64.
     pub fn failures(&self) -> u64
         ensures { result ≡ (⟦<BrokenVault<V> as Vault>⟧.state self.now).failures }
     {
@@ -94,7 +92,6 @@ impl<V: Vault> Vault for BrokenVault<V> {
         requires { (⟦<BrokenVault<V> as Vault>⟧.state self.old).sealed ≡ false }
         ensures law { Puts (⟦<BrokenVault<V> as Vault>⟧.state self.old) piece.now result
             (⟦<BrokenVault<V> as Vault>⟧.state self.new) }
-        // The call to refuse fails. `Broke` says which bytes of its piece the inner vault accepted.
         ensures breaks { calls_left self.old ≡ 1
             → IsErrAnd result
             (Broke (kept_of self.old) (V.state (inner_vault self.old)) piece.now (V.state (inner_vault self.new))) }

@@ -5,8 +5,7 @@ ghost use Rattle.nor_journal.specs.Fault.{journal_fault_number};
 use std::error::Error;
 use std::fmt;
 
-/// The first fault found when bytes are read as a journal. The order of the checks, which isn't that of the numbers, is
-/// defined in `specs/Fault.antt`.
+/// The first fault found when bytes are read as a journal, part by part from the beginning.
 #[derive(Clone, Copy, Debug, PartialEq, Eq)]
 pub enum JournalFault {
     /// The bytes end before the header, a record, the end mark or the digest is complete.

@@ -3,8 +3,7 @@ use std::fs::OpenFile;
 use std::io;
 use std::io::Write;
 
-/// A file to which pieces are appended, and which is synced at the end. Contracts use its contents only if they are
-/// known.
+/// A file to which pieces are appended, and which is synced at the end.
 pub trait VaultFile {
     ghost use Rattle.std.specs.Prelude.{ℕ, List, Option};
     ghost use Rattle.std.specs.Io.KnownBytes.{WriteAppends};
@@ -17,8 +16,8 @@ pub trait VaultFile {
     // The contents that the last successful sync made durable, if known.
     ghost synced: { Self → Option (List ℕ) };
 
-    /// Appends a prefix of the piece to the file, and returns its length, which may be 0. If the call fails, known
-    /// contents don't change.
+    /// Appends a prefix of `piece`, and returns its length, which may be 0. If the call fails, known contents don't
+    /// change.
     fn append(&mut self, piece: &[u8]) -> io::Result<usize>
         ensures bound { WritesAtMost result piece.now }
         ensures bytes { WriteAppends (contents self.old) (contents self.new) result piece.now };
@@ -28,8 +27,7 @@ pub trait VaultFile {
         ensures { SyncsFile (contents self.old) (contents self.new) (synced self.new) result };
 }
 
-/// Files of the operating system. `sync` calls `sync_all`, which also syncs the length. That `sync_all` makes the
-/// contents durable is assumed, not proved.
+/// Files of the operating system. That `sync_all` makes the contents and the length durable is assumed, not proved.
 impl<F: Write + OpenFile> VaultFile for F {
     ghost contents = { F.contents };
 

@@ -7,10 +7,10 @@ use crate::file::VaultFile;
 use crate::vault::{Vault, VaultFault};
 
 /// A vault that appends its bytes to a file opened for writing, and syncs the file when it is sealed. `put` fails if a
-/// write fails or writes no bytes, and `seal` if the sync fails.
+/// write fails or writes no bytes, and `seal` fails if the sync fails.
 ///
-/// That the file holds exactly the bytes that the vault accepted is assumed. Contracts don't know what a file of the
-/// system contains, so the vault's state isn't `telling`, and its `bytes` show only whether it accepted a byte.
+/// Contracts don't treat the vault as faithful (`telling`), because they don't know what a file of the system contains:
+/// that the file holds exactly the accepted bytes is assumed.
 #[derive(Drop)]
 pub struct FileVault<F: VaultFile> {
     file: F,
@@ -34,14 +34,12 @@ impl<F: VaultFile> FileVault<F> {
         }
     }
 
-    /// Returns true if the vault was sealed.
     pub fn is_sealed(&self) -> bool
         ensures { result ≡ (⟦<FileVault<F> as Vault>⟧.state self.now).sealed }
     {
         self.sealed
     }
 
-    /// Consumes the vault and returns its file.
     pub fn into_inner(self) -> F
         ensures { result ≡ file_of self }
     {

@@ -42,7 +42,7 @@ pub fn head_bytes(id: [u8; 3], unique: [u8; 8], status: [u8; 2], size: u32) -> [
 }
 
 /// Reads the header of either format, and returns it with the bytes after it. Returns `Short` if the header is
-/// incomplete, `Magic` if the first eight bytes aren't the magic of a format, or `Size` if no chip may have the size.
+/// incomplete, `Magic` if the first eight bytes aren't the magic of a format, or `Size` if a chip can't have the size.
 pub fn read_head(bytes: &[u8]) -> Result<(Head, &[u8]), JournalFault>
     ensures fault { IfErr result (HeaderFault bytes.now) }
     ensures found { IfOk result (λ x. IsHeader x.0 × (bytes.now ≡ head (with_header x.0) ++ x.1.now)) }

@@ -12,7 +12,7 @@ use crate::head::{HEADER_LEN, Head, read_head};
 use crate::records::{DIGEST_LEN, END_MARK, RECORD_LEN, check_end, count_records, record_at};
 use std::marker::Model;
 
-/// A journal that was read. The saved sectors are borrowed from its bytes. In contracts its value is a `Content`.
+/// A journal that was read, whose saved sectors are borrowed from the bytes read. In contracts it is a `Content`.
 #[derive(Drop)]
 pub struct Journal<'a> {
     head: Head,
@@ -38,14 +38,12 @@ impl<'a> Journal<'a> {
     /// `bytes` aren't a journal, returns their first fault (see `JournalFault`).
     pub fn read(bytes: &'a [u8]) -> Result<Journal<'a>, JournalFault>
         ensures found { IfOk result (λ journal. IsContent journal × (bytes.now ≡ text journal)) }
-        // A valid journal is always read.
         ensures only { (c : Content) → IsContent c → bytes.now ≡ text c
             → IsOkAnd result (λ journal. journal ≡ c) }
-        // A journal that saves the sectors `saved` of a chip with the contents `old` is read as one that saves them.
         ensures kept { (head : Content) (old : ℕ → ℕ) (saved : ℕ → Bool)
             → JournalSaves head old saved bytes.now
             → IsOkAnd result (λ journal. SameHeader head journal × Saves old saved journal) }
-        // No proper prefix of a journal is a journal.
+        // No proper prefix of `bytes` is a journal.
         ensures whole { OnOk result ((c : Content) (n : ℕ) → IsContent c → take n bytes.now ≡ text c
             → length bytes.now ≤ n) }
         ensures fault { IfErr result (HasFault bytes.now) }
@@ -67,7 +65,6 @@ impl<'a> Journal<'a> {
         })
     }
 
-    /// Returns the three bytes of the chip's ID.
     pub fn id(&self) -> [u8; 3]
         ensures value { result ≡ self.now.id }
         ensures sound { IsContent self.now }
@@ -107,7 +104,7 @@ impl<'a> Journal<'a> {
         self.count
     }
 
-    /// Returns the number and the 4,096 bytes of the saved sector with index `i`, which must be less than `count`.
+    /// Returns the number and the 4,096 bytes of the saved sector with index `i`, which must be less than `count()`.
     pub fn sector(&self, i: usize) -> (u32, &'a [u8])
         requires { i < length self.now.saved }
         ensures value { slice_get self.now.saved i ≡ Some (record { number = result.0; bytes = result.1.now }) }
@@ -144,7 +141,7 @@ impl<'a> Journal<'a> {
     }
 }
 
-/// A law: each journal has one content, and no journal is a proper prefix of another.
+/// A law: each journal has one content, and no journal is a proper prefix of another journal.
 pub fn one_text()
     ensures { (c d : Content) (x y : List ℕ) → IsContent c → IsContent d → text c ++ x ≡ text d ++ y
         → (c ≡ d) × (x ≡ y) }

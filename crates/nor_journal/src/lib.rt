@@ -1,8 +1,7 @@
-//! Journals, with which a change of a chip can be undone, and vaults, which receive a journal piece by piece and are
-//! then sealed.
+//! Journals, with which a change of a chip can be undone, and vaults, which receive the bytes of a journal.
 //!
-//! A journal has the original chip's ID, unique ID (only in format 2), size and status bytes, and the contents of the
-//! saved sectors. It ends with an end mark and a SHA-256 digest. Format 2 is written; formats 1 and 2 are read.
+//! A journal contains the original chip's ID, unique ID (only in format 2), size and status bytes, and the contents of
+//! the saved sectors. Format 2 is written; formats 1 and 2 are read.
 //!
 //! ```rust
 //! use nor_journal::{Journal, MemVault, Writer, journal_len};
@@ -15,20 +14,6 @@
 //! assert_eq!(rt; (journal.size(), journal.count()), (65536, 1));
 //! assert!(rt; journal.find(0).is_some() && journal.find(1).is_none());
 //! ```
-//!
-//! The source files:
-//!
-//! - `vault.rt`: `Vault`, the contract of a vault
-//! - `mem_vault.rt`: `MemVault`, a vault in memory
-//! - `file_vault.rt`: `FileVault`, a vault in a file
-//! - `file.rt`: `VaultFile`, the file that a `FileVault` writes to
-//! - `broken.rt`: `BrokenVault`, a vault that refuses one call, for tests
-//! - `writer.rt`: `Writer`, which writes a journal of format 2
-//! - `journal.rt`: `Journal`, which reads both formats
-//! - `head.rt`: the header of a journal
-//! - `records.rt`: the records of saved sectors, the end mark and the digest
-//! - `number.rt`: little-endian numbers of four bytes
-//! - `fault.rt`: `JournalFault`, the reasons why bytes aren't a journal
 #![tactic(auto)]
 
 mod broken;

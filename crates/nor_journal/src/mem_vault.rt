@@ -27,14 +27,12 @@ impl MemVault {
         }
     }
 
-    /// Returns the bytes that the vault accepted.
     pub fn bytes(&self) -> &[u8]
         ensures { result.now ≡ (⟦<MemVault as Vault>⟧.state self.now).bytes }
     {
         self.bytes.as_slice()
     }
 
-    /// Returns true if the vault was sealed.
     pub fn is_sealed(&self) -> bool
         ensures { result ≡ (⟦<MemVault as Vault>⟧.state self.now).sealed }
     {

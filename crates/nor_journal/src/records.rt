@@ -13,7 +13,6 @@ use sha2::{Digest, Sha256};
 
 pub const RECORD_LEN: usize = 4 + SECTOR_LEN as usize;
 
-/// The four bytes after the last record.
 pub const END_MARK: [u8; 4] = [0xFF; 4];
 
 pub const DIGEST_LEN: usize = 32;

@@ -23,22 +23,20 @@ impl fmt::Display for VaultFault {
 
 impl Error for VaultFault {}
 
-/// A sink that receives the bytes of a journal piece by piece, and is then sealed. If the vault is faithful
-/// (`telling`), the clauses say which bytes it holds. Otherwise they say only that its bytes aren't empty if it has
-/// accepted a byte and isn't sealed.
+/// A sink that receives the bytes of a journal piece by piece, and is then sealed. The clauses say which bytes the
+/// vault holds only if it is faithful (`telling`).
 pub trait Vault {
     ghost use Rattle.nor_journal.specs.Vault.{VaultState, Puts, Seals};
 
     ghost state: { Self → VaultState };
 
-    /// Appends `piece` to the bytes of the vault, which must be unsealed. If the call fails, the vault has accepted
-    /// only the first `kept` bytes of the piece.
+    /// Appends `piece` to the unsealed vault. If this fails, the vault accepted only the first `kept` bytes of `piece`.
     fn put(&mut self, piece: &[u8]) -> Result<(), VaultFault>
         requires { (state self.old).sealed ≡ false }
         ensures { Puts (state self.old) piece.now result (state self.new) };
 
-    /// Seals the vault, so that its bytes are complete. The vault must be unsealed, and stays so if the call fails. A
-    /// vault that stores journals permanently must first make its bytes durable, although no clause requires that.
+    /// Seals the vault, which must be unsealed. If the call fails, the vault stays unsealed. A vault that stores
+    /// journals permanently must first make its bytes durable, although no clause requires that.
     fn seal(&mut self) -> Result<(), VaultFault>
         requires { (state self.old).sealed ≡ false }
         ensures { Seals (state self.old) result (state self.new) };

@@ -15,18 +15,14 @@ use crate::vault::{Vault, VaultFault};
 use nor_geometry::SECTOR_LEN;
 use sha2::{Digest, Sha256};
 
-/// A writer of a journal of format 2: first the header, then the sectors in ascending order, then the end. It borrows
-/// the vault until the journal is complete, and allocates nothing itself.
-///
-/// A call fails if the vault refuses a piece or the seal. A faithful vault, in which header and sectors were written in
-/// this order, then holds a prefix of the journal. No public clause says how long it is.
+/// A writer of a journal of format 2: first the header, then the sectors in ascending order, then the end. The writer
+/// borrows the vault until the journal is complete. A call fails only if the vault refuses a piece or the seal.
 #[derive(Drop)]
 pub struct Writer<'a, V: Vault> {
     vault: &'a mut V,
     hasher: Sha256,
 }
 
-// The result of writing a piece: the writer or, if the vault refused the piece, the vault and its error.
 #[derive(Drop)]
 enum Attempt<'a, V: Vault> {
     Accepted(Writer<'a, V>),
@@ -48,10 +44,9 @@ impl<'a, V: Vault> Writer<'a, V> {
     }
 
     /// Writes the header to `vault`, which must be empty and unsealed, and returns the writer. `status` has status 1
-    /// and 2. `size` is in bytes, and must be a power of two from 64 KiB to 16 MiB.
-    ///
-    /// If it fails, the vault is unsealed, and if it is faithful it holds a prefix of the header. Rattle can't use the
-    /// clause `refused` in the proof of a caller, which needs `on` and `header` instead.
+    /// and 2. `size` is in bytes, and must be a power of two from 64 KiB to 16 MiB. If the call fails, a faithful vault
+    /// holds a prefix of the header. A caller that must prove this calls `on` and `header` instead, because Rattle
+    /// can't use the clause `refused` in the caller's proof.
     pub fn start(
         vault: &'a mut V,
         id: [u8; 3],
@@ -111,9 +106,8 @@ impl<'a, V: Vault> Writer<'a, V> {
         }
     }
 
-    /// Appends the sector `number` to the journal, as `add` does, and returns the writer. If it fails, the writer is
-    /// consumed, and the vault is unsealed. Rattle can't use the clause `refused` in the proof of a caller, which needs
-    /// `add` instead.
+    /// Appends the sector `number` to the journal, as `add` does, and returns the writer. If the call fails, the writer
+    /// is lost. A caller that must prove what the vault then holds calls `add` instead.
     pub fn sector(
         mut self,
         number: u32,
@@ -168,9 +162,8 @@ impl<'a, V: Vault> Writer<'a, V> {
         Ok(())
     }
 
-    /// Writes the header. Must be called once, before any sector is written. `status` has status 1 and 2. `size` is in
-    /// bytes, and must be a power of two from 64 KiB to 16 MiB. If it fails, a faithful vault that was empty holds a
-    /// prefix of the header.
+    /// Writes the header, for which `start` describes the arguments. Must be called once, before any sector is written.
+    /// If the call fails, a faithful vault that was empty holds a prefix of the header.
     pub fn header(
         &mut self,
         id: [u8; 3],
@@ -192,10 +185,9 @@ impl<'a, V: Vault> Writer<'a, V> {
         self.piece(&head_bytes(id, unique, status, size))
     }
 
-    /// Appends a sector to the journal: its number and its 4,096 bytes. `number` must be greater than those before it,
-    /// and less than the chip's number of sectors. Otherwise the bytes aren't a journal.
-    ///
-    /// If it fails after a header and ascending sectors, a faithful vault holds a prefix of the journal.
+    /// Appends a record with a sector's number and its 4,096 bytes. For a valid journal, `number` must be greater than
+    /// the numbers before it, and less than the chip's number of sectors. If this fails after a header and ascending
+    /// sectors, a faithful vault holds a prefix of the journal.
     pub fn add(&mut self, number: u32, bytes: &[u8; SECTOR_LEN as usize]) -> Result<(), VaultFault>
         requires { (vault_seen V.state self.old).sealed ≡ false }
         ensures same_vault { (vault_of self.new).ghost_name ≡ (vault_of self.old).ghost_name }
@@ -213,8 +205,7 @@ impl<'a, V: Vault> Writer<'a, V> {
     }
 
     /// Writes the end mark and the digest, and seals the vault. After a header and ascending sectors, a faithful vault
-    /// then holds exactly the journal, or a prefix of it if the call fails. If only the seal failed, it holds all of
-    /// it.
+    /// then holds exactly the journal or, if the call fails, a prefix of the journal, which may be all of it.
     pub fn end(self) -> Result<(), VaultFault>
         requires { (vault_seen V.state self).sealed ≡ false }
         ensures vault { Completes (vault_seen V.state self.entry) result (V.state self.exit.0.now) }

@@ -1,4 +1,3 @@
--- The sums of sectors, and the encoding of a table of sums.
 use Rattle.std.specs.Prelude.{◌≡◌, ℕ, ⊤, List, ◌∷◌, ◌++◌, Option, None, Some, codes, replicate, slice_get, take}
 use Rattle.std.specs.List.{flat_map}
 use Rattle.std.specs.Option.{unwrap_or}
@@ -14,7 +13,7 @@ abbrev pub Agree : (before after : Option (List ℕ)) → Type 0
 Agree None after = ⊤
 Agree (Some sum) after = after ≡ Some sum
 
--- the encoding of an entry, nine bytes: 1 and the sum, or nine zeros if the sector isn't known
+-- the nine bytes of an entry: 1 and the sum, or nine bytes 0 if the sector isn't known
 abbrev pub entry_text : Option (List ℕ) → List ℕ
 entry_text None = replicate 9 0
 entry_text (Some sum) = 1 ∷ sum
@@ -22,6 +21,5 @@ entry_text (Some sum) = 1 ∷ sum
 unfoldable pub sums_body : (id unique : List ℕ) → (entries : List (Option (List ℕ))) → List ℕ
 sums_body id unique entries = codes "NORSUMS1" ++ id ++ unique ++ flat_map entry_text entries
 
--- the encoding of a table for a chip with this ID and unique ID, with the SHA-256 of all bytes before it
 unfoldable pub sums_text : (id unique : List ℕ) → (entries : List (Option (List ℕ))) → List ℕ
 sums_text id unique entries = sums_body id unique entries ++ sha256 (sums_body id unique entries)

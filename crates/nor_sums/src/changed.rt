@@ -6,11 +6,10 @@ use crate::sums::{SECTORS, Sums};
 
 const NAMED: usize = 4;
 
-/// The sectors that differ: how many there are, and the first ones.
 #[derive(Clone, Copy, Default)]
 pub struct Changed {
     pub count: u32,
-    /// The numbers of the first sectors that differ. Entries at and after `count` mean nothing.
+    /// The numbers of the first sectors that differ. If `count` is less than 4, the entries from `count` on are unused.
     pub first: [u32; NAMED],
 }
 

@@ -7,14 +7,13 @@ use nor_journal::Journal;
 use sha2::{Digest, Sha256};
 use std::alloc::{AllocError, Global};
 
-// The first eight bytes of an encoding. The last of them is the version.
 const MAGIC: [u8; 8] = *b"NORSUMS1";
 
 const HEADER_LEN: usize = 19;
 
 const ENTRY_LEN: usize = 9;
 
-/// The length of an encoding in bytes.
+/// The length in bytes of an encoded table.
 pub const SHEET_LEN: usize = HEADER_LEN + ENTRY_LEN * SECTORS + 32;
 
 /// A table of sums, and the ID and the unique ID of the chip whose sectors it describes.
@@ -25,8 +24,7 @@ pub struct Sheet {
     pub sums: Sums,
 }
 
-/// Replaces the contents of `out` by the encoding of a table. If `out` has room for `SHEET_LEN` bytes, nothing is
-/// allocated. Otherwise an error is possible, if memory runs out.
+/// Replaces the contents of `out` with the encoding of a table. Fails only if `out` must grow and memory runs out.
 pub fn encode(
     id: [u8; 3],
     unique: [u8; 8],
@@ -58,7 +56,7 @@ fn push_entry(entry: Option<[u8; 8]>, out: &mut Vec<u8>) -> Result<(), AllocErro
     }
 }
 
-/// Decodes a table. Returns `None` if the bytes aren't an encoding, and an error if memory runs out.
+/// Decodes a table. Returns `None` if `bytes` aren't the encoding of a table, and an error if memory runs out.
 pub fn decode(alloc: Global, bytes: &[u8]) -> Result<Option<Sheet>, AllocError>
     ensures { IfOk result (λ found. IfSome found
         (λ sheet. bytes.now ≡ sums_text sheet.id sheet.unique sheet.sums.entries.items)) }
@@ -75,7 +73,7 @@ pub fn decode(alloc: Global, bytes: &[u8]) -> Result<Option<Sheet>, AllocError>
     }
 }
 
-// Reads the fields without checking the magic, the first byte of each entry and the digest.
+// Reads the fields. Checks only the length: `decode` checks the magic, the first byte of each entry, and the digest.
 fn read_fields(alloc: Global, bytes: &[u8]) -> Result<Option<Sheet>, AllocError> {
     if bytes.len() != SHEET_LEN {
         return Ok(None);
@@ -97,8 +95,7 @@ fn read_fields(alloc: Global, bytes: &[u8]) -> Result<Option<Sheet>, AllocError>
 }
 
 impl Sheet {
-    /// Returns whether the table may describe the chip before the session of this journal: it has the journal's IDs,
-    /// and the sum of each sector that the journal saves.
+    /// Returns whether the table has the IDs of the journal's chip, and the sum of each sector that the journal saves.
     pub fn fits(&self, journal: &Journal<'_>) -> bool {
         let is_same = journal.id() == self.id && journal.unique() == Some(self.unique);
         is_same

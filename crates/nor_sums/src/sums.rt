@@ -5,7 +5,7 @@ ghost use Rattle.nor_sums.specs.Sums.{entry_of, sum_of};
 use sha2::{Digest, Sha256};
 use std::alloc::{AllocError, Global};
 
-/// The number of entries of a table: the sectors of a chip of 16 MiB, the largest one.
+/// The number of entries of a table, which is the number of sectors of the largest chip (16 MiB).
 pub const SECTORS: usize = 4096;
 
 /// Returns the sum of a sector with these bytes: the first eight bytes of their SHA-256.
@@ -19,7 +19,7 @@ pub fn sum_of(bytes: &[u8]) -> [u8; 8]
     sum
 }
 
-/// The sum of each sector, or `None` for a sector that isn't known.
+/// The sums of a chip's sectors, indexed by the sector's number. A sector that isn't known has `None`.
 #[derive(Drop)]
 pub struct Sums {
     pub entries: Vec<Option<[u8; 8]>>,
@@ -71,7 +71,6 @@ impl Sums {
         }
     }
 
-    /// Returns the sum of a sector, or `None` if it isn't known.
     pub fn get(&self, sector: usize) -> Option<[u8; 8]>
         ensures { result ≡ entry_of self.now.entries.items sector }
     {

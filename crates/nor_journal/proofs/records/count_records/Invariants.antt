@@ -3,7 +3,6 @@ use Rattle.nor_journal.specs.Text.{next_number}
 use Rattle.nor_journal.specs.Reading.{HasRecords, content_at}
 use Rattle.nor_journal.proofs.records.count_records.Given as goal
 
--- The first `count` records are valid, and `rest` are the bytes after them.
 abbrev pub invariant-loop-number : goal.invariant-loop-number
 invariant-loop-number l = record {
   records : HasRecords l.head l.bytes l.count;

@@ -2,7 +2,6 @@ use Rattle.std.proofs.Common.{length, take, false, ◌-◌, ◌≡◌, ◌≤◌
 use Rattle.std.specs.Io.KnownBytes.{Appends}
 use Rattle.nor_journal.proofs.file_vault.FileVaultVault.put.Given as goal
 
--- If nothing was written since `new` (`used` is false), nothing was written before the call either.
 abbrev pub invariant-loop-kept : goal.invariant-loop-kept
 invariant-loop-kept g l = record {
   within : l.kept ≤ length l.piece;

@@ -1,6 +1,5 @@
--- A handwritten walk through the code, because Rattle doesn't prove the final state of a borrowed value whose type is a
--- parameter. In the first arm the reference to the vault goes into the result; in the second it is given up, so that
--- its last value is known.
+-- Proves the contract of `into_result` by hand. In the case `Accepted`, the result holds the reference to the vault. In
+-- the case `Refused`, the borrow ends, so the vault's final state is known.
 use mathlib.Core.Path.{◌≡◌, refl, sym}
 use native.Mathlib.Nat.{suc-ne-zero}
 use mathlib.Core.Logic.{inl, inr}

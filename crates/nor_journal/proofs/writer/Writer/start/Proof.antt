@@ -1,5 +1,4 @@
--- A handwritten walk through the code, because Rattle doesn't prove the final state of a borrowed value whose type is a
--- parameter. It combines the contracts of `try_start` and `into_result`.
+-- Proves the contract of `start` by hand, from the contracts of `try_start` and `into_result`.
 use mathlib.Core.Path.{◌≡◌, refl, sym, subst}
 use mathlib.Core.List.{[], ◌∷◌}
 use Prim.Native.Nat.{ℕ}
