@@ -167,8 +167,6 @@ pub last_names : (changes : Changes) → writes_code changes ≡ true → (error
 last_names changes writes Stopped names = tt
 last_names changes writes (Timeout address) names = inl (rw writes (omega arith), names)
 
--- The effects and results of the three parts before the last status write: the unlock (from `old` to `free`), the
--- erases (from `free` to `mid`) and the programs (from `mid` to `made`).
 pub record Parts (changes : Changes) (wanted : ℕ → ℕ) (old free mid made : BusState) (sent : ℕ)
     (erases programs : Tally) : Type 0 where
   pub inside : (s : ℕ) → raised_in changes s ≡ true → touched_in changes s ≡ true
@@ -178,7 +176,6 @@ pub record Parts (changes : Changes) (wanted : ℕ → ℕ) (old free mid made :
   pub programs_leave : LeavesPrograms (touched_in changes) (raised_in changes) wanted mid made
   pub program : DoesPrograms (touched_in changes) (raised_in changes) wanted mid made programs
 
--- Holds after all parts of `apply` succeeded. The bus was in the state `made` before the last status write.
 pub record Ended (changes : Changes) (wanted : ℕ → ℕ) (erases programs : ℕ) (old made new : BusState)
     (transactions : ℕ) : Type 0 where
   pub exactly : SendsExactly 0 0 (if writes_code changes then 1 else 0) made new

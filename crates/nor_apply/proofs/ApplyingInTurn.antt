@@ -1,4 +1,3 @@
--- Lemmas about the parts of `apply` in turn: the effect of the parts so far, and the number of their transactions.
 use Rattle.std.proofs.Common.{ℕ, ◌≡◌, ◌≤◌, ◌+◌, Bool, true, refl, arith}
 use Rattle.std.specs.Prelude.{if◌then◌else◌}
 use Rattle.std.specs.List.{range_with_len}
@@ -45,8 +44,7 @@ all_of n = n.erases + n.programs + n.status_writes
 abbrev pub sending_these : Changes → Numbers → Limits
 sending_these changes n = sending changes n.erases n.programs n.status_writes
 
--- Holds after some parts of the changes succeeded. The chip then has the bytes `bytes` and the protection bits `code`,
--- and the sectors recorded as erased are `worn`.
+-- Holds after some parts of `apply` succeeded, which left the bytes `bytes` and the protection bits `code` on the chip.
 pub record SoFar (changes : Changes) (wanted bytes : ℕ → ℕ) (worn : ℕ → Bool) (code : ℕ) (numbers : Numbers)
     (readings : ℕ) (old now : BusState) (transactions : ℕ) : Type 0 where
   pub ran : Ran (sending_these changes numbers) readings old now

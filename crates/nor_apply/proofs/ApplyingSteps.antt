@@ -1,4 +1,3 @@
--- Lemmas about the steps of `apply`: the unlock, the erases, the programs, and the status write at the end.
 use Rattle.std.proofs.Common.{ℕ, ◌≡◌, ◌<◌, ◌/◌, Bool, true, false, refl, ap, sym, ◌∙◌, arith}
 use Rattle.std.specs.Prelude.{◌||◌, bit_and, if◌then◌else◌}
 use Rattle.std.proofs.lemmas.Nat.{and_mask}
@@ -78,7 +77,6 @@ module _ {changes : Changes} {wanted : ℕ → ℕ} {old : BusState} (can : CanA
         grind (arith, has.bytes, is.byte, has.worn, is.wear, kept)
 
   module _ {bytes : ℕ → ℕ} {worn : ℕ → Bool} {mid : BusState} (is : IsIntermediate bytes worn (code_once changes) old mid) where
-    -- Without an unlock, `CanApply` says that no address is protected; after an unlock, all protection bits are clear.
     free : (a : ℕ) → touched_in changes (a / 4096) ≡ true → is_protected mid.chip a ≡ false
     free a touched =
         let before = kept_read can in let cleared = code_cleared old.chip.kept in

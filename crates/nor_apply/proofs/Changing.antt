@@ -1,4 +1,3 @@
--- If a relation for every exit, or one for success, holds for each of two successive parts, it holds for both together.
 use Rattle.std.proofs.Common.{◌≡◌, ℕ, ◌/◌, ◌⊎◌, inl, true, false, true≢false, arith, ◌∙◌, sym, ap}
 use Rattle.std.specs.Prelude.{Bool, ◌||◌, if◌then◌else◌}
 use Rattle.std.proofs.lemmas.Bool.{false_from_ne_true}

@@ -1,4 +1,3 @@
--- Lemmas about the successive erases of a set of sectors: the state between two erases, and each exit.
 use Rattle.std.proofs.Common.{ℕ, ◌≡◌, ◌<◌, ◌≤◌, ◌+◌, ◌*◌, ◌/◌, ◌-◌, ◌∙◌, ◌||◌, Bool, true, false, List, [], ◌∷◌, ◌++◌, length, inl, inr, refl, sym, ap, arith}
 use Rattle.std.proofs.lemmas.Bool.{cases_lt, or_cases, false_from_ne_true, and_from, le-leb, lt-ltb}
 use Rattle.std.proofs.lemmas.Bool.Decides.{nat_tests}
@@ -93,7 +92,7 @@ module _ {kinds : Kinds} {size : ℕ} {set done : ℕ → Bool} {unit : Erase} {
       (λ s. erases_sector (size / 4096) s unit) mid new
   erased_unit erased idle = rw (← sectors_same) (grind (arith, erased.bytes, erased.worn))
 
--- Holds after the erases `units` of the plan for a set succeeded. The erases in `left` are not sent yet.
+-- Holds after the erases `units` of the plan for `set` succeeded. The erases in `left` aren't sent yet.
 pub record ErasesSoFar (kinds : Kinds) (size : ℕ) (set : ℕ → Bool) (units left : List Erase) (old new : BusState)
     (tally : Tally) : Type 0 where
   pub below : (s : ℕ) → set s ≡ true → s < size / 4096

@@ -1,5 +1,4 @@
--- Lemmas about successive parts of a change on every bus: the sectors that they target, the number of their
--- transactions, and each exit.
+-- Lemmas about successive parts of a change on every bus: their targets, their transactions, and each exit.
 use Rattle.std.proofs.Common.{◌≡◌, ◌≤◌, ◌+◌, ◌*◌, ◌∙◌, ℕ, true, List, [], ◌∷◌, ◌++◌, length, sym, ap, refl, arith}
 use Rattle.std.proofs.lemmas.List.{length-append, length_push, append_assoc, append-nil}
 use Rattle.std.specs.List.{All}
@@ -16,7 +15,6 @@ use Rattle.nor_driver.proofs.Limits.{IsPartOf, AreParts, IsSum, sum_parts, sends
 use Rattle.nor_apply.specs.declared.tally.Tally.{Tally}
 use Rattle.nor_apply.specs.Spending.{Tallies}
 
--- Holds after a part of a change succeeded. It sent exactly the numbers of operations in `limits`.
 pub record Ran (limits : Limits) (readings : ℕ) (old new : BusState) (tally : Tally) : Type 0 where
   pub nature : KeepsNature old new
   pub sends : SendsWithin limits old new
@@ -133,8 +131,7 @@ module _ {limits : Limits} {r : ℕ} {old mid : BusState} {done : Tally} (ran : 
               let next = follows honest can in next.1 (leaves.reached (honest_now honest) next.0);
         }
 
--- Holds after the operations for the elements `done` of the list `all` succeeded. The operations for the elements
--- `left` are not sent yet.
+-- Holds after the operations for `done` succeeded. The operations for `left` aren't sent yet.
 pub record Listed {A : Type 0} (all done left : List A) (limits : ℕ → Limits) (old new : BusState)
     (tally : Tally) : Type 0 where
   pub split : done ++ left ≡ all

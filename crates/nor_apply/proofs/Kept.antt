@@ -1,4 +1,3 @@
--- Lemmas about the non-volatile status bits before and after a status write: the protection bits, and the others.
 use Rattle.std.proofs.Common.{◌≡◌, ◌+◌, ◌*◌, ◌/◌, ◌%◌, ℕ, List, slice_index, arith, ◌∙◌, ap, refl}
 use Rattle.std.specs.Prelude.{◌||◌, ◌==◌}
 use Rattle.nor_model.specs.Chip.{Chip, KeptBits, is_locked, kept_in}

@@ -1,5 +1,3 @@
--- Lemmas about the page programs of a sector, one for each span: the bytes of a page from the first to the last one
--- that differs from its target.
 use Rattle.std.proofs.Common.{◌≡◌, ◌<◌, ◌≤◌, ◌+◌, ◌-◌, ◌*◌, ◌/◌, ◌⊎◌, inl, inr, ◌∙◌, ℕ, Bool, true, List, [], ◌∷◌, ◌++◌, length, take, drop, slice_index, refl, ap, arith, length-take, length-drop, ◌||◌, zero, suc}
 use Rattle.std.specs.Prelude.{◌&&◌, ◌||◌, nat_le, nat_lt, bit_and, if◌then◌else◌, ◌==◌, not, min, count_by}
 use Rattle.std.specs.Int.Bits.{and_self}
@@ -196,8 +194,7 @@ pages_other content sector old wanted whole shown =
     (λ page. is_page_other content (byte_of sector wanted) (16 * sector + page))
     (page_same content sector old wanted whole shown)
 
--- Holds after the spans `spans` of a sector were programmed, and no other operation was sent. The spans in `left` are
--- not programmed yet.
+-- Holds after the spans `spans` of a sector were programmed. The spans in `left` aren't programmed yet.
 pub record SpansSoFar (sector : ℕ) (old wanted : List ℕ) (spans left : List PageSpan) (first now : BusState)
     (tally : Tally) : Type 0 where
   pub whole : length old ≡ 4096

@@ -1,5 +1,4 @@
--- Lemmas about the programming of one sector, which is read first unless it was erased, and about the loop that
--- programs all touched sectors.
+-- Lemmas about programming one sector, which is read first unless it was erased, and about the loop over all sectors.
 use Rattle.std.proofs.Common.{◌≡◌, ◌<◌, ◌≤◌, ◌+◌, ◌*◌, ◌/◌, ◌∙◌, ℕ, Bool, true, false, List, slice_index, refl, ap, sym, arith, inl, inr, true≢false}
 use Rattle.std.specs.Prelude.{◌&&◌, ◌||◌, nat_lt}
 use Rattle.std.proofs.lemmas.Bool.{cases_Bool, and_parts, lt-ltb, le-ltb}

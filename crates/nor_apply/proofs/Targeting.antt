@@ -1,4 +1,3 @@
--- Lemmas about the sectors that the parts of a change target, on every bus.
 use Rattle.std.proofs.Common.{◌≡◌, ◌<◌, ◌≤◌, ◌+◌, ◌/◌, ◌%◌, ◌⊎◌, ℕ, Bool, true, refl, arith}
 use Rattle.std.proofs.lemmas.Bool.Decides.{nat_tests}
 use Rattle.nor_model.specs.Sent.{block_targeted, is_in_targeted}

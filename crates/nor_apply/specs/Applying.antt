@@ -1,5 +1,4 @@
--- The effect of all changes of a session or restore together: the unlock, the erases, the programs and the status write
--- at the end.
+-- The effect of `apply`: the unlock, the erases, the programs and the status write at the end.
 use Rattle.std.specs.Prelude.{◌≡◌, ◌≤◌, ◌<◌, ◌+◌, ◌*◌, ◌/◌, ◌++◌, ◌&&◌, ◌||◌, ◌⊎◌, ◌==◌, ℕ, Bool, true, false, not, length, bit_and, if◌then◌else◌, ⊤}
 use Rattle.nor_model.specs.Status.{bytes_of}
 use Rattle.nor_model.specs.Chip.{Chip, kept_in}
@@ -29,7 +28,7 @@ touched_in changes = has changes.touched
 abbrev pub raised_in : Changes → ℕ → Bool
 raised_in changes = has changes.raised
 
--- True if the present protection bits (0 after an unlock) differ from the target bits, so that they must be written.
+-- True if the target protection bits must be written, because the present bits (0 after an unlock) differ from them.
 abbrev pub writes_code : Changes → Bool
 writes_code changes = not ((if changes.unlock then 0 else code_of (kept_in (bytes_of changes.status))) == changes.code)
 
@@ -72,7 +71,6 @@ pub record CanApply (changes : Changes) (wanted : ℕ → ℕ) (chip : Chip) : T
   pub falls : (a : ℕ) → touched_in changes (a / 4096) ≡ true → raised_in changes (a / 4096) ≡ false
       → bit_and (wanted a) (chip.bytes a) ≡ wanted a
 
--- The effect on a well-behaved bus if the changes could be made (`CanApply`) and succeeded.
 pub record HasApplied (changes : Changes) (wanted : ℕ → ℕ) (old new : BusState) : Type 0 where
   pub config : new.chip.config ≡ old.chip.config
   pub bytes : (a : ℕ) → new.chip.bytes a ≡ (if touched_in changes (a / 4096) then wanted a else old.chip.bytes a)
@@ -81,8 +79,7 @@ pub record HasApplied (changes : Changes) (wanted : ℕ → ℕ) (old new : BusS
   pub idle : new.chip.busy ≡ 0
   pub latch : new.chip.latch ≡ true → old.chip.latch ≡ true
 
--- A bound on the transactions if `touched` sectors are touched. It allows one read, one erase and sixteen page programs
--- for each touched sector, and two status writes.
+-- A bound on the transactions of `apply`: a read, an erase and 16 programs per touched sector, and two status writes.
 abbrev pub most_applied : ℕ → ℕ
 most_applied touched = touched + most_operation * (17 * touched + 2)
 
@@ -91,8 +88,7 @@ LeavesApply changes wanted =
     Leaves (most_applied (sector_count (touched_in changes))) (most_sent changes) (CanApply changes wanted)
     (MayChange (touched_in changes) (raised_in changes) wanted)
 
--- Holds if each of these sectors was the target of an erase since `old`, and all erases were sent before the first page
--- program.
+-- Holds if the erases since `old` target each of `sectors`, and all these erases were sent before any page program.
 pub record ErasesFirst (sectors : ℕ → Bool) (old new : BusState) : Type 0 where
   pub erasing : Sent
   pub later : Sent
@@ -101,7 +97,6 @@ pub record ErasesFirst (sectors : ℕ → Bool) (old new : BusState) : Type 0 wh
   pub unprogrammed : programs_of erasing ≡ 0
   pub unerased : erases_of later ≡ 0
 
--- Holds if `apply` succeeded with the counts `work`.
 pub record DoesApply (changes : Changes) (wanted : ℕ → ℕ) (old new : BusState) (work : Work) : Type 0 where
   pub erases : work.erases ≡ length (planned changes.kinds (changes.size / 4096) (raised_in changes))
   pub fewer_erases : work.erases ≤ sector_count (raised_in changes)

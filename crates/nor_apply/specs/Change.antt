@@ -1,5 +1,4 @@
--- The effect of a change of some sectors, at every exit and after success. Bytes may change only in touched sectors,
--- and only raised sectors may be erased.
+-- The effect of a change of some sectors, after success (`HasMade`) and at every exit (`MayChange`).
 use Rattle.std.specs.Prelude.{◌≡◌, ◌≤◌, ◌+◌, ◌-◌, ◌*◌, ◌/◌, ◌==◌, ◌||◌, ◌⊎◌, ℕ, Bool, true, false, List, slice_index, bit_and, if◌then◌else◌}
 use Rattle.nor_model.specs.Chip.{Chip}
 use Rattle.nor_model.specs.Guard.{is_protected}
@@ -19,15 +18,14 @@ pub record IsSized (size : ℕ) (kinds : Kinds) (chip : Chip) : Type 0 where
 abbrev pub OnlyFalls : (sectors : ℕ → Bool) → (wanted content : ℕ → ℕ) → Type 0
 OnlyFalls sectors wanted content = (a : ℕ) → sectors (a / 4096) ≡ true → bit_and (wanted a) (content a) ≡ wanted a
 
--- The effect, on a well-behaved bus and at every exit, of a change that the chip can carry out. On a steady bus each
--- byte of a sector that isn't raised is the old or the target byte.
+-- Holds if the chip differs from `old.chip` only as `IsWithin` allows at the touched sectors, and only raised sectors
+-- were erased. On a steady bus, each byte of a sector that isn't raised is the old or the target byte.
 pub record MayChange (touched raised : ℕ → Bool) (wanted : ℕ → ℕ) (old new : BusState) : Type 0 where
   pub within : IsWithin (addresses_of touched) old.chip new
   pub gentle : old.steady ≡ true → (a : ℕ) → raised (a / 4096) ≡ false
       → (new.chip.bytes a ≡ old.chip.bytes a) ⊎ (new.chip.bytes a ≡ wanted a)
   pub worn : (s : ℕ) → raised s ≡ false → new.worn s ≡ old.worn s
 
--- The effect, on a well-behaved bus, of a change of these addresses that succeeded.
 pub record HasMade (addresses : ℕ → Bool) (wanted : ℕ → ℕ) (erased : ℕ → Bool) (old new : BusState) : Type 0 where
   pub config : new.chip.config ≡ old.chip.config
   pub bytes : (a : ℕ) → new.chip.bytes a ≡ (if addresses a then wanted a else old.chip.bytes a)
@@ -45,6 +43,6 @@ blank a = 255
 abbrev pub only : (sector s : ℕ) → Bool
 only sector s = s == sector
 
--- The byte at address `a`, which must lie in the sector with this number and these bytes.
+-- The byte at address `a`, which must be in the sector `sector`. `bytes` are the bytes of this sector.
 abbrev pub byte_of : ℕ → List ℕ → ℕ → ℕ
 byte_of sector bytes a = slice_index bytes (a - 4096 * sector)

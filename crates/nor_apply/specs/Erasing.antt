@@ -29,8 +29,7 @@ LeavesErases sectors kinds size =
     Leaves (most_operation * sector_count sectors) (erasing (may_target sectors size) (sector_count sectors))
     (CanEraseAll sectors kinds size) (MayChange sectors sectors blank)
 
--- Holds after the erases succeeded. The theorem `fewest_is_least` of nor_plan states that no shorter list erases
--- exactly these sectors, if they lie on a chip of at most 4,096 sectors.
+-- Holds after the planned erases of `sectors` succeeded, with the counts in `tally`.
 pub record DoesErases (sectors : ℕ → Bool) (kinds : Kinds) (size : ℕ) (old new : BusState)
     (tally : Tally) : Type 0 where
   pub count : tally.count ≡ length (planned kinds (size / 4096) sectors)

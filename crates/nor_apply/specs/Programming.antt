@@ -15,8 +15,6 @@ use Rattle.nor_apply.specs.Change.{CanChange, OnlyFalls, MayChange, HasChanged, 
 use Rattle.nor_plan.specs.SectorSet.{none}
 use Rattle.nor_apply.specs.Spending.{Tallies}
 
--- ---- one sector
-
 abbrev pub most_pages : ℕ
 most_pages = 16 * most_operation
 
@@ -38,7 +36,6 @@ abbrev pub LeavesSector : (most : ℕ) → (Can : Chip → Type 0) → (sector :
 LeavesSector most Can sector wanted =
     Leaves most (programming (only sector) 16) Can (MayChange (only sector) none (byte_of sector wanted))
 
--- Holds after a call with at most `readings` reads programmed one sector.
 pub record DoesSector (readings : ℕ) (Can : Chip → Type 0) (sector : ℕ) (wanted : List ℕ) (old new : BusState)
     (tally : Tally) : Type 0 where
   pub fewer : tally.count ≤ 16
@@ -48,8 +45,7 @@ pub record DoesSector (readings : ℕ) (Can : Chip → Type 0) (sector : ℕ) (w
   pub counted : old.honest ≡ true → Can old.chip
       → tally.count ≡ count_below 16 (λ page. is_page_other old.chip.bytes (byte_of sector wanted) (16 * sector + page))
 
--- Holds after a sector was loaded into a buffer, whose bytes were `bytes` before and are `bytes'` now. An erased sector
--- isn't read, and the buffer stays as it was.
+-- Holds if a sector was read into a buffer whose bytes were `bytes`. If `erased` is set, the buffer keeps its bytes.
 pub record LoadsOk (sector : ℕ) (erased : Bool) (bytes bytes' : List ℕ) (old new : BusState) (reads : ℕ) : Type 0 where
   pub reads_once : reads ≡ (if erased then 0 else 1)
   pub added : AddsTransactions reads reads old.history new.history
@@ -57,8 +53,6 @@ pub record LoadsOk (sector : ℕ) (erased : Bool) (bytes bytes' : List ℕ) (old
   pub kept : erased ≡ true → bytes' ≡ bytes
   pub replied : erased ≡ false → old.honest ≡ true → old.chip.busy ≡ 0 → 4096 * (sector + 1) ≤ old.chip.config.size
       → IsSectorOf old.chip.bytes sector bytes'
-
--- ---- all touched sectors
 
 pub record CanProgramAll (touched raised : ℕ → Bool) (wanted : ℕ → ℕ) (chip : Chip) : Type 0 where
   pub can : CanChange touched chip
@@ -70,7 +64,6 @@ LeavesPrograms touched raised wanted =
     Leaves (most_sector * sector_count touched) (programming touched (16 * sector_count touched))
     (CanProgramAll touched raised wanted) (MayChange touched none wanted)
 
--- Holds after the programs succeeded.
 pub record DoesPrograms (touched raised : ℕ → Bool) (wanted : ℕ → ℕ) (old new : BusState) (tally : Tally) : Type 0 where
   pub fewer : tally.count ≤ 16 * sector_count touched
   pub exactly : SendsExactly 0 tally.count 0 old new

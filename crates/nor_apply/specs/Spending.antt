@@ -1,5 +1,4 @@
--- Bounds on a part of a session or restore: the number of its transactions, the sectors that it may target, and the
--- address that its timeout names.
+-- The transactions of a part of `apply`, the sectors that the part may target, and the address that a timeout names.
 use Rattle.std.specs.Prelude.{◌≡◌, ◌≤◌, ◌+◌, ◌*◌, ◌/◌, ◌&&◌, ◌||◌, ℕ, Bool, true, nat_le, ⊤}
 use Rattle.nor_model.specs.Bus.{BusState}
 use Rattle.nor_driver.specs.declared.waits.OperationError.{OperationError}
@@ -11,9 +10,8 @@ use Rattle.nor_driver.specs.Polls.{AddsTransactions}
 use Rattle.nor_plan.specs.Planned.{holds_run}
 use Rattle.nor_apply.specs.declared.tally.Tally.{Tally}
 
--- True if the erases and programs of these sectors may target the sector `s`, because `s` is one of them or lies past
--- the end of a chip of which they are all sectors. (A chip erase, C7h, has no address, and counts as targeting all
--- 4,096 sectors.)
+-- True if erases and programs of `sectors` may target `s`: `s` is in the set, or the set has all sectors of a chip of
+-- `size` bytes, and `s` lies past its end. (A chip erase, C7h, counts as targeting all 4,096 sectors.)
 abbrev pub may_target : (sectors : ℕ → Bool) → (size s : ℕ) → Bool
 may_target sectors size s = sectors s || (nat_le (size / 4096) s && holds_run sectors 0 (size / 4096))
 
@@ -21,8 +19,7 @@ abbrev pub NamesTimeoutIn : (ℕ → Bool) → OperationError → Type 0
 NamesTimeoutIn sectors Stopped = ⊤
 NamesTimeoutIn sectors (Timeout address) = sectors (address / 4096) ≡ true
 
--- Holds after a part of the changes succeeded, with `tally.count` operations and at most `readings` reads. Each
--- operation takes at least 3 transactions, and at most 65,538 including polls that showed BUSY.
+-- Holds after at most `readings` reads and `tally.count` operations, of 3 to 65,538 transactions each, succeeded.
 pub record Tallies (readings : ℕ) (old new : BusState) (tally : Tally) : Type 0 where
   pub least : 3 * tally.count ≤ tally.transactions
   pub few : tally.transactions ≤ readings + most_operation * tally.count

@@ -1,4 +1,4 @@
--- How far a chip may differ from the original chip, so that a journal of the original chip can still restore it.
+-- How far a chip may differ from the original chip, so that a journal can still make it the original chip again.
 use Rattle.std.specs.Prelude.{◌≡◌, ◌≢◌, ◌/◌, ◌&&◌, ℕ, Bool, true, false, not}
 use Rattle.nor_model.specs.declared.running.Running.{Running}
 use Rattle.nor_model.specs.declared.running.Running.TheVariants.{StatusWrite}
@@ -11,17 +11,16 @@ use Rattle.nor_driver.specs.StatusWrites.{fixed_of}
 abbrev pub is_writable : Chip → Bool
 is_writable chip = chip.config.scheme && not (is_locked chip.kept)
 
--- Holds if the operation `running` may be in progress on a chip that can be restored to the original chip, `first`. For
--- a status write, the bits from before it agree with `first` in all bits other than the protection bits.
+-- Holds if `running` is a known operation that works only at `addresses`. For a status write, the protection bits of
+-- `first` are writable, and the status before the write differs from that of `first` only in protection bits.
 pub record WorksIn (addresses : ℕ → Bool) (first : Chip) (running : Running) : Type 0 where
   pub known : is_known_running running ≡ true
   pub inside : (a : ℕ) → is_in_work running a ≡ true → addresses a ≡ true
   pub status : (one two : ℕ) → running ≡ StatusWrite one two
       → (is_writable first ≡ true) × (fixed_of (record { one = one; two = two }) ≡ fixed_of first.kept)
 
--- Holds if the bus's chip is the original chip, `first`, with three exceptions: bytes at these addresses, protection
--- bits that can be written, and BUSY and WEL may have any value. If the bus isn't steady, `WorksIn` holds for an
--- operation in progress.
+-- Holds if the chip is the original chip, `first`, except for bytes at `addresses`, protection bits (if they can be
+-- written), BUSY and WEL. If the bus isn't steady, `WorksIn` holds for an operation in progress.
 pub record IsWithin (addresses : ℕ → Bool) (first : Chip) (state : BusState) : Type 0 where
   pub config : state.chip.config ≡ first.config
   pub bytes : (a : ℕ) → addresses a ≡ false → state.chip.bytes a ≡ first.bytes a

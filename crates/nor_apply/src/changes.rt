@@ -49,16 +49,14 @@ pub struct Work {
 }
 
 /// Changes the touched sectors to the bytes of `source`, and the protection bits to `changes.code`. First clears all
-/// protection bits, if `changes.unlock` is set. Then erases the raised sectors with the fewest erases, programs the
-/// pages that still differ from `source`, and writes the protection bits if they differ from the target bits.
+/// protection bits if `changes.unlock` is set. Then erases the raised sectors, programs the pages of touched sectors
+/// that still differ from `source`, and writes the protection bits if they still differ.
 ///
-/// The changes must be consistent (`AreConsistent`), and `source` must have every touched sector. On any bus, erases
-/// and programs target only touched sectors and, if these are the whole chip, addresses past its end. On a well-behaved
-/// bus, after success the changes are complete if `CanApply` held at the start.
+/// The changes must be consistent (`AreConsistent`), and `source` must have every touched sector. On a well-behaved
+/// bus, after success all changes are made if `CanApply` held at the start.
 ///
-/// Returns `Stopped` if the bus stopped, and `Timeout` if the chip stayed busy for 65,536 polls; the error's address is
-/// in a touched sector or, after a status write, 0. On a well-behaved bus there is no timeout. Nothing is sent after an
-/// error.
+/// Returns `Stopped` if the bus stopped, and `Timeout` if the chip stayed busy for 65,536 polls, which doesn't occur on
+/// a well-behaved bus. The address of the timeout is in a touched sector or, after a status write, 0.
 pub fn apply<B: Bus, S: Source>(
     bus: &mut B,
     source: &S,

@@ -12,14 +12,9 @@ use nor_driver::{OperationError, erase};
 use nor_model::{Bus, Kinds};
 use nor_plan::{SectorSet, erases};
 
-/// Erases the raised sectors of a chip of `size` bytes that has the erase types `kinds`, with the fewest erases.
-/// Returns the numbers of erases and transactions.
-///
-/// All sectors must lie on the chip, whose `size` must be at most 16 MiB. On a well-behaved bus, after success the
-/// sectors are FFh if `CanEraseAll` held at the start.
-///
-/// Returns `Stopped` if the bus stopped, and `Timeout` with an address in the set if the chip stayed busy for 65,536
-/// polls. On a well-behaved bus there is no timeout. Nothing is sent after an error.
+/// Erases the raised sectors, which must lie on the chip of `size` bytes (at most 16 MiB), with the fewest erases.
+/// Returns `Stopped` if the bus stopped, and `Timeout` with an address in a raised sector if the chip stayed busy for
+/// 65,536 polls.
 pub fn erase_all<B: Bus>(
     bus: &mut B,
     raised: &SectorSet,

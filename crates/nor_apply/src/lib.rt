@@ -1,6 +1,5 @@
-//! Changes the sectors and the protection bits of a flash chip to their target values: clears the protection bits if
-//! that is requested, erases, programs, and writes the protection bits if they still differ. Sessions and restores use
-//! this crate.
+//! Makes the changes of a session or restore to a flash chip, in this order: clears the protection bits if requested,
+//! erases, programs, and writes the protection bits if they still differ from the target bits.
 //!
 //! ```rust
 //! ghost use Rattle.std.specs.Prelude.{◌%◌, true, slice_index};

@@ -16,13 +16,11 @@ use nor_geometry::{MOST_SECTORS, SECTOR_LEN};
 use nor_model::{Bus, Stopped};
 use nor_plan::{SectorSet, spans};
 
-/// Programs the touched sectors, in ascending order, with the bytes of `source`, which must have every touched sector.
-/// Pages that already have these bytes are left out. A raised sector is not read: it was erased, so its bytes are taken
-/// to be FFh. Returns the number of programs, and the number of transactions including reads. On a well-behaved bus,
-/// after success the touched sectors have the target bytes if `CanProgramAll` held at the start.
+/// Programs the touched sectors with the bytes of `source`, which must have every touched sector. Pages that already
+/// have these bytes are left out. A raised sector isn't read: `program_all` assumes that its bytes are FFh.
 ///
 /// Returns `Stopped` if the bus stopped, and `Timeout` with an address in a touched sector if the chip stayed busy for
-/// 65,536 polls. On a well-behaved bus there is no timeout. Nothing is sent after an error.
+/// 65,536 polls.
 pub fn program_all<B: Bus, S: Source>(
     bus: &mut B,
     source: &S,

@@ -1,14 +1,13 @@
-//! The source of the target bytes.
+//! The trait `Source`, which has the target bytes of a change.
 ghost use Rattle.std.specs.Prelude.{◌≡◌, ◌<◌, ◌+◌, ◌*◌, ℕ, Bool, true, slice_index};
 
 use nor_geometry::SECTOR_LEN;
 
 /// A source of target bytes for some sectors, for example an image or the records of a journal.
 pub trait Source {
-    // True for the sectors whose bytes the source has.
     ghost has: { Self → ℕ → Bool };
 
-    // The target byte at an address in a sector that the source has.
+    // The target byte at an address, which must be in a sector that the source has.
     ghost wanted: { Self → ℕ → ℕ };
 
     /// Returns the 4,096 target bytes of a sector that the source has.

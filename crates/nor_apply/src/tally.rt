@@ -1,6 +1,5 @@
 //! Counts of operations and transactions.
-
-/// The number of operations, and the number of all transactions, which includes reads of sectors.
+/// The number of operations (erases, page programs, status writes), and of all transactions, including reads and polls.
 #[derive(Clone, Copy, Debug, PartialEq, Eq)]
 pub struct Tally {
     pub count: u32,
@@ -8,7 +7,6 @@ pub struct Tally {
 }
 
 impl Tally {
-    /// The counts before the first operation.
     pub const NONE: Tally = Tally {
         count: 0,
         transactions: 0,

@@ -31,8 +31,7 @@ in_sector Holds sector each a above below =
     let at : 4096 * sector + i ≡ a = omega arith in
     subst Holds at (each i (omega arith))
 
--- Lemmas about the bytes that are compared (`filled`): at included addresses those that were read, and at all other
--- addresses of the sector those of the image.
+-- Lemmas about the bytes that are compared: at included addresses those that were read, at all others the image's.
 module _ (included : Option (List Span)) (image : List ℕ) (sector : ℕ) (bytes filled part : List ℕ)
     (long : length filled ≡ 4096)
     (cut : (i : ℕ) → i < 4096 → slice_index part i ≡ slice_index image (4096 * sector + i))
@@ -95,8 +94,6 @@ part_skipped included image sector false state out test none = record {
   errors = λ honest idle inside. none_differs included image state.chip.bytes sector none;
 }
 
--- Lemmas about a sector that was read and compared. `read_at` states that the first difference, if there is one, is in
--- this sector.
 module _ (included : Option (List Span)) (image : List ℕ) {bytes : List ℕ} {sector : ℕ} {old new : BusState}
     (only_reads : OnlyReads 1 old new) (reads : ReadsSector sector old new bytes) where
   read_at : (first : Option ℕ) → ((content : ℕ → ℕ) → AreOfSector content sector bytes

@@ -20,8 +20,6 @@ use Rattle.nor_request.specs.Errors.{IdentificationErrors, EndsAtError}
 use Rattle.nor_read.specs.Finding.{IsModelled, HasFound, IsNamed, IsPassed, IsTaken}
 use Rattle.nor_read.specs.Finding.{ReportsPart, ReportsReads, ReadingErrors, most_read}
 
--- Holds if no modifying command was sent, and the transactions are within the bounds for a well-behaved bus and for a
--- modelled one.
 pub record Sends (old new : BusState) : Type 0 where
   pub largest : OnlyReads (most_read 16777216) old new
   pub own : IsModelled old → OnlyReads (most_read old.chip.config.size) old new
@@ -57,7 +55,6 @@ pub report_is : (probed : Probed) (reads : ℕ) (report : Report) → report.fou
 report_is probed reads report found touched erases programs sent = λ i.
     record { found = found i; touched = touched i; erases = erases i; programs = programs i; transactions = sent i }
 
--- Holds if the promises about the report of a call are kept, on each kind of bus.
 pub record Reports (named : Option ChipName) (included : Option (List Span)) (old new : BusState)
     (report : Report) : Type 0 where
   pub part : ReportsPart named old.further report

@@ -18,7 +18,7 @@ use Rattle.nor_request.specs.declared.refusal.Refusal.{Refusal}
 use Rattle.nor_request.specs.declared.refusal.Refusal.TheVariants.{NoChip, UnknownChip, OtherName, Stopped, Timeout}
 use Rattle.nor_request.specs.declared.report.Report.{Report}
 
--- a bound on the transactions until the status is known: 65,540 for a probe, and one to read status 2
+-- A bound on the transactions of `wp_status`: 65,540 for a probe, and one to read status 2.
 abbrev pub most_status : ℕ
 most_status = 65541
 
@@ -38,28 +38,22 @@ pub record HasFound (named : Option ChipName) (old new : BusState) (probed : Pro
   pub count : old.honest ≡ true → probed.transactions ≡ needed old.chip
   pub fell : old.honest ≡ true → Spent probed.transactions old new
 
--- ---- the checks of the chip that was found
-
--- Holds if the chip has the requested name, if any, and some included address is past the end of the chip.
+-- Holds if the chip can be identified (`IsNamed`), has the requested name, if any, and ends before an included address.
 pub record IsPassed (named : Option ChipName) (included : Option (List Span)) (config : Config) : Type 0 where
   pub is : IsNamed named config
   pub past : ReachesPast included config.size
 
--- Holds if the chip has the requested name, if any, and all included addresses are on the chip.
+-- Holds if the chip can be identified (`IsNamed`), has the requested name, if any, and has all included addresses.
 pub record IsTaken (named : Option ChipName) (included : Option (List Span)) (config : Config) : Type 0 where
   pub is : IsNamed named config
   pub fits : FitsInto included config.size
 
--- ---- the number of transactions
-
--- a bound on the transactions of a call for a chip of this size: 65,540 for a probe, and one for each sector
+-- A bound on the transactions of `read_out` or `verify`, with `size` in bytes: 65,540 for a probe, and one per sector.
 abbrev pub most_read : ℕ → ℕ
 most_read size = most_probe + size / 4096
 
--- ---- the report
-
--- The promises about the report of `read_out` and `verify` on every bus. `further` says whether the bus knows the
--- further rows of the table of chips.
+-- Holds if `report` can be that of `read_out` or `verify` on any bus. `further` says whether further rows of the table
+-- of chips apply.
 pub record ReportsPart (named : Option ChipName) (further : Bool) (report : Report) : Type 0 where
   pub part : IsPart further report.found
   pub has_name : IsWanted named report.found.name
@@ -68,17 +62,14 @@ pub record ReportsPart (named : Option ChipName) (further : Bool) (report : Repo
   pub programs : report.programs ≡ 0
   pub most : report.transactions ≤ most_read report.found.size
 
--- The promises about the report of a call that read `reads` sectors on a well-behaved bus.
+-- Holds if `report` can be that of a call that read `reads` sectors after its probe, on a well-behaved bus.
 pub record ReportsReads (reads : ℕ) (old new : BusState) (report : Report) : Type 0 where
   pub shown : shown_as old.chip.config ≡ Ok (part_in report.found)
   pub rested : Rested old new
   pub idle : new.chip.busy ≡ 0
-  -- Status 1 in the report, with all its bits, is what the chip would reply now.
   pub status1 : report.found.status1 ≡ status1_of new.chip
   pub count : report.transactions ≡ needed old.chip + reads
   pub fell : Spent report.transactions old new
-
--- ---- errors
 
 abbrev pub IsFindRefusal : Refusal → Type 0
 IsFindRefusal NoChip = ⊤
@@ -88,8 +79,7 @@ IsFindRefusal Stopped = ⊤
 IsFindRefusal (Timeout address) = address ≡ 0
 IsFindRefusal _ = ⊥
 
--- The meaning of errors on a well-behaved bus. On a punctual bus a stop means that fewer than `most` transactions were
--- left at the start, and none is left now. A timeout does not occur. After any error except a stop, contents and
+-- Holds if a call may return this error on a well-behaved bus. After any error except a stop, the chip's contents and
 -- non-volatile status bits are as before.
 abbrev pub ReadingErrors : ℕ → Option ChipName → (old new : BusState) → Refusal → Type 0
 ReadingErrors most named old new NoChip = ProbeErrors named old new Probes.NoChip

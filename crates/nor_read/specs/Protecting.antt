@@ -13,14 +13,14 @@ use Rattle.nor_request.specs.Errors.{EndsAtError}
 use Rattle.nor_read.specs.declared.protection.Protection.{Protection}
 use Rattle.nor_read.specs.Finding.{IsNamed, IsFindRefusal, ReadingErrors, most_status}
 
--- Holds if the datasheets define the chip's protection bits, and the protected addresses are exactly the `len`
--- addresses from `start` on. If `len` is 0, `start` is 0.
+-- Holds if the datasheets define a range for the chip's protection bits, and the protected addresses are exactly the
+-- `len` addresses from `start` on. If `len` is 0, `start` is 0.
 pub record IsProtectedRange (chip : Chip) (start len : ℕ) : Type 0 where
   pub defined : is_undefined (code_of chip.kept) ≡ false
   pub exactly : (a : ℕ) → (is_protected chip a ≡ true) ↔ ((start ≤ a) × (a < start + len))
   pub plain : len ≡ 0 → start ≡ 0
 
--- Holds if the report matches a chip with block protection. Its range is `None` if the datasheets don't define one.
+-- Holds if `protection` describes the chip, which has block protection. Undefined protection bits have no `range`.
 pub record IsProtection (chip : Chip) (protection : Protection) : Type 0 where
   pub scheme : chip.config.scheme ≡ true
   pub protected : MatchOption protection.range (is_undefined (code_of chip.kept) ≡ true)
@@ -28,22 +28,17 @@ pub record IsProtection (chip : Chip) (protection : Protection) : Type 0 where
   pub lock : protection.locked ≡ is_locked chip.kept
   pub chip_size : protection.size ≡ chip.config.size
 
--- ---- the promises of `wp_status`
-
 abbrev pub IsProtectionRefusal : Refusal → Type 0
 IsProtectionRefusal NoProtection = ⊤
 IsProtectionRefusal refusal = IsFindRefusal refusal
 
--- The promises of `wp_status` on every bus.
 pub record ProtectionAlways (old new : BusState) (result : Result Protection Refusal) : Type 0 where
-  -- No modifying command was sent. On a punctual bus at most 65,541 transactions were sent.
   pub only_reads : OnlyReads most_status old new
   pub sized : IfOk result (λ protection. is_chip_size protection.size ≡ true)
   pub refuses : IfErr result IsProtectionRefusal
   pub last_transaction : IfErr result (λ refusal. EndsAtError refusal new.history)
   pub polled_ready : OnOk result (new.polled_ready ≡ true)
 
--- The promises of `wp_status` on a well-behaved bus.
 pub record ProtectionHonest (named : Option ChipName) (old new : BusState)
     (result : Result Protection Refusal) : Type 0 where
   pub rested : OnOk result (Rested old new)
@@ -51,12 +46,11 @@ pub record ProtectionHonest (named : Option ChipName) (old new : BusState)
   pub is : OnOk result (IsNamed named old.chip.config)
   pub errors : IfErr result (ReadingErrors most_status named old new)
 
--- The meaning of error 6 on a modelled bus. `ReadingErrors` has the meaning of the other errors.
+-- Holds for error 6 if the chip has the requested name, if any, and no block protection. Holds for all other errors.
 abbrev pub ProtectionErrors : Option ChipName → Chip → Refusal → Type 0
 ProtectionErrors named chip NoProtection = IsNamed named chip.config × (chip.config.scheme ≡ false)
 ProtectionErrors named chip _ = ⊤
 
--- The promises of `wp_status` on a modelled bus.
 pub record ProtectionModelled (named : Option ChipName) (old : BusState)
     (result : Result Protection Refusal) : Type 0 where
   pub returned : IfOk result (IsProtection old.chip)

@@ -31,54 +31,47 @@ pub record Copies (included : Option (List Span)) (content : ℕ → ℕ) (count
   pub grown : new.bytes ≡ old.bytes ++ bytes
   pub right : (a : ℕ) → a < count → slice_index bytes a ≡ copied included content a
 
--- ---- the promises of `read_out`
-
 -- Holds if the vault refused nothing and, if it is faithful (`telling`), accepted `count` bytes.
 pub record TakesWhole (count : ℕ) (old new : VaultState) : Type 0 where
   pub accepted : Accepted old new
   pub grows : old.telling ≡ true → Grows count old new
 
--- Holds if the vault refused one piece. A faithful (`telling`) vault accepted `written` bytes between the two states,
--- including those of the refused piece.
+-- Holds if the vault refused one piece. A faithful (`telling`) vault accepted `written` bytes in all, including the
+-- accepted first bytes of the refused piece.
 pub record TakesPart (written : ℕ) (old new : VaultState) : Type 0 where
   pub refused : Refused old new
   pub grows : old.telling ≡ true → Grows written old new
 
--- Holds if `read_out` may return this error and leave this vault, on every bus. Error 19 has the number of bytes that a
--- faithful (`telling`) vault accepted.
+-- Holds if `read_out` may return this error and leave the vault in the state `vault'`.
 abbrev pub IsReadRefusal : (vault vault' : VaultState) → Refusal → Type 0
 IsReadRefusal vault vault' (Output written) = TakesPart written vault vault'
 IsReadRefusal vault vault' RegionOutside = Accepted vault vault'
 IsReadRefusal vault vault' refusal = IsFindRefusal refusal × Accepted vault vault'
 
--- The promises of `read_out` on every bus and with every vault.
 pub record ReadOutAlways (named : Option ChipName) (included : Option (List Span)) (old new : BusState)
     (vault vault' : VaultState) (result : Result Report Refusal) : Type 0 where
-  -- On a punctual bus, the number of transactions is at most the bound for the largest chip, of 16 MiB.
   pub only_reads : OnlyReads (most_read 16777216) old new
   pub reports : IfOk result (ReportsPart named old.further)
   pub fits : IfOk result (λ report. FitsInto included report.found.size)
-  -- After success a faithful (`telling`) vault has accepted one byte for each address of the chip that was found.
   pub whole : IfOk result (λ report. TakesWhole report.found.size vault vault')
   pub refuses : IfErr result (IsReadRefusal vault vault')
   pub last_transaction : IfErr result (λ refusal. EndsAtError refusal new.history)
   pub polled_ready : OnOk result (new.polled_ready ≡ true)
 
--- The promises of `read_out` on a well-behaved bus.
 pub record ReadOutHonest (named : Option ChipName) (included : Option (List Span)) (old new : BusState)
     (result : Result Report Refusal) : Type 0 where
-  -- After success one read was sent for each sector with an included address, and the chip is unchanged and idle.
+  -- After success the report counts the probe, and one read for each sector with an included address.
   pub reports : IfOk result (λ report. ReportsReads (sectors_included included report.found.size) old new report)
   pub errors : IfErr result (ReadingErrors (most_read 16777216) named old new)
 
--- The meaning of error 19 (the vault refused a piece) on a modelled bus.
+-- Holds if `read_out` may return error 19 with `written` bytes on a modelled bus.
 pub record BreaksOff (named : Option ChipName) (included : Option (List Span)) (written : ℕ) (old : BusState)
     (vault vault' : VaultState) : Type 0 where
   pub taken : IsTaken named included old.chip.config
   pub within : written ≤ old.chip.config.size
   pub copy : vault.telling ≡ true → Copies included old.chip.bytes written vault vault'
 
--- The meaning of errors 5, 12 and 19 on a modelled bus. `ReadingErrors` has the meaning of all other errors.
+-- Holds if `read_out` may return error 5, 12 or 19 on a modelled bus, and for all other errors (see `ReadingErrors`).
 abbrev pub ReadOutErrors : Option ChipName → Option (List Span) → (old new : BusState) → (vault vault' : VaultState)
     → Refusal → Type 0
 ReadOutErrors named included old new vault vault' RegionOutside = IsPassed named included old.chip.config
@@ -86,21 +79,15 @@ ReadOutErrors named included old new vault vault' Stopped = RanOut (most_read ol
 ReadOutErrors named included old new vault vault' (Output written) = BreaksOff named included written old vault vault'
 ReadOutErrors named included old new vault vault' _ = ⊤
 
--- The promises of `read_out` on a modelled bus.
 pub record ReadOutModelled (named : Option ChipName) (included : Option (List Span)) (old new : BusState)
     (vault vault' : VaultState) (result : Result Report Refusal) : Type 0 where
   pub only_reads : OnlyReads (most_read old.chip.config.size) old new
   pub config : IfOk result (λ report. IsConfigOf old.chip.config report.found)
-  -- After success a faithful (`telling`) vault has its earlier bytes and then the whole copy: the chip's bytes at the
-  -- included addresses, and FFh at all others.
   pub copy : IfOk result (λ report. vault.telling ≡ true
       → Copies included old.chip.bytes old.chip.config.size vault vault')
   pub errors : IfErr result (ReadOutErrors named included old new vault vault')
 
--- ---- the copy: in pieces of sixteen sectors, and each piece sector by sector
-
--- Holds after one sector of the copy was made, with at most one transaction. On a well-behaved bus with an idle chip
--- that has this sector, `bytes` are the bytes of the copy.
+-- Holds after one sector of the copy was put into `bytes`. The sector is read only if it has an included address.
 pub record ReadsPart (included : Option (List Span)) (sector : ℕ) (bytes : List ℕ) (old new : BusState)
     (reads : ℕ) : Type 0 where
   pub counted : reads ≡ (if has_in_sector (includes included) sector then 1 else 0)
@@ -108,8 +95,7 @@ pub record ReadsPart (included : Option (List Span)) (sector : ℕ) (bytes : Lis
   pub right : old.honest ≡ true → old.chip.busy ≡ 0 → 4096 * (sector + 1) ≤ old.chip.config.size
       → AreOfSector (copied included old.chip.bytes) sector bytes
 
--- Holds after the first `n` of a piece's sixteen sectors were copied to `bytes`, which are right on a well-behaved bus
--- with an idle chip that has the whole piece.
+-- Holds after the first `n` of a piece's sixteen sectors were copied to `bytes`.
 pub record ReadsPiece (included : Option (List Span)) (piece n : ℕ) (bytes : List ℕ) (old new : BusState)
     (reads : ℕ) : Type 0 where
   pub counted : count_below (16 * piece + n) (has_in_sector (includes included))
@@ -119,14 +105,13 @@ pub record ReadsPiece (included : Option (List Span)) (piece n : ℕ) (bytes : L
   pub right : old.honest ≡ true → old.chip.busy ≡ 0 → 65536 * (piece + 1) ≤ old.chip.config.size
       → (i : ℕ) → i < 4096 * n → slice_index bytes i ≡ copied included old.chip.bytes (65536 * piece + i)
 
--- Holds if the vault has `count` more bytes, which, if `known` holds, are the first ones of the copy.
+-- Holds if the vault has `count` more bytes. If `known` holds, these bytes are the first ones of the copy.
 pub record CopiesIf (known : Type 0) (included : Option (List Span)) (content : ℕ → ℕ) (count : ℕ)
     (old new : VaultState) : Type 0 where
   pub grows : Grows count old new
   pub right : known → (a : ℕ) → a < count → slice_index grows.bytes a ≡ copied included content a
 
--- Holds after the pieces below `n` were appended to the vault. On a well-behaved bus with an idle chip of this size, a
--- faithful (`telling`) vault has its earlier bytes and then these pieces of the copy.
+-- Holds after the pieces below `n` (of sixteen sectors each) were appended to the vault.
 pub record ReadsPieces (included : Option (List Span)) (size n : ℕ) (old new : BusState) (vault vault' : VaultState)
     (reads : ℕ) : Type 0 where
   pub counted : reads ≡ count_below (16 * n) (has_in_sector (includes included))
@@ -135,8 +120,7 @@ pub record ReadsPieces (included : Option (List Span)) (size n : ℕ) (old new :
   pub accepted : Accepted vault vault'
   pub copy : vault.telling ≡ true → CopiesIf (IsOpen size old) included old.chip.bytes (65536 * n) vault vault'
 
--- Holds after the vault refused a piece of the copy. A faithful (`telling`) vault accepted `written` bytes of all
--- pieces together.
+-- Holds after the vault refused a piece. A faithful (`telling`) vault accepted `written` bytes of all pieces together.
 pub record BreaksCopy (included : Option (List Span)) (size written : ℕ) (old new : BusState)
     (vault vault' : VaultState) : Type 0 where
   pub rested : old.honest ≡ true → Rested old new
@@ -144,15 +128,13 @@ pub record BreaksCopy (included : Option (List Span)) (size written : ℕ) (old 
   pub took : TakesPart written vault vault'
   pub copy : IsOpen size old → vault.telling ≡ true → Copies included old.chip.bytes written vault vault'
 
--- The meaning of an error of the copy. After a stop on a punctual bus, fewer transactions were left at the start than a
--- chip of `size` bytes has sectors.
+-- Holds if the copy may end with this error: 12 (the bus stopped) or 19 (the vault refused a piece).
 abbrev pub CopyErrors : Option (List Span) → ℕ → (old new : BusState) → (vault vault' : VaultState) → Refusal → Type 0
 CopyErrors included size old new vault vault' Stopped = HasStopped (size / 4096) old new × Accepted vault vault'
 CopyErrors included size old new vault vault' (Output written) = BreaksCopy included size written old new vault vault'
 CopyErrors included size old new vault vault' _ = ⊥
 
--- The meaning of an error when the piece with the index `piece` is appended. `written` counts 65,536 bytes for each
--- earlier piece, and the bytes that a faithful (`telling`) vault accepted of this piece.
+-- Holds if appending the piece number `piece` may return this error. Each earlier piece added 65,536 to `written`.
 abbrev pub PutErrors : ℕ → List ℕ → (old new : VaultState) → Refusal → Type 0
 PutErrors piece bytes old new (Output written) =
     (kept : ℕ) × (written ≡ 65536 * piece + kept) × PutRefused old bytes kept new

@@ -36,7 +36,6 @@ pub record IsFirstOther (included : Option (List Span)) (image : List ℕ) (cont
   pub differs : slice_index image address ≢ content address
   pub before : AgreeIn included image content from address
 
--- The meaning of error 4 on a modelled bus.
 pub record IsOtherSize (named : Option ChipName) (image : List ℕ) (config : Config)
     (chip_size image_size : ℕ) : Type 0 where
   pub is : IsNamed named config
@@ -44,14 +43,12 @@ pub record IsOtherSize (named : Option ChipName) (image : List ℕ) (config : Co
   pub of_image : image_size ≡ length image
   pub differ : length image ≢ config.size
 
--- The meaning of error 14 on a modelled bus: `address` is the first included address at which chip and image differ.
+-- Holds if `verify` may return error 14 on a modelled bus, because `address` is the first included one that differs.
 pub record IsMismatch (named : Option ChipName) (included : Option (List Span)) (image : List ℕ) (chip : Chip)
     (address : ℕ) : Type 0 where
   pub taken : IsTaken named included chip.config
   pub whole : length image ≡ chip.config.size
   pub first : IsFirstOther included image chip.bytes 0 chip.config.size address
-
--- ---- the promises of `verify`
 
 abbrev pub IsVerifyRefusal : Refusal → Type 0
 IsVerifyRefusal (ImageSize chip len) = ⊤
@@ -59,17 +56,14 @@ IsVerifyRefusal RegionOutside = ⊤
 IsVerifyRefusal (Mismatch address) = ⊤
 IsVerifyRefusal refusal = IsFindRefusal refusal
 
--- Holds if, since `old`, the sector that contains `address` was read, and only reads of sectors were sent after that
--- read.
+-- Holds if, since `old`, the sector of `address` was read, and after that read only reads of sectors were sent.
 pub record HasReadAt (address : ℕ) (old new : List Exchange) : Type 0 where
-  -- The history up to and including this read.
   pub at : List Exchange
   pub read : EndsReading address at
   pub since : Continues old read.earlier
   pub later : AddsSectorReads at new
 
--- Holds for the history after `verify` returned this error. Error 14 is not returned before all sectors were read, so
--- the last transactions are reads of sectors.
+-- Holds for the history after `verify` returned this error. After error 14 the last transactions are reads of sectors.
 abbrev pub VerifyEnds : (old new : List Exchange) → Refusal → Type 0
 VerifyEnds old new (Mismatch address) = HasReadAt address old new
 VerifyEnds old new refusal = EndsAtError refusal new
@@ -86,29 +80,24 @@ HasReadBack included image old new (Err (Mismatch address)) =
     EndsReadOther (included_below included (length image)) (slice_index image) address old new
 HasReadBack included image old new (Err refusal) = ⊤
 
--- The promises of `verify` on every bus.
 pub record VerifyAlways (named : Option ChipName) (included : Option (List Span)) (image : List ℕ) (old new : BusState)
     (result : Result Report Refusal) : Type 0 where
-  -- On a punctual bus, the number of transactions is at most the bound for the largest chip, of 16 MiB.
   pub only_reads : OnlyReads (most_read 16777216) old new
   pub reports : IfOk result (ReportsPart named old.further)
   pub fits : IfOk result (λ report. FitsInto included report.found.size)
   pub whole : IfOk result (λ report. length image ≡ report.found.size)
   pub refuses : IfErr result IsVerifyRefusal
-  -- After error 12 the bus stopped at the last transaction. After error 13 the last transaction was a poll that showed
-  -- BUSY. After error 14 the sector of the difference was read, and then only sectors were read.
   pub last_transaction : IfErr result (VerifyEnds old.history new.history)
   pub read_back : HasReadBack included image old.history new.history result
   pub polled_ready : OnOk result (new.polled_ready ≡ true)
 
--- The promises of `verify` on a well-behaved bus.
 pub record VerifyHonest (named : Option ChipName) (included : Option (List Span)) (old new : BusState)
     (result : Result Report Refusal) : Type 0 where
-  -- After success one read was sent for each sector with an included address, and the chip is unchanged and idle.
+  -- After success the report counts the probe, and one read for each sector with an included address.
   pub reports : IfOk result (λ report. ReportsReads (sectors_included included report.found.size) old new report)
   pub errors : IfErr result (ReadingErrors (most_read 16777216) named old new)
 
--- The meaning of errors 4, 5, 12 and 14 on a modelled bus. `ReadingErrors` has the meaning of all other errors.
+-- Holds if `verify` may return error 4, 5, 12 or 14 on a modelled bus, and for all other errors (see `ReadingErrors`).
 abbrev pub VerifyErrors : Option ChipName → Option (List Span) → List ℕ → (old new : BusState) → Refusal → Type 0
 VerifyErrors named included image old new (ImageSize chip len) = IsOtherSize named image old.chip.config chip len
 VerifyErrors named included image old new RegionOutside =
@@ -117,15 +106,12 @@ VerifyErrors named included image old new Stopped = RanOut (most_read old.chip.c
 VerifyErrors named included image old new (Mismatch address) = IsMismatch named included image old.chip address
 VerifyErrors named included image old new _ = ⊤
 
--- The promises of `verify` on a modelled bus.
 pub record VerifyModelled (named : Option ChipName) (included : Option (List Span)) (image : List ℕ)
     (old new : BusState) (result : Result Report Refusal) : Type 0 where
   pub only_reads : OnlyReads (most_read old.chip.config.size) old new
   pub config : IfOk result (λ report. IsConfigOf old.chip.config report.found)
   pub equal : IfOk result (λ report. AgreeIn included image old.chip.bytes 0 old.chip.config.size)
   pub errors : IfErr result (VerifyErrors named included image old new)
-
--- ---- the comparison, sector by sector
 
 abbrev pub FindsFirst : Option (List Span) → List ℕ → (ℕ → ℕ) → (from to : ℕ) → Option ℕ → Type 0
 FindsFirst included image content from to first =
@@ -134,8 +120,8 @@ FindsFirst included image content from to first =
 abbrev pub ReadsDifference : (old new : List Exchange) → Option ℕ → Type 0
 ReadsDifference old new first = MatchOption first ⊤ (λ address. HasReadAt address old new)
 
--- Holds for the reads with which one sector was compared (`reads`), after any earlier history. `first` is the first
--- included address in this sector at which the last reply differs from the image, if any.
+-- Holds if `first` is the first included address in this sector, if any, at which the last reply differs from the
+-- image, in a history whose latest transactions are `reads`.
 pub record ComparesReply (included : Option (List Span)) (image : List ℕ) (sector : ℕ) (reads earlier : List Exchange)
     (first : Option ℕ) : Type 0 where
   pub others : (a : ℕ) → a / 4096 ≢ sector → sector_read (reads ++ earlier) a ≡ sector_read earlier a
@@ -143,9 +129,7 @@ pub record ComparesReply (included : Option (List Span)) (image : List ℕ) (sec
       → length (sector_read (reads ++ earlier) a) ≡ 4096
   pub finds : FindsFirst included image (bytes_read (reads ++ earlier)) (4096 * sector) (4096 * (sector + 1)) first
 
--- Holds after a sector was compared, with at most one transaction. On a well-behaved bus with an idle chip that has
--- this sector, `compared.first` is the first included address in the sector at which the chip differs from the image,
--- if any.
+-- Holds after one sector was compared. The sector is read only if it has an included address.
 pub record ComparesPart (included : Option (List Span)) (image : List ℕ) (sector : ℕ) (old new : BusState)
     (compared : Compared) : Type 0 where
   pub counted : compared.reads ≡ (if has_in_sector (includes included) sector then 1 else 0)
@@ -158,7 +142,7 @@ pub record ComparesPart (included : Option (List Span)) (image : List ℕ) (sect
       → FindsFirst included image old.chip.bytes (4096 * sector) (4096 * (sector + 1)) compared.first
 
 -- Holds after the sectors below `n` were compared. `compared.first` is the first included address at which the last
--- replies differ from the image, if any. On a well-behaved bus with an idle chip of this size, the chip differs there.
+-- replies differ from the image, if any.
 pub record ComparesBelow (included : Option (List Span)) (image : List ℕ) (size n : ℕ) (old new : BusState)
     (compared : Compared) : Type 0 where
   pub counted : compared.reads ≡ count_below n (has_in_sector (includes included))

@@ -9,11 +9,11 @@ use nor_model::Bus;
 use nor_probe::{ChipName, Probed, probe_counted};
 use nor_request::{Refusal, Report};
 
-/// Waits until the chip is ready, and identifies it by its ID or SFDP. If `named` is given, the chip must have that
-/// name. On a punctual bus at most 65,540 transactions are sent.
+/// Waits until the chip is ready, and identifies it by its ID or SFDP. Sends at most 65,540 transactions on a punctual
+/// bus.
 ///
-/// Returns error 1 (no chip), 2 (unknown chip), 3 (other name), 12 (the bus stopped) or 13 with address 0 (the chip
-/// stayed busy; not on a well-behaved bus).
+/// Returns error 1 (no chip), 2 (unknown chip), 3 (its name isn't `named`), 12 (the bus stopped) or 13 with address 0
+/// (the chip stayed busy; not on a well-behaved bus).
 pub fn find<B: Bus>(bus: &mut B, named: Option<ChipName>) -> Result<Probed, Refusal>
     ensures leaves { OnlyReads most_probe (B.state bus.old) (B.state bus.new) }
     ensures finds { IfOk result (HasFound named (B.state bus.old) (B.state bus.new)) }
@@ -23,8 +23,7 @@ pub fn find<B: Bus>(bus: &mut B, named: Option<ChipName>) -> Result<Probed, Refu
     Ok(probed)
 }
 
-/// Returns the report of a call that found the chip in `probed` and then read `reads` sectors. `probed` must count at
-/// most 65,540 transactions.
+/// Returns the report of a call that found the chip in `probed` and then read `reads` sectors.
 pub fn report(probed: Probed, reads: u32) -> Report
     requires { probed.transactions ≤ most_probe }
     ensures found { result.found ≡ probed.found }

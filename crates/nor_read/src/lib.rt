@@ -1,10 +1,5 @@
 //! Calls that only read a flash chip: they copy its bytes, compare them with an image, and report its block protection.
-//! They never send a modifying command. They allocate no memory themselves; the bus or the vault of `read_out` may.
-//!
-//! - `finding.rt`: finds the chip, and makes the report
-//! - `reading.rt`: `read_out`, a copy of the chip in a vault
-//! - `verifying.rt`: `verify`, a comparison with an image
-//! - `protection.rt`: `wp_status`, the protected range and the lock of the status
+//! They send no modifying command, and allocate no memory themselves; the bus or the vault of `read_out` may.
 //!
 //! ```rust
 //! use nor_chip::{Config, Delays, Meter, SimBus};
@@ -23,8 +18,7 @@
 //! ```
 //!
 //! `specs/Reading.antt`, `specs/Verifying.antt` and `specs/Protecting.antt` define what each call promises and what its
-//! own errors mean. `specs/Finding.antt` defines what the errors mean that all calls share. `Report` and `Refusal` are
-//! those of nor_request, which sessions use, too.
+//! own errors mean, and `specs/Finding.antt` what the errors mean that all calls share.
 #![tactic(auto)]
 
 mod finding;

@@ -1,4 +1,4 @@
-//! The call `wp_status`, which reports the addresses of a chip that are protected, and whether its status is locked.
+//! The call `wp_status`, which reports the protected addresses of a chip, and whether the status of the chip is locked.
 ghost use Rattle.std.specs.Prelude.{◌≡◌, true};
 ghost use Rattle.nor_read.specs.Finding.{IsModelled};
 ghost use Rattle.nor_read.specs.Protecting.{ProtectionAlways, ProtectionHonest, ProtectionModelled};
@@ -9,14 +9,14 @@ use nor_model::{Bus, Status, protected_range};
 use nor_probe::ChipName;
 use nor_request::Refusal;
 
-/// The block protection of a chip.
 #[derive(Clone, Copy, Debug, PartialEq, Eq)]
 pub struct Protection {
-    /// The first protected address and the length of the protected range, or two zeros if no address is protected.
-    /// `None` if the datasheets don't define a range for the chip's protection bits.
+    /// The first protected address and the length of the protected range in bytes, or two zeros if no address is
+    /// protected. `None` if the datasheets don't define a range for the chip's protection bits.
     pub range: Option<(u32, u32)>,
     /// True if the status is locked (SRP0 or SRP1 is set).
     pub locked: bool,
+    /// The chip's size in bytes.
     pub size: u32,
 }
 
@@ -24,7 +24,7 @@ pub struct Protection {
 /// name. On a modelled bus the returned values are proved to be the chip's own.
 ///
 /// Returns error 1 (no chip), 2 (unknown chip), 3 (other name), 6 (the chip has no block protection), 12 (the bus
-/// stopped) or 13 (the chip stayed busy; not on a well-behaved bus). Nothing is sent after error 12 or 13 occurs.
+/// stopped) or 13 (the chip stayed busy; not on a well-behaved bus).
 pub fn wp_status<B: Bus>(bus: &mut B, named: Option<ChipName>) -> Result<Protection, Refusal>
     ensures always { ProtectionAlways (B.state bus.old) (B.state bus.new) result }
     ensures honest { (B.state bus.old).honest ≡ true

@@ -19,16 +19,15 @@ use nor_request::{Refusal, Report};
 const PIECE_LEN: usize = 65_536;
 
 /// Appends a copy of the whole chip to `out`: the chip's byte at each included address (at every address if `included`
-/// is `None`), and FFh at all others. Reads each sector that has an included address once, in ascending order. The
-/// vault must be unsealed, and the call does not seal it.
+/// is `None`), and FFh at all others. Reads each sector that has an included address once. The vault must be unsealed,
+/// and the call does not seal it.
 ///
 /// If the bus is modelled and `out` is faithful (`telling`), success leaves this copy in `out`, after the bytes that
-/// `out` held before. On a well-behaved bus success leaves the chip's contents and non-volatile status bits as they
-/// were.
+/// `out` held before.
 ///
 /// Returns error 1 (no chip), 2 (unknown chip), 3 (other name), 5 (an included address isn't on the chip), 12 (the bus
-/// stopped), 13 (the chip stayed busy; not on a well-behaved bus) or 19 (the vault failed). Error 19 has the number of
-/// bytes that a faithful vault accepted during this call. Nothing is sent after error 12 or 13 occurs.
+/// stopped), 13 (the chip stayed busy; not on a well-behaved bus) or 19 (the vault failed, with the number of bytes
+/// that a faithful vault accepted during this call).
 pub fn read_out<B: Bus, V: Vault>(
     bus: &mut B,
     included: Option<&Ranges>,

@@ -23,14 +23,12 @@ struct Compared {
 }
 
 /// Compares the chip with an image at the included addresses (at every address if `included` is `None`). Reads each
-/// sector that has an included address once, in ascending order, even after it found a difference. On any bus success
-/// means that the replies to these reads have the image's byte at each included address. On a modelled bus the chip
-/// then has these bytes.
+/// sector that has an included address once, even after a difference was found. On any bus success means that the
+/// replies have the image's byte at each included address; on a modelled bus the chip then has these bytes.
 ///
 /// Returns error 1 (no chip), 2 (unknown chip), 3 (other name), 4 (the image isn't as long as the chip), 5 (an included
 /// address isn't on the chip), 12 (the bus stopped), 13 (the chip stayed busy; not on a well-behaved bus), or 14 with
-/// the first included address at which the bytes that were read and the image differ. Nothing is sent after error 12 or
-/// 13 occurs.
+/// the first included address at which the bytes that were read and the image differ.
 pub fn verify<B: Bus>(
     bus: &mut B,
     image: &[u8],
@@ -112,8 +110,7 @@ fn compare_part<B: Bus>(
     Ok(Compared { first, reads: 1 })
 }
 
-// Overwrites the bytes at excluded addresses with those of the image, so that one comparison of whole sectors is
-// enough.
+// Overwrites the bytes at excluded addresses with the image's, so that a difference can only be at an included address.
 fn first_other(
     image: &[u8],
     included: Option<&Ranges>,

@@ -1,4 +1,3 @@
--- Lemmas about the records that a scan has written to a journal so far, on every bus.
 use Rattle.std.proofs.Common.{◌≡◌, ◌≤◌, ◌<◌, ◌+◌, ◌*◌, ◌/◌, ◌∙◌, ℕ, Bool, true, false, true≢false, inl, inr, List, Option, None, Some, refl, sym, arith}
 use Rattle.std.proofs.lemmas.Bool.{cases_eq}
 use Rattle.std.specs.Option.{IsSomeAnd}
@@ -38,8 +37,6 @@ put_alike {one = one} {other = other} {saved = saved} {more = more} same equal a
   next = let next = put.next in omega arith;
 }
 
--- Holds between the start of a loop that writes records (`old`) and a later point (`new`), which has written the
--- records of the sectors in `saved`, all below `n`, with the bytes `read`.
 pub record HasJournalled {V : Type 0} (state : V → VaultState) (old new : Writer V) (size : ℕ) (bus : BusState)
     (read : ℕ → ℕ) (saved : ℕ → Bool) (n : ℕ) : Type 0 where
   pub same_vault : (vault_of new).ghost_name ≡ (vault_of old).ghost_name

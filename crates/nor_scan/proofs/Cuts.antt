@@ -1,5 +1,3 @@
--- Lemmas about the header and records that a writer was given for a chip's journal, and about the prefix of the journal
--- that a faithful vault (`telling`) has after an error.
 use Rattle.std.proofs.Common.{◌≡◌, ◌∙◌, ℕ, true, ◌*◌, ◌/◌, ◌%◌, ◌<◌, List, [], refl, ap, sym, arith, ◌≤◌, ◌+◌}
 use Rattle.std.proofs.Common.{◌&&◌, Bool, length, subst}
 use mathlib.Core.Path.{fun_ext}
@@ -58,8 +56,6 @@ cut_between {head = head} {chip = chip} {touched = touched} size sized below = �
     rw (← sized) (begins_whole head chip touched kept.content below.bound _ kept.same kept.saves kept.next
     (rw sized inside) (put_begins kept.written faithful))
 
--- After a refusal within the record of sector `n`, a faithful vault (`telling`) has a prefix of the header, the earlier
--- records and this record, and these are a prefix of the whole journal.
 pub cut_in_record : {V : Type 0} {state : V → VaultState} {writer : Writer V} {head : Content} {chip : ℕ → ℕ} {n : ℕ}
     {bytes : List ℕ} (vault : VaultState) (touched : ℕ → Bool) (size : ℕ)
     (kept : HasPutSectors state writer head chip (λ s. nat_lt s n && touched s) n) → head.size ≡ size
@@ -113,7 +109,6 @@ module _ {chip : Chip} {identity : Identity} {old : BusState} (is : IsIdentityOf
         ∙ only_inside (is_raised chip.bytes (wanted request image chip)) (chip.config.size / 4096) s
         (raised_past request image chip.config.size chip.bytes s (sized_bounds chip.config).blocks)
 
-  -- The premise that status 2 is below 128 holds for the chip of each well-behaved bus (`IsChip`).
   pub head_same : {status : List ℕ} → old.chip.kept.two < 128 → status ≡ kept_read identity
       → head_read identity status ≡ header_of chip
   head_same {status = status} small read =
@@ -123,8 +118,6 @@ module _ {chip : Chip} {identity : Identity} {old : BusState} (is : IsIdentityOf
       let high : identity.status2 % 128 ≡ chip.kept.two = omega arith in
       cc
 
--- Holds if the writer was given exactly the header of the chip on the bus, provided that the bus is well-behaved, and
--- that its chip is idle and has this identification.
 abbrev pub PutsHead : {V : Type 0} → (V → VaultState) → Writer V → Identity → BusState → Type 0
 PutsHead state writer identity old = (chip : Chip) → IsIdentityOf chip identity → HasIdleChip chip old
     → HasPutSectors state writer (header_of chip) old.chip.bytes none 0
@@ -137,8 +130,6 @@ head_put {state = state} {writer = writer} identity old reaches read written = �
     (HasKept-none state writer identity.found.id (Some identity.unique) _ identity.found.size old.chip.bytes none 0
     written (λ s. refl))
 
--- Holds if `promise` holds for each header with this size that the writer was given, provided that the bus is
--- well-behaved, and that its chip is idle and has this size.
 abbrev pub FromHead : {V : Type 0} → (V → VaultState) → Writer V → (size : ℕ) → BusState → (Content → Type 0) → Type 0
 FromHead state writer size old promise = IsOpen size old → (head : Content) → head.size ≡ size
     → HasPutSectors state writer head old.chip.bytes none 0 → promise head

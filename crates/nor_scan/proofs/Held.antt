@@ -1,4 +1,3 @@
--- Lemmas about the status that an identification read. It decides which addresses of the chip are protected.
 use Rattle.std.proofs.Common.{◌≡◌, ◌≤◌, ◌∷◌, [], ℕ, ◌+◌, ◌-◌, ◌*◌, ◌/◌, false, refl, arith}
 use Rattle.std.proofs.lemmas.Bool.Decides.{nat_tests}
 use Rattle.nor_model.specs.Chip.{Chip, KeptBits, is_locked, kept_in}

@@ -1,5 +1,3 @@
--- A request has one verdict. If the check against the identification or the one against the touched sectors returns an
--- error, it is the error with the lowest number that applies. If both accept the request, no error applies.
 use Rattle.std.proofs.Common.{◌≡◌, ◌≢◌, ◌<◌, ◌≤◌, ◌*◌, ◌∙◌, ℕ, Bool, true, false, List, length, Err, refl, sym, arith, rules}
 use Rattle.std.proofs.Common.{Option, None, Some}
 use mathlib.Core.Path.{fun_ext}
@@ -33,8 +31,6 @@ pub record FitsProtection (request : Request) (chip : Chip) : Type 0 where
   pub scheme : is_data request.what ≡ false → chip.config.scheme ≡ true
   pub defined : chip.config.scheme ≡ true → is_undefined (code_of chip.kept) ≡ false
 
--- Holds if the check against the identification fails with this error. For each error the formula also states the
--- earlier checks that passed, as far as the proof needs them.
 abbrev pub OpeningJudges : Request → (image : ℕ) → Chip → Refusal → Type 0
 OpeningJudges request image chip (ImageSize size len) =
     (is_data request.what ≡ true) × (size ≡ chip.config.size) × (len ≡ image) × (image ≢ chip.config.size)

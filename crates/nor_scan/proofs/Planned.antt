@@ -1,5 +1,3 @@
--- Lemmas about the target byte at an address, and about whether a sector is touched (must change) or raised (needs an
--- erase).
 use Rattle.std.proofs.Common.{◌≡◌, ◌<◌, ◌≤◌, ◌+◌, ◌*◌, ◌/◌, ◌%◌, ◌∙◌, ℕ, Bool, true, false, ◌&&◌, List, length, slice_index}
 use Rattle.std.proofs.Common.{Option, ap, sym, arith, inl, inr, refl, bit_and}
 use Rattle.std.specs.Int.Bits.{and_self}

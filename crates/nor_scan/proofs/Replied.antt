@@ -1,5 +1,3 @@
--- Lemmas about the replies to the identification and to the scan. `bytes_read` has the bytes that were last read at
--- each address.
 use Rattle.std.proofs.Common.{◌≡◌, ◌≢◌, ◌<◌, ◌+◌, ◌*◌, ◌/◌, ◌%◌, ◌∙◌, ℕ, Bool, List, length, slice_index, refl, sym, ap, arith}
 use Rattle.nor_model.specs.Exchange.{Exchange}
 use Rattle.nor_model.specs.History.{Continues, KeepsReplies, Answered, begins_with, names}

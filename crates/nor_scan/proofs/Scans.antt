@@ -1,5 +1,3 @@
--- Lemmas about the loop of a scan: which sectors are marked, which were read, and what the image contains after the
--- sectors below a bound were scanned.
 use Rattle.std.proofs.Common.{◌≡◌, ◌≢◌, ◌<◌, ◌≤◌, ◌+◌, ◌-◌, ◌*◌, ◌/◌, ◌%◌, ◌&&◌, ◌||◌, ◌∙◌, ℕ, Bool, true, false, List}
 use Rattle.std.proofs.Common.{Option, take, drop, length, slice_index, refl, ap, sym, subst, arith, inl, inr}
 use Rattle.std.specs.Prelude.{if◌then◌else◌, ◌==◌, nat_lt}
@@ -40,8 +38,7 @@ AgreeBelow n one two = (s i : ℕ) → s < n → i < 4096 → one (4096 * s + i)
 abbrev pub IsIncludedBelow : Request → (n a : ℕ) → Type 0
 IsIncludedBelow request n a = (a / 4096 < n) × (has_in_sector (includes request.included) (a / 4096) ≡ true)
 
--- Holds if the sectors below `n` with an included address were scanned, and no byte of the image from sector `n` on was
--- changed.
+-- Holds if the sectors below `n` with an included address were scanned, and the image from sector `n` on is unchanged.
 pub record HasScanned (request : Request) (size n : ℕ) (image image' : List ℕ) (old new : BusState)
     (scanned : Scanned) : Type 0 where
   pub marks : AreMarks n scanned

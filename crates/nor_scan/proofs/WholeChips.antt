@@ -1,5 +1,3 @@
--- Lemmas about saving a whole chip: the loop over its sectors, and the prefix of the journal that a faithful vault
--- (`telling`) has after an error.
 use Rattle.std.proofs.Common.{◌≡◌, ◌≤◌, ◌+◌, ◌*◌, ◌/◌, ◌&&◌, ℕ, Bool, true, List, length, refl, subst, arith}
 use mathlib.Core.Path.{fun_ext}
 use Rattle.std.specs.Prelude.{nat_lt}

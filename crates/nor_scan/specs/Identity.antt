@@ -23,8 +23,6 @@ needed_to_identify chip = needed chip + 2
 abbrev pub status_read : Identity → List ℕ
 status_read identity = identity.found.status1 ∷ identity.status2 ∷ []
 
--- Holds after the reads of status 2 and the unique ID succeeded. The unique ID is known to be the chip's only if the
--- chip of a well-behaved bus was idle.
 pub record ReadsRest (probed : Probed) (old new : BusState) (identity : Identity) : Type 0 where
   pub found : identity.found ≡ probed.found
   pub between : List Exchange
@@ -37,7 +35,7 @@ pub record ReadsRest (probed : Probed) (old new : BusState) (identity : Identity
   pub status2 : old.honest ≡ true → identity.status2 ≡ old.chip.kept.two
   pub unique : old.honest ≡ true → old.chip.busy ≡ 0 → identity.unique ≡ unique_of old.chip.config
 
--- Holds after an identification that succeeded. Size, erase types and block protection that were found are known to be
+-- Holds after an identification succeeded. The size, erase types and block protection that were found are proved to be
 -- the chip's own only on a modelled bus.
 pub record ReadsIdentity (named : Option ChipName) (old new : BusState) (identity : Identity) : Type 0 where
   pub part : IsPart old.further identity.found

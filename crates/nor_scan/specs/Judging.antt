@@ -1,4 +1,4 @@
--- The results of the two checks of a request: against the identification, and against the touched sectors.
+-- The results of the checks of a request against the identification, and against the touched sectors.
 use Rattle.std.specs.Prelude.{◌≡◌, ℕ, Bool, true, List, length, Option, Result, IfOk, IfErr, MatchBool, MatchOption, ⊤}
 use Rattle.nor_model.specs.Chip.{Chip, kept_in}
 use Rattle.nor_model.specs.Guard.{code_of}
@@ -17,9 +17,6 @@ use Rattle.nor_request.specs.declared.refusal.Refusal.TheVariants.{ImageSize, Re
 use Rattle.nor_scan.specs.Saving.{IsIdentityOf, IsLeastProtected, NoneProtected, SomeProtected, NeedsStatus}
 use Rattle.nor_scan.specs.Verdict.{IsNamed, IsVerdict, IdentityAccepts, ScanAccepts}
 
--- ---- on every bus
-
--- Holds for errors 4 to 8, which the check against the identification may return.
 abbrev pub IsIdentityRefusal : Refusal → Type 0
 IsIdentityRefusal (ImageSize chip image) = ⊤
 IsIdentityRefusal RegionOutside = ⊤
@@ -34,7 +31,6 @@ abbrev pub IsFoundCode : What → Identity → ℕ → Type 0
 IsFoundCode (WpRange start len) identity code = IsLeastCode identity.found.size start len code
 IsFoundCode _ identity code = code ≡ code_of (kept_in (status_read identity))
 
--- Holds for errors 9 and 10, which the check against the touched sectors may return.
 abbrev pub IsScanRefusal : Refusal → Type 0
 IsScanRefusal StatusLocked = ⊤
 IsScanRefusal (Protected address) = ⊤
@@ -43,10 +39,8 @@ IsScanRefusal _ = ⊥
 abbrev pub Lifts : Request → SectorSet → Bool → Type 0
 Lifts request touched unlock = unlock ≡ true → (request.unlock ≡ true) × HasSome touched
 
--- ---- for each chip with this identification
-
--- Holds if the check against the identification accepts only what `IdentityAccepts` allows, for each image of `len`
--- bytes and each chip that has this identification and the requested name, if any.
+-- Holds if a request that `judge_identity` accepts satisfies `IdentityAccepts`, for each image of `len` bytes and each
+-- chip with this identification and the requested name, if any.
 abbrev pub AcceptsIdentity : Request → ℕ → Identity → Result ℕ Refusal → Type 0
 AcceptsIdentity request len identity judged = (chip : Chip) (image : List ℕ) → IsIdentityOf chip identity
     → IsNamed request.named chip.config → length image ≡ len → IfOk judged (IdentityAccepts request image chip)

@@ -5,8 +5,8 @@ use Rattle.nor_model.specs.History.{last_reply, begins_with}
 use Rattle.nor_probe.specs.Replied.{IsFoundBy}
 use Rattle.nor_scan.specs.declared.identity.Identity.{Identity}
 
--- Holds if the values in `identity` are those that the bus replied: the chip that was found (`IsFoundBy`), and the last
--- replies to 35h (status 2) and 4Bh (unique ID).
+-- Holds if `identity` has what the bus replied: the chip that was found (`IsFoundBy`), and the last replies to 35h
+-- (status 2) and 4Bh (unique ID).
 pub record IsIdentifiedBy (further : Bool) (history : List Exchange) (identity : Identity) : Type 0 where
   pub found : IsFoundBy further history identity.found
   pub status2 : last_reply (begins_with 0x35) history ≡ identity.status2 ∷ []

@@ -19,7 +19,8 @@ use Rattle.nor_scan.specs.Judging.{Lifts}
 use Rattle.nor_scan.specs.Saving.{IsIdentityOf, HasIdleChip, header_of}
 use Rattle.nor_scan.specs.Verdict.{IsVerdict, IdentityAccepts, ScanAccepts}
 
--- The effect of `save` on the vault: success seals it, and error 11 means that it refused a call.
+-- Holds if the vault is sealed after success, has refused a call after error 11, and has accepted every call after any
+-- other error.
 abbrev pub SavePuts : Result SavedScan Refusal → (old new : VaultState) → Type 0
 SavePuts (Ok saved) old new = Completed old new
 SavePuts (Err Vault) old new = Refused old new
@@ -30,7 +31,7 @@ pub record IsJournal (bytes : List ℕ) : Type 0 where
   pub is : IsContent content
   pub same : bytes ≡ text content
 
--- Holds if the bytes are the encoding of a journal with this header that saves exactly these sectors.
+-- Holds if `bytes` are the encoding of a journal that has the header of `head` and saves exactly these sectors.
 pub record IsJournalOf (head : Content) (sectors : ℕ → Bool) (bytes : List ℕ) : Type 0 where
   pub content : Content
   pub is : IsContent content
@@ -38,12 +39,12 @@ pub record IsJournalOf (head : Content) (sectors : ℕ → Bool) (bytes : List �
   pub head_same : SameHeader head content
   pub saved : (s : ℕ) → is_saved content s ≡ sectors s
 
--- Holds if the vault isn't sealed, isn't faithful (`telling`), or has the encoding of a journal.
+-- Holds if the vault has the encoding of a journal, or is unsealed, or isn't faithful (`telling`).
 abbrev pub HoldsJournal : VaultState → Type 0
 HoldsJournal vault = vault.sealed ≡ true → vault.telling ≡ true → IsJournal vault.bytes
 
--- Holds if the result of a `save` that succeeded is right for this chip: the marked sectors, the image, whether
--- protection is lifted, and the journal in a faithful vault (`telling`).
+-- Holds if the result of a successful `save` is right for this chip: the marked sectors, the image, whether protection
+-- is lifted, and the journal in a faithful vault (`telling`).
 pub record HasSavedChip (request : Request) (code : ℕ) (image image' : List ℕ)
     (chip : Chip) (vault : VaultState) (saved : SavedScan) : Type 0 where
   pub touched : (s : ℕ) → has saved.scanned.touched s ≡ is_touched chip.bytes (wanted request image chip) s
@@ -54,8 +55,8 @@ pub record HasSavedChip (request : Request) (code : ℕ) (image image' : List �
   pub journal : vault.telling ≡ true
       → JournalSaves (header_of chip) chip.bytes (is_touched chip.bytes (wanted request image chip)) vault.bytes
 
--- Holds after `save` succeeded. If the bus was well-behaved, and its chip was idle and had this identification, the
--- result is right for that chip (`HasSavedChip`).
+-- Holds after `save` succeeded. On a well-behaved bus with an idle chip that `identity` describes, the result is right
+-- for that chip (`HasSavedChip`).
 pub record HasSaved (request : Request) (identity : Identity) (code : ℕ) (image image' : List ℕ)
     (old new : BusState) (vault : VaultState) (saved : SavedScan) : Type 0 where
   pub lifts : Lifts request saved.scanned.touched saved.unlock
@@ -63,15 +64,14 @@ pub record HasSaved (request : Request) (identity : Identity) (code : ℕ) (imag
   pub chip : (chip : Chip) → IsIdentityOf chip identity → HasIdleChip chip old
       → HasSavedChip request code image image' chip vault saved
 
--- Holds if the error is the verdict on the request for the chip on the bus. The premises are that the bus is
--- well-behaved, its chip is idle and has this identification, and errors 1 to 8 don't apply (`IdentityAccepts`).
+-- Holds if the error is the verdict on the request for the chip of a well-behaved bus, provided that this chip is idle
+-- and has this identification, and that errors 1 to 8 don't apply.
 abbrev pub JudgesChip : Request → Identity → ℕ → List ℕ → BusState → Refusal → Type 0
 JudgesChip request identity code image old refusal =
     (chip : Chip) → IsIdentityOf chip identity → HasIdleChip chip old → IdentityAccepts request image chip code
     → IsVerdict request image chip refusal
 
--- Holds if `save` may return this error. Error 12 means that the bus stopped at the last transaction; on a punctual bus
--- fewer transactions were left than the scan needs.
+-- Holds if `save` may return this error.
 abbrev pub SaveErrors : Request → Identity → ℕ → List ℕ → (old new : BusState) → Refusal → Type 0
 SaveErrors request identity code image old new Stopped =
     HasStopped (scanned_sectors request identity.found.size) old new
@@ -81,7 +81,7 @@ SaveErrors request identity code image old new (Protected address) =
     JudgesChip request identity code image old (Protected address)
 SaveErrors request identity code image old new _ = ⊥
 
--- Holds if the bytes are this header of a journal, and the records of exactly the touched sectors below some bound.
+-- Holds if `bytes` are the header of `head`, and complete records of exactly the touched sectors below some bound.
 pub record HasWholeRecords (head : Content) (old : ℕ → ℕ) (touched : ℕ → Bool) (bytes : List ℕ) : Type 0 where
   pub content : Content
   pub bound : ℕ
@@ -89,15 +89,15 @@ pub record HasWholeRecords (head : Content) (old : ℕ → ℕ) (touched : ℕ �
   pub saves : Saves old (λ s. nat_lt s bound && touched s) content
   pub is : bytes ≡ front content
 
--- Holds if a faithful vault (`telling`) has a prefix of the chip's journal, as after any error of `save`. The premises
--- are that the bus was well-behaved, and that its chip was idle and had this identification.
+-- Holds if a faithful vault (`telling`) has a prefix of the journal of the chip of a well-behaved bus, provided that
+-- this chip is idle and has this identification.
 abbrev pub SaveCuts : Request → Identity → List ℕ → BusState → VaultState → Type 0
 SaveCuts request identity image old vault = vault.telling ≡ true
     → (chip : Chip) → IsIdentityOf chip identity → HasIdleChip chip old
     → IsJournalPrefix (header_of chip) chip.bytes (is_touched chip.bytes (wanted request image chip)) vault.bytes
 
--- Holds if a faithful vault (`telling`) has the header and complete records of the chip's journal, as after an error of
--- `save` other than 11, with the same premises as `SaveCuts`.
+-- Holds if, after an error other than 11 and under the premises of `SaveCuts`, the vault has the header and complete
+-- records of the chip's journal.
 abbrev pub SaveBegins : Request → Identity → List ℕ → BusState → VaultState → Refusal → Type 0
 SaveBegins request identity image old vault refusal = refusal ≢ Vault → vault.telling ≡ true
     → (chip : Chip) → IsIdentityOf chip identity → HasIdleChip chip old

@@ -1,4 +1,4 @@
--- The effect of saving a whole chip in a journal.
+-- The effect of `save_whole`, which saves a whole chip in a journal.
 use Rattle.std.specs.Prelude.{◌≡◌, ◌/◌, ℕ, true}
 use Rattle.nor_model.specs.Chip.{Chip}
 use Rattle.nor_model.specs.Bus.{BusState}
@@ -11,21 +11,20 @@ use Rattle.nor_scan.specs.declared.identity.Identity.{Identity}
 use Rattle.nor_scan.specs.Saving.{IsIdentityOf, HasIdleChip, header_of}
 use Rattle.nor_scan.specs.Scanning.{sectors_below}
 
--- Holds if a faithful vault (`telling`) has a journal of every sector of the chip on the bus. The premises are that the
--- bus is well-behaved, and that its chip is idle and has this identification.
+-- Holds if a faithful vault (`telling`) has a journal of every sector of the chip of a well-behaved bus, provided that
+-- this chip is idle and has this identification.
 abbrev pub HasWholeChip : Identity → BusState → VaultState → Type 0
 HasWholeChip identity old vault = vault.telling ≡ true
     → (chip : Chip) → IsIdentityOf chip identity → HasIdleChip chip old
     → JournalSaves (header_of chip) chip.bytes (sectors_below (chip.config.size / 4096)) vault.bytes
 
--- Holds if a faithful vault (`telling`) has a prefix of the chip's journal, with the same premises as `HasWholeChip`.
+-- Holds if a faithful vault (`telling`) has a prefix of the chip's journal, under the premises of `HasWholeChip`.
 abbrev pub BeginsWholeChip : Identity → BusState → VaultState → Type 0
 BeginsWholeChip identity old vault = vault.telling ≡ true
     → (chip : Chip) → IsIdentityOf chip identity → HasIdleChip chip old
     → IsJournalPrefix (header_of chip) chip.bytes (sectors_below (chip.config.size / 4096)) vault.bytes
 
--- Holds if saving a whole chip may return this error and leave this vault. Error 12 means that the bus stopped at the
--- last transaction, and after error 11 the vault has refused one call.
+-- Holds if `save_whole` may return this error: 12 (the bus stopped) or 11 (the vault refused a call).
 abbrev pub SaveWholeErrors : (most : ℕ) → (old new : BusState) → (vault vault' : VaultState) → Refusal → Type 0
 SaveWholeErrors most old new vault vault' Stopped = HasStopped most old new × Accepted vault vault'
 SaveWholeErrors most old new vault vault' Vault = Refused vault vault'

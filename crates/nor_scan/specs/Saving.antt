@@ -1,5 +1,4 @@
--- Definitions for a chip and its identification, for a request and its touched sectors, and for the header of the
--- chip's journal.
+-- Relations between a chip and its identification, and between a chip and touched sectors; the header of a journal.
 use Rattle.std.specs.Prelude.{◌≡◌, ◌≢◌, ◌<◌, ◌*◌, ◌/◌, ◌&&◌, ℕ, Bool, true, false, Some, [], ◌∷◌, ◌%◌, List}
 use Rattle.nor_model.specs.Chip.{Chip, IsSame}
 use Rattle.nor_model.specs.Bus.{BusState}
@@ -24,14 +23,10 @@ pub record HasIdleChip (chip : Chip) (state : BusState) : Type 0 where
   pub idle : state.chip.busy ≡ 0
   pub same : IsSame chip state.chip
 
--- ---- the request
-
 -- Holds if the request is for a protection range, and no defined protection bits protect exactly this range.
 abbrev pub AsksForNone : What → Chip → Type 0
 AsksForNone (WpRange start len) chip = IsNotOffered chip.config.size start len
 AsksForNone _ chip = ⊥
-
--- ---- the touched sectors
 
 abbrev pub is_touched_protected : (touched : ℕ → Bool) → Chip → (s : ℕ) → Bool
 is_touched_protected touched chip s = touched s && is_block_protected chip (4096 * s) 4096
@@ -53,13 +48,11 @@ abbrev pub NeedsStatus : What → (unlock : Bool) → (code : ℕ) → (touched 
 NeedsStatus (WpRange start len) unlock code touched chip = code ≢ code_of chip.kept
 NeedsStatus _ unlock code touched chip = (unlock ≡ true) × SomeProtected touched chip
 
--- ---- the journal
-
--- the non-volatile bits of the two status bytes that the identification read
+-- The non-volatile bits of the two status bytes that the identification read.
 abbrev pub kept_read : Identity → List ℕ
 kept_read identity = (identity.found.status1 / 4 * 4) ∷ (identity.status2 % 128) ∷ []
 
--- the header of the journal that is written after this identification
+-- The header of the journal that is written after this identification.
 abbrev pub header_found : Identity → Content
 header_found identity =
     empty_content identity.found.id (Some identity.unique) (kept_read identity) identity.found.size

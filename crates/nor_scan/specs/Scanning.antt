@@ -1,5 +1,4 @@
--- The effect of a scan: which sectors are touched (must change) and raised (need an erase), and what is written to the
--- journal.
+-- The effect of a scan: the touched and raised sectors, and what is written to the journal.
 use Rattle.std.specs.Prelude.{◌≡◌, ◌<◌, ◌≤◌, ◌+◌, ◌*◌, ◌/◌, ◌==◌, ◌&&◌, ◌||◌, ℕ, Bool, true, false, nat_lt, Result, Err, List, slice_index, if◌then◌else◌, ⊤}
 use Rattle.nor_model.specs.History.{Answered, names}
 use Rattle.nor_model.specs.Bus.{BusState}
@@ -24,8 +23,8 @@ use Rattle.nor_scan.specs.declared.scanning.Scanned.{Scanned}
 use Rattle.nor_request.specs.Request.{is_data, target, is_requested, scanned_sectors}
 use Rattle.nor_layout.specs.Sectors.{includes, has_in_sector}
 
--- The target byte at address `a` of a chip with this size and content. If the request may change the address, this is
--- the image's byte (for a write) or FFh (for an erase), otherwise the byte of `content`.
+-- The target byte at address `a`. If the request may change this address, the target is the byte of the image (for a
+-- write) or FFh (for an erase), otherwise the byte of `content`.
 abbrev pub wanted_at : Request → (image : List ℕ) → (size : ℕ) → (content : ℕ → ℕ) → (a : ℕ) → ℕ
 wanted_at request image size content a = if is_requested request size a then target request.what image a else content a
 
@@ -46,7 +45,6 @@ pub record AreMarks (n : ℕ) (scanned : Scanned) : Type 0 where
   pub inside : (s : ℕ) → has scanned.raised s ≡ true → has scanned.touched s ≡ true
   pub count : scanned.count ≡ sector_count (has scanned.touched)
 
--- Holds if the marks of the sectors in `seen` are right, and no other sector is marked.
 pub record AreRight (wanted content : ℕ → ℕ) (seen : ℕ → Bool) (scanned : Scanned) : Type 0 where
   pub touched : (s : ℕ) → has scanned.touched s ≡ (seen s && is_touched content wanted s)
   pub raised : (s : ℕ) → has scanned.raised s ≡ (seen s && is_raised content wanted s)
@@ -54,9 +52,8 @@ pub record AreRight (wanted content : ℕ → ℕ) (seen : ℕ → Bool) (scanne
 abbrev pub sectors_below : (n s : ℕ) → Bool
 sectors_below n s = nat_lt s n
 
--- Holds after one sector was scanned. `bytes` is the reply to the only transaction; the plan, and the image's part
--- afterwards (`part'`), are right for each content that has these bytes. On a well-behaved bus with an idle chip of
--- this size they are the chip's bytes.
+-- Holds after one sector was scanned. `bytes` is the reply to its read. The plan, and the image's part afterwards
+-- (`part'`), are right for each content that has these bytes.
 pub record ScansSector (request : Request) (size sector : ℕ) (part part' bytes : List ℕ)
     (old new : BusState) (plan : SectorPlan) : Type 0 where
   pub needed : plan.raised ≡ true → plan.touched ≡ true
@@ -72,8 +69,8 @@ pub record ScansSector (request : Request) (size sector : ℕ) (part part' bytes
       → (plan.touched ≡ is_touched content (wanted_at request image size content) sector)
       × (plan.raised ≡ is_raised content (wanted_at request image size content) sector)
 
--- Holds if the address `a` is in a sector that a session scans: for a write or an erase a sector of the chip with an
--- included address, for a protection range none.
+-- Holds if a session scans the sector of address `a`, because the request is a write or an erase, and the sector is on
+-- the chip and has an included address.
 abbrev pub IsScanned : Request → (size : ℕ) → (a : ℕ) → Type 0
 IsScanned request size a = (is_data request.what ≡ true) × (a / 4096 < size / 4096)
     × (has_in_sector (includes request.included) (a / 4096) ≡ true)
@@ -103,13 +100,13 @@ ScanErrors most old new Stopped = HasStopped most old new
 ScanErrors most old new Vault = ⊤
 ScanErrors most old new _ = ⊥
 
--- The effect of a scan on the vault, which stays unsealed: error 11 means that the vault refused a call.
+-- Holds if the vault has refused a call after error 11, and has accepted every call otherwise.
 abbrev pub ScanPuts : {T : Type 0} → Result T Refusal → (old new : VaultState) → Type 0
 ScanPuts (Err Vault) old new = Refused old new
 ScanPuts _ old new = Accepted old new
 
 -- Holds if a faithful vault (`telling`) has a prefix of the journal with this header that saves exactly the touched
--- sectors below `total`, with the bytes that these sectors have in `old`.
+-- sectors below `total`, with their bytes in `old`.
 abbrev pub HoldsCut : VaultState → (head : Content) → (old : ℕ → ℕ) → (touched : ℕ → Bool) → (total : ℕ) → Type 0
 HoldsCut vault head old touched total = vault.telling ≡ true
     → IsJournalPrefix head old (λ s. nat_lt s total && touched s) vault.bytes

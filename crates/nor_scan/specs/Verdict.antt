@@ -57,8 +57,7 @@ pub record IdentityAccepts (request : Request) (image : List ℕ) (chip : Chip) 
   pub clear : NoneHoldsTo 8 request image chip
   pub is_wanted : IsWantedCode request.what chip code
 
--- Holds if no error applies. `unlock` says whether protection is lifted: only if the request allows this and a touched
--- sector is protected.
+-- Holds if no error applies, and `unlock` is set if and only if a touched sector is protected.
 pub record ScanAccepts (request : Request) (image : List ℕ) (chip : Chip) (unlock : Bool) : Type 0 where
   pub accepted : IsAccepted request image chip
   pub lifts : unlock ≡ true

@@ -1,4 +1,4 @@
-//! The identification at the start of a session, restore or backup.
+//! The identification of a chip at the start of a session, restore or backup.
 ghost use Rattle.std.specs.Prelude.{◌≡◌, ◌<◌, ◌≤◌, true, IfOk, IfErr, OnErr, IsTrue};
 ghost use Rattle.nor_model.specs.Size.{is_chip_size};
 ghost use Rattle.nor_driver.specs.OnlyReads.{OnlyReads, HasStopped};
@@ -13,11 +13,11 @@ use nor_model::{Bus, Stopped};
 use nor_probe::{ChipName, Probed, probe_counted};
 use nor_request::Refusal;
 
-/// Waits until the chip is ready, identifies it by its ID or SFDP, and reads status 2 and the unique ID. If `named` is
-/// given, the chip must have that name. On a punctual bus at most 65,542 transactions are sent.
+/// Waits until the chip is ready, identifies it by its ID or SFDP, and reads status 2 and the unique ID. Sends at most
+/// 65,542 transactions on a punctual bus.
 ///
-/// Returns error 1 (no chip), 2 (unknown chip), 3 (other name), 12 (the bus stopped) or 13 with address 0 (the chip
-/// stayed busy; not on a well-behaved bus).
+/// Returns error 1 (no chip), 2 (unknown chip), 3 (its name isn't `named`), 12 (the bus stopped) or 13 with address 0
+/// (the chip stayed busy; not on a well-behaved bus).
 pub fn identify<B: Bus>(bus: &mut B, named: Option<ChipName>) -> Result<Identity, Refusal>
     ensures leaves { OnlyReads most_identity (B.state bus.old) (B.state bus.new) }
     ensures identifies { IfOk result (ReadsIdentity named (B.state bus.old) (B.state bus.new)) }
@@ -31,10 +31,8 @@ pub fn identify<B: Bus>(bus: &mut B, named: Option<ChipName>) -> Result<Identity
     Ok(identity)
 }
 
-/// Reads status 2 and the unique ID of the chip that a probe found, with two transactions. `probed` must have a size
-/// that a chip may have, and count at most 65,540 transactions.
-///
-/// Returns `Stopped` if the bus stopped; a punctual bus then had fewer than two transactions left.
+/// Reads status 2 and the unique ID of the chip that a probe found, with two transactions. Returns `Stopped` if the bus
+/// stopped; a punctual bus then had fewer than two transactions left.
 pub fn read_on<B: Bus>(bus: &mut B, probed: Probed) -> Result<Identity, Stopped>
     requires few { probed.transactions ≤ most_probe }
     requires sized { IsTrue (is_chip_size probed.found.size) }

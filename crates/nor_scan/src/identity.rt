@@ -19,7 +19,6 @@ impl Identity {
     ghost use Rattle.nor_model.specs.Status.{bytes_of};
     ghost use Rattle.nor_scan.specs.Identity.{status_read};
 
-    /// Returns both status registers as they were read.
     pub fn status(&self) -> Status
         ensures { bytes_of result ≡ status_read self.now }
     {

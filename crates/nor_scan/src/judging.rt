@@ -1,4 +1,4 @@
-//! The checks of a request, against the identification and against the touched sectors.
+//! The checks of a request against the identification and against the touched sectors.
 ghost use Rattle.std.specs.Prelude.{◌≡◌, ◌<◌, ◌≤◌, ◌*◌, ◌==◌, ℕ, Bool, true, false, length, IfOk, IfErr, IfSome, IfNone, MatchOption, MatchBool};
 ghost use Rattle.nor_model.specs.Chip.{Chip, kept_in};
 ghost use Rattle.nor_model.specs.Guard.{is_undefined, protected_by, code_of};
@@ -16,14 +16,12 @@ use nor_plan::SectorSet;
 use nor_request::{Refusal, Request, What};
 
 /// Checks a request against the identification. `image` is the length of the image in bytes. Returns the target
-/// protection bits as a number below 64. For a write or an erase these are the bits that were read.
+/// protection bits as a number below 64; for a write or an erase these are the bits that were read.
 ///
-/// Returns the error with the lowest number that applies:
-///
-/// - For a write or an erase: 4 (the image isn't as long as the chip), 5 (an included address isn't on the chip) or 7
-///   (undefined protection bits on a chip with block protection).
-/// - For a protection range: 6 (the chip has no block protection), 7, or 8 (no defined protection bits protect exactly
-///   this range).
+/// Returns the error with the lowest number that applies. For a write or an erase: 4 (the image isn't as long as the
+/// chip), 5 (an included address isn't on the chip) or 7 (undefined protection bits on a chip with block protection).
+/// For a protection range: 6 (the chip has no block protection), 7, or 8 (no defined protection bits protect exactly
+/// this range).
 #[tactic(auto, using(crate::proofs::Held::code_same, crate::proofs::OneVerdict::opening_judged, crate::proofs::OneVerdict::opening_accepted))]
 pub fn judge_identity(request: &Request, identity: &Identity, image: usize) -> Result<u8, Refusal>
     ensures six_bits { IfOk result (λ code. code < 64) }
@@ -99,11 +97,11 @@ fn needs_status(
     }
 }
 
-/// Checks a request against the touched sectors. `code` is the result of `judge_identity`. Returns whether protection
-/// must be lifted.
+/// Checks a request against the touched sectors, where `code` is the result of `judge_identity`. Returns whether
+/// protection must be lifted.
 ///
 /// Returns error 9 if the status registers must be written and are locked. Otherwise returns error 10, with the address
-/// of the first protected touched sector, if a touched sector is protected and the request doesn't unlock.
+/// of the first protected touched sector, if there is one and the request doesn't unlock.
 #[tactic(auto, using(crate::proofs::OneVerdict::scan_judged, crate::proofs::OneVerdict::scan_accepted))]
 pub fn judge_scan(
     request: &Request,

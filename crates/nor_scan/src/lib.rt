@@ -1,13 +1,5 @@
 //! The part of a session before the first modifying command: identifies the chip, checks the request, scans the
-//! sectors, and writes the touched ones to the journal. nor_session adds the changes. `save_whole` saves a whole chip,
-//! for backups.
-//!
-//! - `identity.rt`: the result of the identification
-//! - `identifying.rt`: the identification, for sessions, restores and backups
-//! - `judging.rt`: checks a request against the identification, and against the touched sectors
-//! - `scanning.rt`: reads the sectors, and finds those that the session will touch
-//! - `saving.rt`: scans the sectors, checks the touched ones, and seals the journal
-//! - `whole.rt`: saves every sector, and seals the journal
+//! sectors, and saves the touched sectors in the journal. `save_whole` saves a whole chip, for backups.
 //!
 //! ```rust
 //! use nor_chip::{Config, Delays, Meter, SimBus};
@@ -30,9 +22,6 @@
 //! assert!(rt; saved.scanned.touched.contains(0) && !saved.scanned.raised.contains(0));
 //! assert!(rt; vault.is_sealed());
 //! ```
-//!
-//! `specs/Identity.antt` defines what the identification returns, `specs/Verdict.antt` which requests are refused, and
-//! `specs/SavedScan.antt` what is saved.
 #![tactic(auto)]
 
 mod identifying;

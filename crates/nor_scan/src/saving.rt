@@ -1,4 +1,4 @@
-//! Scans the chip before anything is changed, and saves the sectors that the session will touch.
+//! The call `save`, which scans the chip, checks the touched sectors, and seals the journal.
 ghost use Rattle.std.specs.Prelude.{◌≡◌, ◌/◌, true, length, IfOk, IfErr, OnOk, OnErr};
 ghost use Rattle.nor_model.specs.History.{KeepsReplies, begins_with};
 ghost use Rattle.nor_journal.specs.Saved.{JournalSaves};
@@ -17,7 +17,7 @@ use nor_journal::{Vault, Writer};
 use nor_model::Bus;
 use nor_request::{Refusal, Request};
 
-/// The result of a scan whose journal is sealed.
+/// The result of `save`, after which the journal is sealed.
 #[derive(Clone, Copy)]
 pub struct SavedScan {
     pub scanned: Scanned,
@@ -26,21 +26,16 @@ pub struct SavedScan {
 }
 
 /// Scans the chip, writes the touched sectors to the vault, checks the request against them, and seals the vault.
-/// `vault` must be empty and unsealed; for a write or an erase `image` must be as long as the chip that was found.
-/// `code` is the result of `judge_identity`. No modifying command is sent.
+/// `vault` must be empty and unsealed, `code` is the result of `judge_identity`, and for a write or an erase `image`
+/// must be as long as the chip that was found. Sends no modifying command.
 ///
 /// After success on any bus, a faithful vault (`telling`) holds a journal of exactly the sectors in `scanned.touched`.
-/// Each record has the bytes of the last reply to a read of its sector. If the bus is well-behaved, and its chip is
-/// idle and is the one that `identity` describes, these are the sectors that the request touches on this chip, and the
-/// image's touched sectors have the target bytes.
+/// Each record has the bytes of the last reply to a read of its sector. On a well-behaved bus with an idle chip that
+/// `identity` describes, these are the touched sectors of the request, and the image has their target bytes.
 ///
 /// Returns error 9 (the status registers must be written and are locked), 10 (a touched sector is protected, and the
-/// request doesn't unlock), 11 (the vault failed) or 12 (the bus stopped). After an error the vault is unsealed. If bus
-/// and chip are as above:
-///
-/// - Error 9 or 10 is the lowest error that applies, unless one of the errors 1 to 8 does.
-/// - A faithful vault holds a prefix of the chip's journal. After an error other than 11, the prefix ends after the
-///   header or a record.
+/// request doesn't unlock), 11 (the vault failed) or 12 (the bus stopped). After an error the vault is unsealed; if the
+/// bus and its chip are as above, a faithful vault holds a prefix of the chip's journal.
 pub fn save<B: Bus, V: Vault>(
     bus: &mut B,
     vault: &mut V,

@@ -1,4 +1,4 @@
-//! Reads the sectors of a chip before anything is changed, and writes those that a session will touch to the journal.
+//! The scan, which writes the sectors that a session will touch to the journal.
 ghost use Rattle.std.specs.Prelude.{◌≡◌, ◌≢◌, ◌<◌, ◌≤◌, ◌+◌, ◌*◌, ◌/◌, ℕ, Bool, true, false, length, IfOk, IfErr, OnOk, OnErr, IsTrue};
 ghost use Rattle.nor_model.specs.Size.{is_chip_size};
 ghost use Rattle.nor_model.specs.History.{KeepsReplies, begins_with};
@@ -22,8 +22,7 @@ use nor_plan::{Plan, SectorPlan, SectorSet};
 use nor_request::{Refusal, Request, What};
 
 /// The result of a scan: the touched and the raised sectors, the number of touched sectors (`count`), and the number of
-/// sectors that were read (`reads`). A rewrite scans nothing: it marks every saved sector as touched and raised, and
-/// both numbers count these sectors.
+/// sectors that were read (`reads`). A rewrite reads no sector, and sets both numbers to that of the saved sectors.
 #[derive(Clone, Copy)]
 pub struct Scanned {
     pub touched: SectorSet,
@@ -33,7 +32,6 @@ pub struct Scanned {
 }
 
 impl Scanned {
-    /// Returns a result without marked sectors, for the time before the first read.
     pub fn none() -> Scanned
         ensures { IsBlank result }
     {
@@ -90,10 +88,9 @@ fn scan_sector<B: Bus>(
 }
 
 /// Reads each sector with an included address, in ascending order, sets the sector's part of the image to the target
-/// bytes, and writes the touched sectors to the journal. At an address that may not change, the target byte is the
-/// sector's byte. For a protection range no sector is read.
+/// bytes, and writes the touched sectors to the journal. For a protection range no sector is read.
 ///
-/// `size` must be one that a chip may have; for a write or an erase the image must be as long. The vault must be
+/// `size` must be a valid chip size in bytes, and for a write or an erase the length of the image. The vault must be
 /// unsealed. Returns error 11 (the vault failed) or 12 (the bus stopped).
 pub fn scan_all<B: Bus, V: Vault>(
     bus: &mut B,

@@ -1,4 +1,4 @@
-//! Saves a whole chip in a journal, and changes nothing.
+//! The call `save_whole`, which saves a whole chip in a journal, and changes nothing.
 ghost use Rattle.std.specs.Prelude.{◌≡◌, ◌/◌, ℕ, true, false, IfErr, OnOk, OnErr, IsTrue};
 ghost use Rattle.nor_model.specs.Size.{is_chip_size};
 ghost use Rattle.nor_model.specs.History.{KeepsReplies, begins_with};
@@ -21,15 +21,14 @@ use nor_journal::{Vault, Writer};
 use nor_model::Bus;
 use nor_request::Refusal;
 
-/// Saves every sector of the identified chip to a journal, and seals the vault, which must be empty and unsealed. The
-/// call sends at most one read for each sector (exactly one if it succeeds), and no other transaction.
+/// Saves every sector of the identified chip to a journal, and seals the vault, which must be empty and unsealed. Sends
+/// at most one read for each sector, and no other transaction.
 ///
 /// After success on any bus, a faithful vault (`telling`) holds a journal of all sectors of a chip of the size that was
-/// found. Each record has the bytes of the last reply to a read of its sector. If the bus is well-behaved, and its chip
-/// is idle and is the one that `identity` describes, this is the chip's journal.
+/// found. Each record has the bytes of the last reply to a read of its sector.
 ///
-/// Returns error 11 (the vault failed) or 12 (the bus stopped). After an error the vault is unsealed. If bus and chip
-/// are as above, a faithful vault then holds a prefix of the chip's journal.
+/// Returns error 11 (the vault failed) or 12 (the bus stopped). After an error the vault is unsealed; if the bus is
+/// well-behaved with an idle chip that `identity` describes, a faithful vault holds a prefix of the chip's journal.
 pub fn save_whole<B: Bus, V: Vault>(
     bus: &mut B,
     vault: &mut V,

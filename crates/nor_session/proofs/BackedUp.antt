@@ -1,4 +1,3 @@
--- Lemmas about the exits of a backup after its identification.
 use Rattle.std.proofs.Common.{◌≡◌, ◌/◌, ◌∙◌, ℕ, Option, arith, rules}
 use Rattle.nor_model.specs.Bus.{BusState}
 use Rattle.nor_model.specs.Chip.{IsSame}

@@ -1,4 +1,3 @@
--- The journal of a backup saves the whole chip, and can restore it.
 use Rattle.std.proofs.Common.{◌≡◌, ◌<◌, ◌+◌, ◌/◌, ◌++◌, ◌∙◌, ℕ, true, List, [], ◌∷◌, Some, ap, sym, subst, arith}
 use Rattle.std.specs.Prelude.{◌&&◌, not, nat_lt}
 use Rattle.std.specs.Option.{is_some}

@@ -1,5 +1,4 @@
--- The proof of the law `begun_restores_original`. No journal is a prefix of another. So if an unsealed vault's bytes
--- are a journal, they are the only one that the session can write.
+-- No journal is a prefix of another, so a journal in an unsealed vault is the only one that the session can write.
 use Rattle.std.proofs.Common.{◌≡◌, ◌∙◌, ℕ, List, sym, inl, inr}
 use Rattle.nor_model.specs.Bus.{BusState}
 use Rattle.nor_model.specs.Chip.{IsChip, IsSame}

@@ -1,4 +1,3 @@
--- Lemmas about what a restore knows about the chip before it changes anything.
 use Rattle.std.proofs.Common.{◌≡◌, ◌<◌, ◌+◌, ◌/◌, ◌∙◌, ◌||◌, ℕ, Bool, true, false, length, ap, sym, refl, arith, rules, inl, inr}
 use Rattle.std.specs.Prelude.{None}
 use Rattle.std.proofs.lemmas.Bool.{cases_Bool, both_ways, true_from_ne_false}

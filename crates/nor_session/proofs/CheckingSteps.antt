@@ -1,4 +1,3 @@
--- Lemmas about the verification: the read and comparison of one sector, and of all sectors below a bound.
 use Rattle.std.proofs.Common.{◌≡◌, ◌≢◌, ◌≤◌, ◌<◌, ◌+◌, ◌-◌, ◌*◌, ◌/◌, ◌%◌, ◌∙◌, ℕ, Bool, true, false, refl, ap, sym, arith, inl, inr, List, [], ◌∷◌, length, slice_index, Err}
 use Rattle.std.proofs.lemmas.Bool.{cases_eq, both_ways}
 use Rattle.std.proofs.lemmas.List.Elements.{All-nil, All-cons}
@@ -71,7 +70,7 @@ pub read_whole : {sector : ℕ} {bytes : List ℕ} {old new : BusState} {Is : Li
     → ReadsWhole sector Is old.history new.history
 read_whole {bytes = bytes} reads long is = record { bytes = bytes; answered = reads.answered; whole = long; is = is }
 
--- Holds after each sector of the set `sectors` that is below `n` was read once, and its reply had the target bytes.
+-- Holds after each sector of the set `sectors` below `n` was read once, and each reply had the target bytes.
 pub record HasChecked (sectors : ℕ → Bool) (wanted : ℕ → ℕ) (n : ℕ) (old new : BusState) (sent : ℕ) : Type 0 where
   pub honest_reads : HasOnlyRead sent old new
   pub added : AddsTransactions sent sent old.history new.history

@@ -1,4 +1,3 @@
--- Lemmas about sessions and restores that follow one another.
 use Rattle.std.proofs.Common.{◌≡◌, ◌/◌, ◌∙◌, ◌⊎◌, ℕ, Bool, false, List, [], ap, sym, arith, inl, inr}
 use Rattle.std.proofs.lemmas.Bool.{and_left, and_parts, both_ways}
 use Rattle.nor_model.specs.Chip.{Chip, IsSame}
@@ -42,7 +41,6 @@ changes_nothing journal first old new report saves same done =
     let untouched = λ (s : ℕ). none_touched journal first old.chip s saves same in
     let never = never_needed journal first old.chip saves same in
     let touched = done.reported.sectors ∙ count_below-none 4096 _ (λ s below. untouched s) in
-    -- No sector is raised, so the empty list of erases covers exactly the raised sectors, and the least number is 0.
     let least = done.reported.erases.least [] record {
       units = λ k any below. absurd (omega arith);
       union = λ s. sym (none_raised journal first old.chip s saves same);
@@ -57,8 +55,8 @@ changes_nothing journal first old new report saves same done =
       spares = never;
     }
 
--- Holds if the journal saves the original chip `first`, and `chip` has the same configuration and the same bytes at all
--- addresses that a restore can't write. A restore of `chip` that succeeds then leaves the original chip.
+-- Holds if the journal saves the original chip `first`, and `chip` has the configuration of `first` and the same bytes
+-- as `first` at all addresses that a restore can't write.
 record CanRestoreChip (journal : Content) (first chip : Chip) : Type 0 where
   saves : SavesChip journal first
   config : chip.config ≡ first.config

@@ -1,4 +1,3 @@
--- Lemmas about whether a restore needs a status write, and whether it may send one.
 use Rattle.std.proofs.Common.{◌≡◌, ◌<◌, ◌+◌, ◌-◌, ◌*◌, ◌/◌, ◌∙◌, ◌⊎◌, ℕ, Bool, true, false, ap, refl, inl, inr}
 use Rattle.std.specs.Prelude.{not, Option, Some, None, MatchOption}
 use Rattle.std.specs.Option.{is_some}

@@ -1,4 +1,3 @@
--- The loop of a rewrite that marks the saved sectors as touched and raised.
 use Rattle.std.proofs.Common.{◌≡◌, ◌<◌, ◌≤◌, ◌+◌, ◌/◌, ◌∙◌, ◌||◌, ℕ, Bool, List, length, take, slice_index, ap, sym, subst, arith}
 use Rattle.std.specs.Prelude.{◌==◌, Some, slice_get}
 use Rattle.std.proofs.lemmas.Bool.{and_left, both_ways}

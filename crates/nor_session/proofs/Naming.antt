@@ -1,4 +1,4 @@
--- The address that a timeout or a mismatch names is in a saved sector or, for a timeout, it may be 0.
+-- Lemmas about the address that a timeout or mismatch names: it is in a saved sector or, for a timeout, may be 0.
 use Rattle.std.proofs.Common.{ℕ, ◌≡◌, ◌≤◌, ◌/◌, ◌∙◌, true, List, arith, inl, inr}
 use Rattle.nor_model.specs.Bus.{BusState}
 use Rattle.nor_journal.specs.Text.{Content, IsContent, text}

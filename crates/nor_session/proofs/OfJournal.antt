@@ -1,4 +1,3 @@
--- On every bus the changes of a session or restore touch only sectors that the journal of this call saves.
 use Rattle.std.proofs.Common.{◌≡◌, ◌<◌, ◌*◌, ◌/◌, ◌%◌, ◌∙◌, ℕ, Bool, true, false, List, inl, inr, ap, sym, refl, arith, true≢false}
 use Rattle.nor_model.specs.declared.status.Status.{Status}
 use Rattle.nor_model.specs.Status.{bytes_of}

@@ -1,5 +1,4 @@
--- A restore has one verdict. If a check fails, the first one that fails returns the first error that applies. If no
--- check fails, no error applies.
+-- The error of the first check of a restore that fails is the verdict on the chip (`IsRestoreVerdict`).
 use Rattle.std.proofs.Common.{◌≡◌, ◌<◌, ℕ, true, arith, rules}
 use Rattle.std.specs.Prelude.{◌≢◌, None, Err}
 use Rattle.nor_model.specs.Chip.{Chip, is_locked}

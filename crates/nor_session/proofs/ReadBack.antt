@@ -1,4 +1,3 @@
--- Lemmas about what was read back. They lead from the check of the changes to the whole session or restore.
 use Rattle.std.proofs.Common.{◌≡◌, ◌/◌, ◌∙◌, ℕ, Bool, true, List, slice_index, Result, Ok, Err, refl, sym, subst, true≢false}
 use mathlib.Core.Path.{fun_ext}
 use Rattle.nor_model.specs.Exchange.{Exchange}

@@ -1,5 +1,4 @@
--- The state of a session on every bus after it saved the touched sectors, and bounds on the transactions and status
--- writes of the whole session.
+-- The state of a session after it saved the touched sectors, and bounds on its transactions and status writes.
 use Rattle.std.proofs.Common.{◌≡◌, ◌≤◌, ◌+◌, ◌/◌, ◌∙◌, ℕ, Bool, true, false, List, ap, sym, refl, arith, rules}
 use Rattle.std.specs.Prelude.{if◌then◌else◌}
 use Rattle.std.proofs.lemmas.Bool.{true_from_ne_false, false_from_ne_true}

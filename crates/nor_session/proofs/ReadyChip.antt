@@ -1,5 +1,4 @@
--- Lemmas about the identification and the scan of a session: what they show about the chip, and what their errors mean
--- on a well-behaved or modelled bus.
+-- Lemmas about what the identification and the scan of a session show about the chip.
 use Rattle.std.proofs.Common.{◌+◌, ◌≡◌, ◌<◌, ◌≤◌, ◌/◌, ◌∙◌, ℕ, true, List, ap, refl, arith, rules, inr}
 use Rattle.std.specs.Prelude.{Option, Err}
 use Rattle.std.proofs.lemmas.Bool.Decides.{nat_tests}

@@ -1,4 +1,3 @@
--- Lemmas about the restores of a rehearsal.
 use Rattle.std.proofs.Common.{◌≡◌, ◌<◌, ◌≤◌, ◌+◌, ◌∙◌, ℕ, zero, suc, Bool, List, [], ◌∷◌, ◌++◌, length, drop, slice_index, true, false, refl, ap, sym, add-one, one-add, arith, inl, inr}
 use Rattle.std.specs.Prelude.{Ok, Err, Result, slice_index_or, if◌then◌else◌}
 use Rattle.std.proofs.lemmas.Bool.{cases_eq}
@@ -224,7 +223,6 @@ module _ {bytes : List ℕ} {journal : Content} (is : IsContent journal) (same :
     undo_wears modelled saved first can_undo s other = leaves.worn modelled s
         (sym (Saves-set first.bytes saved journal s (saves_all saved first can_undo)) ∙ other)
 
-    -- Only `journal` has this encoding.
     pub undo_sends : SendsFromJournal bytes n old new
     undo_sends other =
         rw (is_read bytes (Ok journal) other.content (is, same) tt other.is other.same) at leaves.sends

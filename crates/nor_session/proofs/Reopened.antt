@@ -1,4 +1,3 @@
--- Lemmas about the identification and the first checks of a restore.
 use Rattle.std.proofs.Common.{◌≡◌, ◌≤◌, ◌∙◌, ℕ, true, List, refl, arith}
 use Rattle.std.specs.Prelude.{◌≢◌, Result, Ok, Err, Some, None, IsOk}
 use Rattle.nor_model.specs.declared.config.Config.{Config}

@@ -1,4 +1,3 @@
--- The journal of a session contains what the bus replied before the seal.
 use Rattle.std.proofs.Common.{ℕ, Bool, List}
 use Rattle.nor_model.specs.History.{KeepsReplies, begins_with}
 use Rattle.nor_model.specs.Bus.{BusState, KeepsNature}

@@ -1,4 +1,3 @@
--- Lemmas about touched and raised sectors, and about the bytes that a restore writes to them.
 use Rattle.std.proofs.Common.{◌≡◌, ◌<◌, ◌+◌, ◌*◌, ◌/◌, ◌%◌, ◌&&◌, ◌∙◌, ℕ, Bool, true, false, inl, inr, sym, arith, bit_and}
 use Rattle.std.specs.Prelude.{if◌then◌else◌}
 use Rattle.std.proofs.lemmas.Bool.{cases_Bool, false_from_ne_true, eqb-true, eq-eqb, both_ways, not-false, not_from_true, true_from_ne_false}

@@ -1,4 +1,3 @@
--- The promises of a restore follow from those of its preparation and of its changes.
 use Rattle.std.proofs.Common.{◌≡◌, ◌<◌, ◌≤◌, ◌^◌, ◌+◌, ◌/◌, ◌∙◌, ◌++◌, ℕ, Bool, true, inl, inr, length, ap, sym, refl, arith, true≢false}
 use Rattle.std.specs.Prelude.{Result, OnOk}
 use Rattle.std.proofs.lemmas.Result.{on_ok_weaker}

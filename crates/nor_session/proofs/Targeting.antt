@@ -1,4 +1,3 @@
--- The modifying commands that a session or restore sends, on every bus.
 use Rattle.std.proofs.Common.{◌≡◌, ◌≤◌, ◌<◌, ◌+◌, ◌-◌, ◌*◌, ◌/◌, ◌%◌, ◌∙◌, ◌⊎◌, ℕ, Bool, true, [], ◌∷◌, inl, inr, ap, arith}
 use Rattle.std.specs.Prelude.{◌&&◌, ◌||◌}
 use Rattle.std.proofs.Math.Nat.{add-mul}
@@ -73,7 +72,7 @@ coded_only IsCode journal status code one two small fixed is written =
       clear2 = omega (arith, second);
     }
 
--- Holds if the changes are for a chip of the journal's size and touch only sectors that the journal saves.
+-- Holds if the changes are for a chip of the journal's size, touch only saved sectors, and write only allowed bits.
 pub record AreOfJournal (IsCode : ℕ → Type 0) (journal : Content) (changes : Changes) : Type 0 where
   pub sized : journal.size ≡ changes.size
   pub saved : (s : ℕ) → touched_in changes s ≡ true → is_saved journal s ≡ true

@@ -1,4 +1,3 @@
--- Proofs of the laws about a chip that is opened from files that were being overwritten (`IsWrittenOver`).
 use Rattle.std.proofs.Common.{ap, arith, ◌/◌, ◌%◌, false, ◌≡◌, ◌∙◌, ◌⊎◌, ℕ, Bool, List, [], true, refl, sym, inl, inr}
 use Rattle.std.proofs.lemmas.List.{append-nil}
 use Rattle.nor_model.specs.Bus.{BusState}

@@ -8,8 +8,7 @@ use Rattle.nor_request.specs.declared.report.Report.{Report}
 use Rattle.nor_request.specs.declared.refusal.Refusal.{Refusal}
 use Rattle.nor_session.specs.declared.announcement.Announcement.{Announcement}
 
--- The announcement of these changes. If the raised sectors lie on the chip, its number of erases is the least with
--- which erases cover exactly them.
+-- The announcement of these changes: the given number of touched sectors, and the number of planned erases.
 abbrev pub announcement_of : Changes → (touched : ℕ) → Announcement
 announcement_of changes touched =
     record { touched = touched; erases = fewest_erases changes.kinds (changes.size / 4096) (raised_in changes) }
@@ -17,8 +16,8 @@ announcement_of changes touched =
 abbrev pub announcement_of_report : Report → Announcement
 announcement_of_report report = record { touched = report.touched; erases = report.erases }
 
--- Holds for a call with this result if an announcement was made (`Was`) or no modifying command was sent. After success
--- the numbers are those of the report. Nothing says that the announcement came before the first modifying command.
+-- Holds if an announcement was made (`Was`) or no modifying command was sent, and after success the announced numbers
+-- are those of the report. The definition doesn't say that the announcement came before the first modifying command.
 pub record Announces (Was : Announcement → Type 0) (old new : BusState) (result : Result Report Refusal) : Type 0 where
   pub announced_or_unsent : ((announcement : Announcement) × Was announcement) ⊎ (new.sent ≡ old.sent)
   pub as_reported : IfOk result (λ report. Was (announcement_of_report report))

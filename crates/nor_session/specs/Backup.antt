@@ -26,8 +26,6 @@ use Rattle.nor_scan.specs.Scanning.{sectors_below}
 use Rattle.nor_session.specs.Bounds.{most_reads}
 use Rattle.nor_session.specs.Headline.{SavesChip, CanRestoreFrom}
 
--- ---- which chips a backup can restore
-
 pub record SavesWholeChip (journal : Content) (first : Chip) : Type 0 where
   pub chip : SavesChip journal first
   pub device : journal.unique ≡ Some (unique_of first.config)
@@ -37,15 +35,12 @@ pub record IsBackupOf (bytes : List ℕ) (first : Chip) : Type 0 where
   pub journal : IsJournal bytes
   pub saves : SavesWholeChip journal.content first
 
--- True at the addresses that a restore can write on this chip: all of them or, if its status is locked, those that
--- aren't protected.
+-- True at the addresses that a restore from a backup can write on this chip: all addresses or, if the chip's status is
+-- locked, those that aren't protected.
 abbrev pub writable_addresses : Chip → (a : ℕ) → Bool
 writable_addresses first a = nat_lt a first.config.size && not (is_locked first.kept && is_protected first a)
 
--- ---- on every bus
-
--- The promises about the report of a backup. The number of transactions is at least four (the shortest identification)
--- plus one for each sector. `further` says whether the bus knows the further rows of the table of chips.
+-- Holds if `report` can be that of a backup. The shortest identification takes four transactions.
 pub record ReportsBackup (named : Option ChipName) (further : Bool) (report : Report) : Type 0 where
   pub part : IsPart further report.found
   pub has_name : IsWanted named report.found.name
@@ -56,16 +51,14 @@ pub record ReportsBackup (named : Option ChipName) (further : Bool) (report : Re
   pub most : report.transactions ≤ most_reads (report.found.size / 4096)
 
 -- Holds if the bytes are a journal that contains what the bus replied during the backup: ID, unique ID, non-volatile
--- status bits, and the last reply to a read of each sector. The size is the one in the row that applies to the ID on
--- this bus or, without a row, in the SFDP replies.
+-- status bits, and the last reply to a read of each sector.
 pub record IsBackupOfReplies (further : Bool) (found : Found) (new : BusState) (bytes : List ℕ) : Type 0 where
   pub identity : Identity
   pub same : identity.found ≡ found
   pub replied : IsIdentifiedBy further new.history identity
   pub saves : JournalSaves (header_found identity) (bytes_read new.history) (sectors_below (found.size / 4096)) bytes
 
--- Holds if a backup may return this error and leave this vault. After errors of the identification (1 to 3 and 13) the
--- vault is as it was, and after error 11 it has refused one call.
+-- Holds if a backup may return this error and change the vault from the state `vault` to `vault'`.
 abbrev pub BackupReturns : (vault vault' : VaultState) → Refusal → Type 0
 BackupReturns vault vault' NoChip = vault' ≡ vault
 BackupReturns vault vault' (UnknownChip fault) = vault' ≡ vault
@@ -75,10 +68,8 @@ BackupReturns vault vault' Vault = Refused vault vault'
 BackupReturns vault vault' Stopped = Accepted vault vault'
 BackupReturns vault vault' _ = ⊥
 
--- ---- on a well-behaved bus
-
--- The meaning of errors on a well-behaved bus. On a punctual bus a stop occurs only if no transaction is left and fewer
--- than `most` were left at the start. A timeout does not occur. `BackupReturns` says when error 11 occurs.
+-- Holds if a backup may return this error on a well-behaved bus. On a punctual bus a stop occurs only if no transaction
+-- is left and fewer than `most` were left at the start.
 abbrev pub BackupErrors : (most : ℕ) → Option ChipName → (old new : BusState) → Refusal → Type 0
 BackupErrors most named old new NoChip = shown_as old.chip.config ≡ Err Probes.NoChip
 BackupErrors most named old new (UnknownChip fault) = shown_as old.chip.config ≡ Err (Probes.UnknownChip fault)
@@ -87,42 +78,31 @@ BackupErrors most named old new Stopped = RanOut most old new
 BackupErrors most named old new Vault = ⊤
 BackupErrors most named old new _ = ⊥
 
--- ---- on a modelled bus
-
 -- Holds if there are no bytes, or if the bytes are a prefix of the only journal that a backup of this chip can write.
 abbrev pub HoldsBackupBegun : Chip → (bytes : List ℕ) → Type 0
 HoldsBackupBegun chip bytes = (bytes ≡ [])
     ⊎ IsJournalPrefix (header_of chip) chip.bytes (sectors_below (chip.config.size / 4096)) bytes
 
--- ---- the promises of a backup
-
--- The promises of a backup on every bus and with every vault.
 pub record BackupAlways (named : Option ChipName) (old new : BusState) (vault vault' : VaultState)
     (result : Result Report Refusal) : Type 0 where
-  -- On a punctual bus, the number of transactions is at most that of identifying and reading the largest chip.
   pub only_reads : OnlyReads (most_reads 4096) old new
   pub sealed : OnOk result (Completed vault vault')
   pub answers : IfErr result (BackupReturns vault vault')
-  -- after success a faithful vault holds a journal that has every sector as the bus replied it
   pub replied : IfOk result (λ report. vault'.telling ≡ true
       → IsBackupOfReplies old.further report.found new vault'.bytes)
   pub reported : IfOk result (ReportsBackup named old.further)
   pub polled_ready : OnOk result (new.polled_ready ≡ true)
   pub last_transaction : IfErr result (λ refusal. EndsAtError refusal new.history)
 
--- The promises of a backup on a well-behaved bus.
 pub record BackupHonest (named : Option ChipName) (old new : BusState) (result : Result Report Refusal) : Type 0 where
   pub errors : IfErr result (BackupErrors (most_reads 4096) named old new)
   pub same : OnOk result (IsSame old.chip new.chip)
   pub counted : IfOk result (λ report. Spent report.transactions old new)
 
--- The promises of a backup on a modelled bus.
 pub record BackupModelled (named : Option ChipName) (old new : BusState) (vault' : VaultState)
     (result : Result Report Refusal) : Type 0 where
-  -- on a punctual bus a stop occurs only if fewer transactions were left at the start than a chip of this size may need
   pub errors : IfErr result (BackupErrors (most_reads (old.chip.config.size / 4096)) named old new)
   pub config : IfOk result (λ report. IsConfigOf old.chip.config report.found)
   pub saves : OnOk result (vault'.telling ≡ true → IsBackupOf vault'.bytes old.chip)
   pub restorable : OnOk result (vault'.telling ≡ true → CanRestoreFrom vault'.bytes old.chip new)
-  -- after an error a faithful vault is empty, or holds a prefix of the only journal that the backup can write
   pub cut : vault'.telling ≡ true → OnErr result (HoldsBackupBegun old.chip vault'.bytes)

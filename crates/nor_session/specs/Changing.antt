@@ -32,11 +32,8 @@ most_changed changes = most_applied (touched_count changes) + touched_count chan
 abbrev pub read_back : Changes → Bool → ℕ
 read_back changes verify = if verify then touched_count changes else 0
 
--- ---- the check, after all is written
-
--- Holds after the check succeeded. `written` has the counts before the check, and `work` those after it. If `verify` is
--- set, and the chip of a well-behaved bus was idle with the touched sectors on it (`CanCheck`), each byte of a touched
--- sector is the target byte.
+-- Holds after the check succeeded, with the counts `written` before it and `work` after it. If `verify` is set and
+-- `CanCheck` held on a well-behaved bus, the touched sectors have their target bytes.
 pub record DoesCheck (changes : Changes) (wanted : ℕ → ℕ) (verify : Bool) (written : Work) (old new : BusState)
     (work : Work) : Type 0 where
   pub erases : work.erases ≡ written.erases
@@ -50,8 +47,8 @@ pub record DoesCheck (changes : Changes) (wanted : ℕ → ℕ) (verify : Bool) 
   pub same : verify ≡ true → old.honest ≡ true → CanCheck (touched_in changes) old.chip
       → (a : ℕ) → touched_in changes (a / 4096) ≡ true → old.chip.bytes a ≡ wanted a
 
--- The meaning of an error of the check. If the chip of a well-behaved bus can be checked (`CanCheck`), the address of
--- `Mismatch` is that of the first difference in the touched sectors.
+-- Holds if the check may fail with this error. If `CanCheck` held on a well-behaved bus, the address of `Mismatch` is
+-- that of the first difference in the touched sectors.
 abbrev pub CheckRefuses : Changes → (ℕ → ℕ) → (old new : BusState) → Refusal → Type 0
 CheckRefuses changes wanted old new Stopped = HasStopped (touched_count changes) old new
 CheckRefuses changes wanted old new (Mismatch address) = EndsReading address new.history
@@ -59,20 +56,17 @@ CheckRefuses changes wanted old new (Mismatch address) = EndsReading address new
     → IsFirstMismatch (touched_in changes) wanted old.chip.bytes address)
 CheckRefuses changes wanted old new _ = ⊥
 
--- ---- the changes and their check
-
 abbrev pub HasBytes : (sectors : ℕ → Bool) → (wanted : ℕ → ℕ) → Chip → Type 0
 HasBytes sectors wanted chip = (a : ℕ) → sectors (a / 4096) ≡ true → chip.bytes a ≡ wanted a
 
--- Holds at every exit of the changes and their check. What was sent since the state `old` is within the limits
--- `most_sent`.
+-- Holds at every exit of the changes and their check, whose modifying commands are within the limits `most_sent`.
 abbrev pub LeavesChange : Changes → (wanted : ℕ → ℕ) → (old new : BusState) → Type 0
 LeavesChange changes wanted =
     Leaves (most_changed changes) (most_sent changes) (CanApply changes wanted)
     (MayChange (touched_in changes) (raised_in changes) wanted)
 
--- Holds after the changes and their check succeeded, with the counts of `work`. If `verify` is set and the chip of a
--- well-behaved bus can be checked, each byte of a touched sector is the target byte, even if the chip ignored commands.
+-- Holds after the changes and their check succeeded, with the counts of `work`. If `verify` is set and `CanCheck` held
+-- for the touched sectors on a well-behaved bus, these sectors have their target bytes.
 pub record DoesChange (changes : Changes) (wanted : ℕ → ℕ) (verify : Bool) (old new : BusState)
     (work : Work) : Type 0 where
   pub erases : work.erases ≡ fewest_erases changes.kinds (changes.size / 4096) (raised_in changes)
@@ -106,9 +100,8 @@ ChangeErrors changes wanted old new (Mismatch address) =
     EndsReading address new.history × (old.honest ≡ true → CanApply changes wanted old.chip → ⊥)
 ChangeErrors changes wanted old new _ = ⊥
 
--- Holds if the result fits what was read back, on every bus. After success with `verify` set, the last transactions
--- read each byte of a touched sector as its target byte. A mismatch names the first address whose byte was read
--- otherwise.
+-- Holds if the result fits what was read back. After success with `verify` set, the last transactions read the touched
+-- sectors with their target bytes. A mismatch names the first address in these sectors at which another byte was read.
 abbrev pub FitsReadBack : Changes → (wanted : ℕ → ℕ) → (verify : Bool) → (old new : List Exchange)
     → Result Work Refusal → Type 0
 FitsReadBack changes wanted verify old new (Ok work) =
@@ -117,8 +110,8 @@ FitsReadBack changes wanted verify old new (Err (Mismatch address)) =
     EndsReadOther (addresses_of (touched_in changes)) wanted address old new
 FitsReadBack changes wanted verify old new (Err _) = ⊤
 
--- Holds if a timeout names an address in a touched sector, or 0 if a status write is needed, and a mismatch an address
--- in a touched sector.
+-- Holds if the address of a timeout or mismatch, if any, is in a touched sector. It may be 0 for a timeout, if the
+-- changes include a status write.
 abbrev pub NamesTouchedSector : Changes → Refusal → Type 0
 NamesTouchedSector changes (Timeout address) =
     ((1 ≤ status_writes changes) × (address ≡ 0)) ⊎ (touched_in changes (address / 4096) ≡ true)

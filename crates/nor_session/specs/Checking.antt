@@ -25,8 +25,8 @@ pub record IsFirstMismatch (sectors : ℕ → Bool) (wanted content : ℕ → �
   pub differs : content address ≢ wanted address
   pub before : (a : ℕ) → a < address → sectors (a / 4096) ≡ true → content a ≡ wanted a
 
--- Holds if the verification succeeded with `sent` transactions, one for each sector. If `CanCheck` held on a
--- well-behaved bus, each byte of these sectors is the target byte.
+-- Holds if the verification succeeded with `sent` transactions. If `CanCheck` held on a well-behaved bus, the sectors
+-- have their target bytes.
 pub record DoesChecks (sectors : ℕ → Bool) (wanted : ℕ → ℕ) (old new : BusState) (sent : ℕ) : Type 0 where
   pub reads : sent ≡ sector_count sectors
   pub added : AddsTransactions sent sent old.history new.history
@@ -34,8 +34,8 @@ pub record DoesChecks (sectors : ℕ → Bool) (wanted : ℕ → ℕ) (old new :
   pub same : old.honest ≡ true → CanCheck sectors old.chip
       → (a : ℕ) → sectors (a / 4096) ≡ true → old.chip.bytes a ≡ wanted a
 
--- The meaning of an error of the verification. If `CanCheck` held on a well-behaved bus, the address of `Mismatch` is
--- the first address in these sectors at which the chip differs from the target.
+-- Holds if the verification may fail with this error. If `CanCheck` held on a well-behaved bus, `Mismatch` names the
+-- first address in these sectors at which the chip differs from the target.
 abbrev pub CheckErrors : (ℕ → Bool) → (ℕ → ℕ) → (old new : BusState) → CheckFault → Type 0
 CheckErrors sectors wanted old new Stopped = HasStopped (sector_count sectors) old new
 CheckErrors sectors wanted old new (Mismatch address) = EndsReading address new.history

@@ -1,5 +1,4 @@
--- The main promises of a session and of a restore: the original chip can be restored, and a restore that succeeds
--- restores it.
+-- The main promises of a session and of a restore, and which chip a journal can restore.
 use Rattle.std.specs.Prelude.{◌≡◌, ◌/◌, ◌&&◌, ℕ, Bool, true, false, not, List, Result, IfErr, IfSome, OnOk}
 use Rattle.nor_model.specs.declared.config.Config.{Config}
 use Rattle.nor_model.specs.Chip.{Chip, IsSame, is_locked, kept_in}
@@ -18,9 +17,6 @@ use Rattle.nor_request.specs.declared.refusal.Refusal.{Refusal}
 use Rattle.nor_request.specs.declared.refusal.Refusal.TheVariants.{Stopped}
 use Rattle.nor_scan.specs.SavedScan.{IsJournal}
 
--- ---- which chip a journal can restore
-
--- Holds if the journal has the ID and the size of this configuration.
 pub record IsOfType (journal : Content) (config : Config) : Type 0 where
   pub id : journal.id ≡ id_of config
   pub size : journal.size ≡ config.size
@@ -51,40 +47,34 @@ pub record CanRestoreFrom (bytes : List ℕ) (first : Chip) (state : BusState) :
   pub journal : IsJournal bytes
   pub back : CanRestore journal.content first state
 
--- ---- what the calls promise
-
 -- The promise of a session at every exit, wherever the session ended or was stopped.
 pub record KeepsOriginal (old new : BusState) (vault : VaultState) : Type 0 where
-  -- on every bus, if the vault isn't sealed, no modifying command was sent
+  -- On every bus, if the vault isn't sealed, no modifying command was sent.
   pub unsent : vault.sealed ≡ false → new.sent ≡ old.sent
-  -- on a well-behaved bus that is steady or whose chip was idle at the start, if the vault isn't sealed, bytes and
-  -- non-volatile status bits are as they were
+  -- On a well-behaved bus that is steady or whose chip was idle at the start, if the vault isn't sealed, bytes and
+  -- non-volatile status bits are as they were.
   pub same : vault.sealed ≡ false → old.honest ≡ true → IsSteadyOrIdle old → IsSame old.chip new.chip
-  -- on a modelled bus, if a faithful vault is sealed, its bytes are a journal that can restore the original chip
+  -- On a modelled bus, if a faithful vault is sealed, its bytes are a journal that can restore the original chip.
   pub restorable : vault.sealed ≡ true → vault.telling ≡ true → IsModelled old → CanRestoreFrom vault.bytes old.chip new
 
 -- The promise of a restore on a modelled bus, for each chip `first` that the journal can restore at the start.
 pub record RestoresOriginal (journal : Content) (old new : BusState) (result : Result Report Refusal) : Type 0 where
-  -- at every exit the journal can still restore `first`
+  -- At every exit the journal can still restore `first`.
   pub within : (first : Chip) → CanRestore journal first old → CanRestore journal first new
-  -- after success the chip has the bytes and the non-volatile status bits of `first`
+  -- After success the chip has the bytes and the non-volatile status bits of `first`.
   pub back : (first : Chip) → CanRestore journal first old → OnOk result (IsSame first new.chip)
-  -- the only possible error is a stop
+  -- The only possible error is a stop.
   pub only_stops : (first : Chip) → CanRestore journal first old → IfErr result (λ refusal. refusal ≡ Stopped)
 
--- Holds if no saved sector is protected on the original chip (`first`), or the status of this chip isn't locked. Every
--- journal of a session on a modelled bus has this property, because a session refuses to touch a protected sector
--- unless it can lift the protection.
+-- Holds if no saved sector is protected on the original chip (`first`), or the status of this chip isn't locked. The
+-- journal of a session on a modelled bus has this property (`session_can_be_rewritten`).
 abbrev pub CanBeRewritten : Content → Chip → Type 0
 CanBeRewritten journal first = is_locked first.kept ≡ true → NoneProtected (is_saved journal) first
 
--- The promise of a restore that rewrites every saved sector, on a modelled bus, for each chip `first` that the journal
--- can restore at the start.
+-- The promise of a rewrite on a modelled bus, for each chip `first` that the journal can restore at the start.
 pub record RewritesOriginal (journal : Content) (old new : BusState) (result : Result Report Refusal) : Type 0 where
-  -- at every exit the journal can still restore `first`
   pub within : (first : Chip) → CanRestore journal first old → CanRestore journal first new
-  -- after success the chip has the bytes and the non-volatile status bits of `first`
   pub back : (first : Chip) → CanRestore journal first old → OnOk result (IsSame first new.chip)
-  -- the only possible error is a stop, if no saved sector of `first` is protected by a locked status
+  -- The only possible error is a stop, if no saved sector of `first` is protected by a locked status.
   pub only_stops : (first : Chip) → CanRestore journal first old → CanBeRewritten journal first
       → IfErr result (λ refusal. refusal ≡ Stopped)

@@ -1,5 +1,4 @@
--- Definitions for sessions and restores that follow one another. Between two of them the chip may lose its power, or
--- its contents may be in files.
+-- Sessions and restores that follow one another, between which the chip may lose its power or be in files.
 use Rattle.std.specs.Prelude.{◌≡◌, ◌⊎◌, ℕ, true, false, List}
 use Rattle.nor_model.specs.Chip.{IsChip, IsSame}
 use Rattle.nor_model.specs.Power.{PowerLost}
@@ -13,8 +12,7 @@ use Rattle.nor_session.specs.Session.{CanBeUndone}
 use Rattle.nor_session.specs.Restore.{NeedsStatusFrom}
 use Rattle.nor_session.specs.WrittenOver.{IsWrittenOver}
 
--- Holds if a session on a modelled bus left this journal in a faithful vault. The session ended, or was stopped
--- anywhere after the seal.
+-- Holds if a session on a modelled bus ended or was stopped after the seal, and left this journal in a faithful vault.
 pub record LeavesJournal (request : Request) (image : List ℕ) (old new : BusState) (journal : Content) : Type 0 where
   pub modelled : IsModelled old
   pub is : IsChip old.chip
@@ -24,8 +22,7 @@ pub record LeavesJournal (request : Request) (image : List ℕ) (old new : BusSt
   pub whole : IsContent journal
   pub same : vault.bytes ≡ text journal
 
--- Holds if the chip lost its power between two runs. The chip must have been idle, or its bus must not be steady:
--- `IsWithin` limits an operation in progress only on a bus that isn't steady (`runs`).
+-- Holds if the chip lost its power between two runs, and before that was idle or on a bus that wasn't steady.
 pub record LosesPower (old new : BusState) : Type 0 where
   pub known : (old.steady ≡ false) ⊎ (old.chip.busy ≡ 0)
   pub lost : PowerLost old.chip new.chip
@@ -33,9 +30,8 @@ pub record LosesPower (old new : BusState) : Type 0 where
 abbrev pub MayLosePower : (old new : BusState) → Type 0
 MayLosePower old new = IsSame old.chip new.chip ⊎ LosesPower old new
 
--- Holds if a run can start on the bus `taken` after an earlier run, which started on `old` and left `new`. The chip may
--- have lost its power since, or was opened from files that held the chip of `old` and were being overwritten with the
--- chip of `new`.
+-- Holds if a run can start on the bus `taken` after a run from `old` to `new`. The chip may have lost its power since,
+-- or was opened from files that held the chip of `old` and were being overwritten with the chip of `new`.
 abbrev pub IsTakenUp : (old new taken : BusState) → Type 0
 IsTakenUp old new taken = MayLosePower new taken ⊎ IsWrittenOver old.chip new.chip taken.chip
 

@@ -1,4 +1,4 @@
--- The state of a session after its request was checked, and the bus states to which its promises refer.
+-- The state of a session after its request was checked, and the bus states from which the session can have started.
 use Rattle.std.specs.Prelude.{◌≡◌, ◌≤◌, ◌<◌, ◌%◌, ℕ, true, Option, List, Result, length}
 use Rattle.nor_model.specs.Guard.{code_of}
 use Rattle.nor_model.specs.Size.{is_chip_size}
@@ -31,8 +31,8 @@ pub record IsJudged (request : Request) (image : ℕ) (identity : Identity) (cod
   pub accepts : (chip : Chip) (bytes : List ℕ) → IsIdentityOf chip identity → IsNamed request.named chip.config
       → length bytes ≡ image → IdentityAccepts request bytes chip code
 
--- Holds if `promise` holds for every bus state from which an identification with this result can have started, if it
--- ended in the state `now`.
+-- Holds if `promise` holds for every bus state from which an identification with the result `identity` can have led to
+-- the state `now`.
 abbrev pub SinceIdentity : Option ChipName → Identity → BusState → (BusState → Type 0) → Type 0
 SinceIdentity named identity now promise =
     (first : BusState) → OnlyReads most_identity first now → ReadsIdentity named first now identity → promise first

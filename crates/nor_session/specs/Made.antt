@@ -12,19 +12,17 @@ use Rattle.nor_geometry.specs.Counts.{sector_count}
 use Rattle.nor_plan.specs.Content.{is_touched, is_raised, once_erased, is_programmed}
 use Rattle.nor_request.specs.declared.report.Report.{Report}
 
--- Holds if `erases` is the length of the shortest list of erase blocks that covers exactly the raised sectors of the
--- chip.
+-- Holds if `erases` is the length of the shortest list of erase blocks that covers exactly the raised sectors.
 abbrev pub AreFewestErases : Config → (old wanted : ℕ → ℕ) → (erases : ℕ) → Type 0
 AreFewestErases config old wanted erases = IsLeastLength config.kinds (config.size / 4096) (is_raised old wanted) erases
 
--- the number of pages of touched sectors that must be programmed after the raised sectors were erased
+-- The number of pages of touched sectors that must be programmed after the raised sectors were erased.
 abbrev pub pages_of : (old wanted : ℕ → ℕ) → ℕ
 pages_of old wanted =
     count_below 65536 (is_programmed (is_touched old wanted) (once_erased (is_raised old wanted) old) wanted)
 
--- Holds if the chip has the target bytes and is idle. Its configuration, and the status bits that flashnor never
--- changes, are as they were. The write enable latch is set only if it was set before. Nothing is said about the
--- protection bits.
+-- Holds if the chip is idle and has the target bytes, and its configuration and the status bits that flashnor never
+-- changes are as they were. Nothing is said about the protection bits.
 pub record IsTargetChip (wanted : ℕ → ℕ) (old new : Chip) : Type 0 where
   pub config : new.config ≡ old.config
   pub bytes : (a : ℕ) → new.bytes a ≡ wanted a
@@ -32,9 +30,7 @@ pub record IsTargetChip (wanted : ℕ → ℕ) (old new : Chip) : Type 0 where
   pub idle : new.busy ≡ 0
   pub latch : new.latch ≡ true → old.latch ≡ true
 
--- Holds if the report is right, and exactly the raised sectors were added to the erased sectors (`worn`). The erases
--- are the least number that covers exactly the raised sectors. The programs are the pages of touched sectors that
--- differ from the target once the raised sectors are erased.
+-- Holds if the report has the right chip and counts, and exactly the raised sectors were added to the erased sectors.
 pub record IsReportedFor (touched raised : ℕ → Bool) (wanted : ℕ → ℕ) (old new : BusState)
     (report : Report) : Type 0 where
   pub worn : (s : ℕ) → new.worn s ≡ (old.worn s || raised s)

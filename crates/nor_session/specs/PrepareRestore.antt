@@ -35,15 +35,13 @@ use Rattle.nor_request.specs.declared.report.Report.{Report}
 use Rattle.nor_scan.specs.Verdict.{IsNamed}
 use Rattle.nor_session.specs.Restore.{Choice, every_saved, IsOfOtherDevice, FitsStatus, NeedsStatusBy, IsCheckedFirst, restored, IsLeft, FitsReplies, AlwaysBy, HonestBy, ModelledBy}
 
--- ---- the checks, in the order of the code
-
 pub record FitsJournal (journal : Content) (chip : Chip) : Type 0 where
   pub named : IsNamed None chip.config
   pub kind : IsOfType journal chip.config
   pub unit : ¬ IsOfOtherDevice journal chip.config
   pub fixed : FitsStatus journal chip
 
--- Holds if a check of a restore fails with this error, and all checks that precede it in the code pass.
+-- Holds if a check of a restore fails with this error, and all earlier checks pass.
 abbrev pub RestoreJudges : Choice → Content → Chip → Refusal → Type 0
 RestoreJudges choice journal chip NoChip = shown_as chip.config ≡ Err Probes.NoChip
 RestoreJudges choice journal chip (UnknownChip fault) = shown_as chip.config ≡ Err (Probes.UnknownChip fault)
@@ -61,15 +59,12 @@ pub record RestoreAccepts (choice : Choice) (journal : Content) (chip : Chip) : 
   pub fits : FitsJournal journal chip
   pub not_locked : is_locked chip.kept ≡ true → ¬ NeedsStatusBy choice journal chip
 
--- ---- the identification
-
 abbrev pub IsDeviceRefusal : Refusal → Type 0
 IsDeviceRefusal OtherUnit = ⊤
 IsDeviceRefusal StatusDiffers = ⊤
 IsDeviceRefusal _ = ⊥
 
--- Holds if the journal fits each chip that has this identification, and whose non-volatile bits of status 2 are below
--- 128.
+-- Holds if the journal fits each chip that has this identification and a `kept.two` below 128.
 abbrev pub FitsIdentity : Content → Identity → Type 0
 FitsIdentity journal identity =
     (chip : Chip) → chip.kept.two < 128 → IsIdentityOf chip identity → FitsJournal journal chip
@@ -86,24 +81,21 @@ abbrev pub RefusesDevice : Content → Identity → Result Unit Refusal → Type
 RefusesDevice journal identity judged = (choice : Choice) (chip : Chip) → chip.kept.two < 128
     → IsIdentityOf chip identity → IsOfType journal chip.config → IfErr judged (RestoreJudges choice journal chip)
 
--- Holds for an error of a failed check. On a modelled bus it is that of the first failed check.
+-- Holds if a check returns this error. On a modelled bus the error is that of the first check that fails.
 pub record IsRefusedFor (choice : Choice) (journal : Content) (old new : BusState) (refusal : Refusal) : Type 0 where
   pub judged : IsCheckedFirst refusal
   pub same : old.honest ≡ true → IsSame old.chip new.chip
   pub verdict : IsModelled old → RestoreJudges choice journal old.chip refusal
 
--- The meaning of an error before the first change. A stop means that on a punctual bus fewer than `most` transactions
--- were left at the start. A timeout names address 0, and does not occur on a well-behaved bus.
+-- Holds if a restore may return this error before the first change. A timeout names address 0, and does not occur on a
+-- well-behaved bus.
 abbrev pub PrepareErrors : Choice → Content → ℕ → (old new : BusState) → Refusal → Type 0
 PrepareErrors choice journal most old new Stopped = HasStopped most old new
 PrepareErrors choice journal most old new (Timeout address) =
     (address ≡ 0) × EndsBusy new.history × (old.honest ≡ true → ⊥)
 PrepareErrors choice journal most old new refusal = IsRefusedFor choice journal old new refusal
 
--- ---- the scan
-
--- Holds after a sector was read as `bytes`. The plan says whether the sector must change, and whether it needs an
--- erase, to get the bytes `saved`.
+-- Holds after a sector was read as `bytes`. The plan says whether a change to `saved` needs programs or an erase.
 pub record PlansSaved (sector : ℕ) (saved bytes : List ℕ) (old new : BusState) (plan : SectorPlan) : Type 0 where
   pub small : (k : ℕ) → slice_index saved k < 256
   pub read : ReadsSector sector old new bytes
@@ -113,8 +105,7 @@ pub record PlansSaved (sector : ℕ) (saved bytes : List ℕ) (old new : BusStat
   pub planned : (content wanted : ℕ → ℕ) → AreBytesOf content bytes → AreBytesOf wanted saved
       → IsPlan content wanted 4096 plan
 
--- Holds after a restore marked its sectors as `choice` gives them for the bytes that were read. On a well-behaved bus
--- with an idle chip of the journal's size, these are the chip's bytes.
+-- Holds after a restore marked the touched and raised sectors that `choice` selects for the bytes that were read.
 pub record MarksChosen (choice : Choice) (journal : Content) (old new : BusState) (scanned : Scanned) : Type 0 where
   pub marks : AreMarks (journal.size / 4096) scanned
   pub saved : (s : ℕ) → has scanned.touched s ≡ true → is_saved journal s ≡ true
@@ -136,8 +127,6 @@ pub record MarksSaved (journal : Content) (scanned : Scanned) : Type 0 where
   pub touched : (s : ℕ) → has scanned.touched s ≡ is_saved journal s
   pub raised : (s : ℕ) → has scanned.raised s ≡ is_saved journal s
   pub chosen : (state : BusState) → MarksChosen every_saved journal state state scanned
-
--- ---- the changes
 
 pub record AreChanges (journal : Content) (identity : Identity) (scanned : Scanned) (changes : Changes) : Type 0 where
   pub touched : changes.touched ≡ scanned.touched
@@ -172,9 +161,7 @@ abbrev pub RefusesShut : Content → Identity → (ℕ → Bool) → Result Chan
 RefusesShut journal identity touched judged =
     (chip : Chip) → IsIdentityOf chip identity → OnErr judged (IsShut journal touched chip)
 
--- ---- the preparation as a whole
-
--- The result of a restore's preparation on a modelled bus: all checks pass, and the changes can be made (`CanApply`).
+-- Holds after a restore was prepared on a modelled bus: all checks pass, and the changes can be made (`CanApply`).
 pub record IsPreparedFor (choice : Choice) (journal : Content) (old new : Chip)
     (prepared : PreparedRestore) : Type 0 where
   pub accepted : RestoreAccepts choice journal old
@@ -190,8 +177,7 @@ pub record IsPreparedFor (choice : Choice) (journal : Content) (old new : Chip)
   pub needed : (prepared.changes.unlock || writes_code prepared.changes) ≡ true
       → NeedsStatusBy choice journal old
 
--- The result of a restore's preparation on every bus. On a well-behaved bus the chip is idle, and contents and
--- non-volatile status bits are as before.
+-- Holds after a restore was prepared, on every bus.
 pub record IsPreparedRestore (choice : Choice) (journal : Content) (old new : BusState)
     (prepared : PreparedRestore) : Type 0 where
   pub consistent : AreConsistent prepared.changes
@@ -214,11 +200,8 @@ pub record IsPreparedRestore (choice : Choice) (journal : Content) (old new : Bu
       → has prepared.changes.touched s ≡ choice.touched journal old.chip.bytes s
   pub modelled : IsModelled old → IsPreparedFor choice journal old.chip new.chip prepared
 
--- ---- the restore after its preparation
-
--- Holds for a choice of sectors that is sufficient for a restore: each saved sector in which a byte differs is touched,
--- and each one in which a bit must go from 0 to 1 is raised. Only saved sectors are touched, only touched sectors are
--- raised, and no more sectors are read than are saved.
+-- Holds if a choice of sectors is sufficient for a restore: it touches each saved sector in which a byte differs, and
+-- raises each one in which a bit must go from 0 to 1. It touches only saved sectors, and raises only touched ones.
 pub record IsSoundChoice (choice : Choice) : Type 0 where
   pub saved : (journal : Content) (content : ℕ → ℕ) (s : ℕ) → choice.touched journal content s ≡ true
       → is_saved journal s ≡ true

@@ -1,5 +1,4 @@
--- The promises of a rehearsal, which runs a session that may be stopped on purpose, and then undoes it with restores
--- from its journal.
+-- The promises of a rehearsal, which runs a session that may be stopped on purpose, and restores from its journal.
 use Rattle.std.specs.Prelude.{◌≡◌, ◌≤◌, ◌<◌, ◌+◌, ◌-◌, ◌*◌, ◌/◌, ◌==◌, ◌++◌, ◌⊎◌, max, ℕ, zero, suc, Bool, true, false, List, [], ◌∷◌, Result, IfOk, IfErr, OnErr, drop, length, slice_index, slice_index_or, if◌then◌else◌}
 use Rattle.std.specs.List.{list_any}
 use Rattle.nor_model.specs.Chip.{Chip, IsSame}
@@ -30,8 +29,8 @@ abbrev pub first_allowance : List ℕ → ℕ
 first_allowance [] = most_of 4096
 first_allowance (first ∷ later) = first
 
--- The allowances of the first `n` calls of a rehearsal, the last one first. Each call has its stop or, if the stops are
--- used up, the bound for a session on a chip of 16 MiB.
+-- The allowances of the first `n` calls of a rehearsal, with that of the last call first. Each call has its entry of
+-- `stops` or, if there is none, the bound for a session on a chip of 16 MiB.
 abbrev pub allowances_of : (stops : List ℕ) → (n : ℕ) → List ℕ
 allowances_of stops zero = []
 allowances_of stops (suc n) = slice_index_or stops n (most_of 4096) ∷ allowances_of stops n
@@ -43,8 +42,7 @@ pub record AllowsStops (stops : List ℕ) (least most : ℕ) (old new : BusState
   pub few : calls ≤ most
   pub is : new.allowances ≡ allowances_of stops calls ++ old.allowances
 
--- Describes the result of a rehearsal with `stops` stops on every bus. If the vault was sealed, at least one restore
--- was run, and at most `stops` or, without stops, one.
+-- Holds if a rehearsal with this number of entries in its `stops` can have this result and leave this vault.
 pub record IsRehearsal (stops : ℕ) (vault : VaultState) (rehearsal : Rehearsal) : Type 0 where
   pub seal : rehearsal.sealed ≡ vault.sealed
   pub ended : rehearsal.ended ≡ true → rehearsal.sealed ≡ true
@@ -59,26 +57,25 @@ abbrev pub least_needed : Request → (image : List ℕ) → Chip → (erases : 
 least_needed request image chip erases =
     4 + scanned_sectors request chip.config.size + 3 * (erases + pages_of chip.bytes (wanted request image chip))
 
--- A condition that is necessary for a session to end on this chip. The session may need more transactions than that.
+-- Holds if the request is accepted and the allowance is at least `least_needed`. Otherwise no session can succeed.
 pub record CanEnd (request : Request) (image : List ℕ) (allowance : ℕ) (chip : Chip) : Type 0 where
   pub accepted : IsAccepted request image chip
   pub erases : ℕ
   pub fewest : AreFewestErases chip.config chip.bytes (wanted request image chip) erases
   pub enough : least_needed request image chip erases ≤ allowance
 
--- Holds if the allowance was enough for a seal (if `seal` is true), or too small for one (if it is false).
+-- Holds if the allowance covers the shortest identification and the scan (if `seal` is true), or doesn't cover the
+-- identification of this chip and the scan (if `seal` is false).
 pub record SealFits (request : Request) (allowance : ℕ) (chip : Chip) (seal : Bool) : Type 0 where
   pub enough : seal ≡ true → 4 + scanned_sectors request chip.config.size ≤ allowance
   pub below : seal ≡ false → allowance < needed_to_identify chip + scanned_sectors request chip.config.size
 
--- Holds if `restores` restores from a journal of `sectors` sectors may have been run in turn with these stops. Each
--- restore except the last was stopped, so its stop is below the bound `most_of`.
+-- Holds if `restores` restores may have been run with the allowances `stops`. Each except the last was stopped.
 pub record AreRestores (sectors : ℕ) (stops : List ℕ) (restores : ℕ) : Type 0 where
   pub stopped : (i : ℕ) → i + 1 < restores → slice_index stops i < most_of sectors
   pub ended : restores ≤ length stops → 4 + sectors ≤ slice_index stops (restores - 1)
 
--- Holds if the stop of the last restore, if it had one, was enough for the shortest identification, the scan and the
--- `left` transactions that are left.
+-- Holds if the entry of `stops` for the last restore, if any, covers `left`, the shortest identification and the scan.
 abbrev pub FitsLastStop : (sectors : ℕ) → (stops : List ℕ) → (left restores : ℕ) → Type 0
 FitsLastStop sectors stops left restores =
     restores ≤ length stops → left + (4 + sectors) ≤ slice_index stops (restores - 1)
@@ -102,27 +99,20 @@ RehearsalErrors request image chip old new refusal = IsVerdict request image chi
 abbrev pub IsRehearsedCode : What → Content → (code : ℕ) → Type 0
 IsRehearsedCode what journal code = IsWrittenCode what journal code ⊎ IsSavedCode journal code
 
--- ---- the promises of a rehearsal
-
 -- The promises of a rehearsal on every bus.
 pub record RehearsalAlways (request : Request) (stops : List ℕ) (old new : BusState) (vault vault' : VaultState)
     (result : Result Rehearsal Refusal) : Type 0 where
   pub nature : SameNature old new
-  -- After success, one allowance was set for the session, and one for each restore.
   pub allowed : IfOk result (λ r. new.allowances ≡ allowances_of stops (1 + r.restores) ++ old.allowances)
-  -- After an error, one allowance was set for the session, and one for each restore that was run.
   pub tried : OnErr result (AllowsStops stops 1 (1 + max 1 (length stops)) old new)
   pub counts : IfOk result (IsRehearsal (length stops) vault')
   pub answers : IfErr result (IsRehearsalRefusal vault vault')
   pub names : IfErr result (NamesAddress vault')
-  -- if the vault was sealed, the rehearsal succeeds only if the last poll showed that the chip is ready
   pub polled_ready : IfOk result (λ rehearsal. rehearsal.sealed ≡ true → new.polled_ready ≡ true)
-  -- A call that is stopped by its entry in `stops` is no error of the rehearsal.
   pub last_transaction : IfErr result (λ refusal. EndsAtError refusal new.history)
   pub unsent : vault'.sealed ≡ false → new.sent ≡ old.sent
   pub sends : vault'.sealed ≡ true → (journal : IsJournal vault'.bytes)
       × SendsSaved (IsRehearsedCode request.what journal.content) (1 + max 1 (length stops)) journal.content old new
-  -- The number of status writes is at most the number that the request may need, plus two for each possible restore.
   pub writes : WritesStatusAtMost (most_status_writes request.what request.unlock + 2 * max 1 (length stops)) old new
 
 -- The promises of a rehearsal on a modelled bus that is punctual.
@@ -135,8 +125,6 @@ pub record RehearsalModelled (request : Request) (image stops : List ℕ) (old n
   pub saves : vault'.sealed ≡ true
       → JournalSaves (header_of old.chip) old.chip.bytes
       (is_touched old.chip.bytes (wanted request image old.chip)) vault'.bytes
-  -- if the rehearsal succeeds, and the allowance of its session was at least the bound for a chip of this size
-  -- (`most_of`), the session ended
   pub ended : most_of (old.chip.config.size / 4096) ≤ first_allowance stops
       → IfOk result (λ rehearsal. rehearsal.ended ≡ true)
   pub stopped : IfOk result (λ rehearsal. rehearsal.ended ≡ true
@@ -145,8 +133,6 @@ pub record RehearsalModelled (request : Request) (image stops : List ℕ) (old n
   pub restores : IfOk result (λ rehearsal. rehearsal.sealed ≡ true
       → AreRestores (sector_count (is_touched old.chip.bytes (wanted request image old.chip))) (drop 1 stops)
       rehearsal.restores)
-  -- After success, the write enable latch is set only if it was set before. The premise is that no restore was run, or
-  -- that the session ended and only one restore was run.
   pub latch : IfOk result (λ r. r.restores ≤ (if r.ended then 1 else 0) → new.chip.latch ≡ true → old.chip.latch ≡ true)
   pub last : IfOk result (λ rehearsal. rehearsal.sealed ≡ true
       → FitsLastStop (sector_count (is_touched old.chip.bytes (wanted request image old.chip))) (drop 1 stops)

@@ -26,10 +26,9 @@ use Rattle.nor_session.specs.Headline.{CanRestore}
 use Rattle.nor_session.specs.Restore.{IsRestoreRefusal}
 use Rattle.nor_session.specs.Rehearsal.{CanEnd, SealFits, AreRestores, FitsLastStop, LeavesRefused, IsNoBusError, RehearsalErrors, allowances_of, AllowsStops}
 
--- ---- the session
-
--- Holds if these bytes can restore the original chip (`first`) on this bus: they are a journal of it that saves exactly
--- the sectors in `saved`, and the bus's chip differs only as `IsWithin` allows.
+-- Holds if the bytes `text` can restore the known chip `first` on this bus. These bytes are a journal of `first` that
+-- saves exactly the sectors in `saved`; if the status of `first` is locked, none of these sectors is protected. The
+-- bus's chip differs from `first` only as `IsWithin` allows.
 pub record CanUndo (saved : ℕ → Bool) (first : Chip) (text : List ℕ) (state : BusState) : Type 0 where
   pub is : IsChip first
   pub known : IsKnown first.config
@@ -38,9 +37,8 @@ pub record CanUndo (saved : ℕ → Bool) (first : Chip) (text : List ℕ) (stat
   pub free : is_locked first.kept ≡ true → NoneProtected saved first
   pub within : IsWithin (addresses_of saved) first state
 
--- Holds at every exit of the session in a rehearsal. On a modelled bus only touched sectors were erased. If the vault
--- of such a bus is sealed, its bytes can restore the original chip. If it isn't sealed, and the bus is steady or its
--- chip was idle, bytes and non-volatile status bits are as they were.
+-- Holds at every exit of the session in a rehearsal. On a modelled bus, the bytes of a sealed vault can restore the
+-- original chip, and only touched sectors were erased.
 pub record LeavesSession (request : Request) (image : List ℕ) (old new : BusState) (vault : VaultState) : Type 0 where
   pub nature : SameNature old new
   pub same : IsModelled old → IsSteadyOrIdle old → vault.sealed ≡ false → IsSame old.chip new.chip
@@ -60,8 +58,7 @@ pub record HasWantedBits (what : What) (old new : Chip) : Type 0 where
   pub is_wanted : IsWantedCode what old code
   pub kept : new.kept ≡ with_code code old.kept
 
--- Holds if a session with an allowance of `allowance` transactions ended (`ended` is `true`) or was stopped (`ended` is
--- `false`). On a modelled, punctual bus a stopped session had an allowance below the bound `most_of`.
+-- Holds if a session with an allowance of `allowance` transactions succeeded or, if `ended` is false, was stopped.
 pub record RunsSession (request : Request) (image : List ℕ) (allowance : ℕ) (old new : BusState) (vault : VaultState)
     (ended : Bool) : Type 0 where
   pub seals : ended ≡ true → vault.sealed ≡ true
@@ -74,8 +71,7 @@ pub record RunsSession (request : Request) (image : List ℕ) (allowance : ℕ) 
       → allowance < most_of (old.chip.config.size / 4096)
   pub seal : IsModelled old → old.punctual ≡ true → SealFits request allowance old.chip vault.sealed
 
--- Holds if the session returned this error. On a modelled, punctual bus the error is the verdict on the request, or the
--- vault failed. On a well-behaved, punctual bus the error is neither a stop nor a timeout.
+-- Holds if the session may return this error. A stop or a timeout is not possible on a well-behaved, punctual bus.
 pub record RefusesSession (request : Request) (image : List ℕ) (old new : BusState) (before after : VaultState)
     (refusal : Refusal) : Type 0 where
   pub answers : SessionReturns before after refusal
@@ -85,10 +81,8 @@ pub record RefusesSession (request : Request) (image : List ℕ) (old new : BusS
   pub errors : IsModelled old → old.punctual ≡ true → RehearsalErrors request image old.chip before after refusal
   pub leaves : IsModelled old → old.punctual ≡ true → LeavesRefused old new after
 
--- ---- the restores
-
--- Holds at every exit of `restores` restores. On a modelled bus the journal can still restore each chip that it could
--- restore before, and only saved sectors were erased.
+-- Holds at every exit of at most `restores` restores. On a modelled bus the journal can still restore each chip that it
+-- could restore before, and only saved sectors were erased.
 pub record LeavesRestores (journal : Content) (restores : ℕ) (old new : BusState) : Type 0 where
   pub nature : SameNature old new
   pub modelled : IsModelled old → IsModelled new
@@ -97,9 +91,8 @@ pub record LeavesRestores (journal : Content) (restores : ℕ) (old new : BusSta
   pub sends : SendsSaved (IsSavedCode journal) restores journal old new
   pub writes : WritesStatusAtMost (2 * restores) old new
 
--- Holds if a restore with an allowance of `allowance` transactions ended (`ended` is `true`) or was stopped (`ended` is
--- `false`). If it ended on a modelled bus, a chip that the journal could restore is restored. On a well-behaved,
--- punctual bus a stopped restore had an allowance below the bound `most_of`.
+-- Holds if a restore with an allowance of `allowance` transactions succeeded or, if `ended` is false, was stopped.
+-- After success on a modelled bus, a chip that the journal could restore is restored.
 pub record RunsRestore (journal : Content) (allowance : ℕ) (old new : BusState) (ended : Bool) : Type 0 where
   pub back : IsModelled old → ended ≡ true → (first : Chip) → CanRestore journal first old → IsSame first new.chip
   pub latch : IsModelled old → ended ≡ true → new.chip.latch ≡ true → old.chip.latch ≡ true
@@ -110,8 +103,8 @@ pub record RunsRestore (journal : Content) (allowance : ℕ) (old new : BusState
       → allowance < most_of (length journal.saved)
   pub last_transaction : ended ≡ false → EndsStopped new.history
 
--- Holds if `restores` restores were run in turn, each with its own allowance, and the last one ended. On a modelled
--- bus, a chip that the journal could restore is restored.
+-- Holds if `restores` restores were run in turn, each with its own allowance, and the last one succeeded. On a
+-- modelled bus, a chip that the journal could restore is restored.
 pub record RunsRestores (journal : Content) (stops : List ℕ) (old new : BusState) (restores : ℕ) : Type 0 where
   pub some : 1 ≤ restores
   pub most : restores ≤ length stops + 1
@@ -121,8 +114,8 @@ pub record RunsRestores (journal : Content) (stops : List ℕ) (old new : BusSta
   pub last : IsModelled old → old.punctual ≡ true → FitsLastStop (length journal.saved) stops new.left restores
   pub back : IsModelled old → (first : Chip) → CanRestore journal first old → IsSame first new.chip
 
--- Holds if one of the restores returned this error. On a modelled, punctual bus no error is returned if the journal can
--- restore some chip.
+-- Holds if one of the restores may return this error. No error is possible on a modelled, punctual bus if the journal
+-- can restore a chip.
 pub record StopsRestores (journal : Content) (old new : BusState) (refusal : Refusal) : Type 0 where
   pub answers : IsRestoreRefusal refusal
   pub last_transaction : EndsAtError refusal new.history
@@ -130,10 +123,8 @@ pub record StopsRestores (journal : Content) (old new : BusState) (refusal : Ref
   pub fails : length journal.saved ≤ 4096 → old.honest ≡ true → old.punctual ≡ true → IsNoBusError refusal
   pub never : IsModelled old → old.punctual ≡ true → (first : Chip) → CanRestore journal first old → ⊥
 
--- ---- restores from bytes
-
 -- Holds if `restores` restores from the bytes `text` were run in turn, each with its own allowance, and the last one
--- ended. On a modelled bus, a chip that the bytes could restore is restored.
+-- succeeded. On a modelled bus, a chip that these bytes could restore is restored.
 pub record Undoes (text : List ℕ) (stops : List ℕ) (old new : BusState) (restores : ℕ) : Type 0 where
   pub some : 1 ≤ restores
   pub most : restores ≤ length stops + 1
@@ -153,8 +144,8 @@ abbrev pub SendsFromJournal : List ℕ → (restores : ℕ) → (old new : BusSt
 SendsFromJournal text restores old new =
     (journal : IsJournal text) → SendsSaved (IsSavedCode journal.content) restores journal.content old new
 
--- Holds if the restores from the bytes `text` returned this error. If the bytes can restore the original chip on a
--- modelled, punctual bus, no error is returned.
+-- Holds if restores from the bytes `text` may return this error. No error is possible on a modelled, punctual bus if
+-- the bytes can restore a chip.
 pub record RefusesUndo (text : List ℕ) (old new : BusState) (refusal : Refusal) : Type 0 where
   pub answers : IsJournal text → IsRestoreRefusal refusal
   pub last_transaction : EndsAtError refusal new.history
@@ -167,7 +158,6 @@ pub record LeavesUndo (text stops : List ℕ) (old new : BusState) (result : Res
   pub nature : SameNature old new
   pub wears : WearsSaved text old new
   pub sends : SendsFromJournal text (length stops + 1) old new
-  -- at most two status writes for each stop, and two for a restore without a stop
   pub writes : WritesStatusAtMost (2 * (length stops + 1)) old new
   pub undoes : IfOk result (Undoes text stops old new)
   pub polled_ready : OnOk result (new.polled_ready ≡ true)

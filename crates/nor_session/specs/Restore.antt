@@ -35,21 +35,17 @@ use Rattle.nor_session.specs.Changing.{HasBytes}
 use Rattle.nor_session.specs.Headline.{IsOfType}
 use Rattle.nor_session.specs.Session.{NamesSector, IsWithinCounts, CountsChanges, IsSavedCode, SendsSaved, SendsCounted, WritesStatusAtMost, HonestErrors}
 
--- ---- the target
-
 abbrev pub restored : Content → (old : ℕ → ℕ) → (a : ℕ) → ℕ
 restored journal old a = if is_saved journal (a / 4096) then saved_byte journal a else old a
 
--- ---- the sectors that are changed
-
 -- How a restore chooses its touched and raised sectors, from the journal and the chip's bytes `content` at the start.
--- `reads` is the number of sectors that are read before the first change, for a number of saved sectors.
+-- `reads` is the number of sectors that are read before the first change if `saved` sectors are saved.
 pub record Choice : Type 0 where
   pub touched : Content → (content : ℕ → ℕ) → (s : ℕ) → Bool
   pub raised : Content → (content : ℕ → ℕ) → (s : ℕ) → Bool
   pub reads : (saved : ℕ) → ℕ
 
--- The choice of `restore`: the saved sectors that differ from the saved bytes.
+-- The choice of `restore`, which reads every saved sector, and touches those that differ from their saved bytes.
 abbrev pub differing : Choice
 differing = record {
   touched = λ journal content. is_touched content (restored journal content);
@@ -57,7 +53,7 @@ differing = record {
   reads = λ saved. saved;
 }
 
--- The choice of `rewrite`: every saved sector, and none is read before the changes.
+-- The choice of `rewrite`, which touches and raises every saved sector, and reads none before the changes.
 abbrev pub every_saved : Choice
 every_saved = record {
   touched = λ journal content. is_saved journal;
@@ -65,14 +61,12 @@ every_saved = record {
   reads = λ saved. 0;
 }
 
--- ---- the verdict
-
 -- Holds if the journal has a unique ID, and it isn't the chip's. A journal of format 1 has no unique ID.
 abbrev pub IsOfOtherDevice : Content → Config → Type 0
 IsOfOtherDevice journal config = IsSomeAnd journal.unique (λ unique. unique ≢ unique_of config)
 
--- Holds if the status bits that a restore can't write are the journal's: the bits that flashnor never changes and,
--- without block protection, all non-volatile bits.
+-- Holds if the status bits that a restore can't write are the journal's: the bits that flashnor never changes and, on a
+-- chip without block protection, all non-volatile bits.
 pub record FitsStatus (journal : Content) (chip : Chip) : Type 0 where
   pub fixed : fixed_of chip.kept ≡ fixed_of (kept_in journal.status)
   pub all : chip.config.scheme ≡ false → chip.kept ≡ kept_in journal.status
@@ -94,8 +88,7 @@ RestoreHolds choice journal chip StatusDiffers = ¬ FitsStatus journal chip
 RestoreHolds choice journal chip StatusLocked = (is_locked chip.kept ≡ true) × NeedsStatusBy choice journal chip
 RestoreHolds choice journal chip _ = ⊥
 
--- The numbers of the errors that a restore checks before it changes anything, in the order of the checks: no chip,
--- unknown chip, other ID or size, other device, other status bits, locked status.
+-- The numbers of the errors that a restore checks before it changes anything, in the order of the checks.
 abbrev pub checked_in_order : List ℕ
 checked_in_order = 1 ∷ 2 ∷ 16 ∷ 20 ∷ 17 ∷ 9 ∷ []
 
@@ -106,7 +99,7 @@ abbrev pub index_in : List ℕ → ℕ → ℕ
 index_in [] n = 0
 index_in (first ∷ later) n = if first == n then 0 else 1 + index_in later n
 
--- Holds if the error applies, and no error that is checked before it applies.
+-- Holds if the error applies, and none of the errors that are checked earlier applies.
 pub record IsRestoreVerdict (choice : Choice) (journal : Content) (chip : Chip) (refusal : Refusal) : Type 0 where
   pub holds : RestoreHolds choice journal chip refusal
   pub first : (other : Refusal)
@@ -115,8 +108,6 @@ pub record IsRestoreVerdict (choice : Choice) (journal : Content) (chip : Chip) 
 
 abbrev pub IsRestorable : Choice → Content → Chip → Type 0
 IsRestorable choice journal chip = (refusal : Refusal) → ¬ RestoreHolds choice journal chip refusal
-
--- ---- on every bus
 
 pub record IsOfTypeFound (journal : Content) (found : Found) : Type 0 where
   pub id : journal.id ≡ found.id
@@ -128,9 +119,7 @@ HasFixedRead journal identity = fixed_of (kept_in (status_read identity)) ≡ fi
 abbrev pub HasUniqueRead : Content → Identity → Type 0
 HasUniqueRead journal identity = (journal.unique ≡ None) ⊎ (journal.unique ≡ Some identity.unique)
 
--- Holds if the journal fits what the bus replied to a restore's identification. The size is the one in the row that
--- applies to the ID on this bus or, without a row, in the SFDP replies. `read` is the history of the bus at some point
--- of the restore; the proof gives the history after the identification.
+-- Holds if the journal fits what the bus replied to the identification, up to some point (`read`) of the restore.
 pub record FitsReplies (journal : Content) (old new : BusState) : Type 0 where
   pub read : List Exchange
   pub before : Continues old.history read
@@ -146,10 +135,9 @@ abbrev pub IsLeft : Choice → Content → (read : ℕ → ℕ) → (a : ℕ) �
 IsLeft choice journal read a =
     (is_saved journal (a / 4096) ≡ true) × (choice.touched journal read (a / 4096) ≡ false)
 
--- Holds if the result fits what was read back, on every bus. `scanned` is the history at the point at which the touched
--- sectors were chosen. After success, each saved sector that isn't touched had been read by then, and the last
--- transactions read each byte of a touched sector as the saved byte. A mismatch names the first address in a touched
--- sector whose byte was read otherwise.
+-- Holds if the result fits what was read back. `scanned` is the history at which the touched sectors were chosen. After
+-- success, the other saved sectors had been read by then, and the last transactions read the touched sectors with their
+-- saved bytes. A mismatch names the first address in these sectors at which another byte was read.
 abbrev pub RestoreReadsBack : Choice → Content → (old new : List Exchange) → Result Report Refusal → Type 0
 RestoreReadsBack choice journal old new (Ok report) = (scanned : List Exchange)
     × HaveBeenRead (IsLeft choice journal (bytes_read scanned)) old scanned
@@ -162,10 +150,7 @@ RestoreReadsBack choice journal old new (Err _) = ⊤
 abbrev pub IsRestoreRefusal : Refusal → Type 0
 IsRestoreRefusal refusal = list_any (λ n. refusal_number refusal == n) (12 ∷ 13 ∷ 14 ∷ checked_in_order) ≡ true
 
--- ---- on a modelled bus
-
--- Holds if a restore may return this error on a modelled bus: the verdict, or 12 because the bus stopped (a punctual
--- bus stops only if too few transactions were left).
+-- Holds if a restore may return this error on a modelled bus: its verdict, or 12 because the bus stopped.
 abbrev pub ErrorsBy : Choice → Content → (old new : BusState) → Refusal → Type 0
 ErrorsBy choice journal old new Stopped = RanOut (most_of (length journal.saved)) old new
 ErrorsBy choice journal old new refusal = IsRestoreVerdict choice journal old.chip refusal
@@ -187,28 +172,20 @@ pub record IsRestoredBy (choice : Choice) (journal : Content) (old new : BusStat
       (restored journal old.chip.bytes) old new report
   pub unsent : report.touched ≡ 0 → (¬ NeedsStatusBy choice journal old.chip) → new.sent ≡ old.sent
 
--- ---- the promises of a restore, for any choice of its sectors
-
 -- The promises of a restore on every bus.
 pub record AlwaysBy (choice : Choice) (journal : Content) (old new : BusState)
     (result : Result Report Refusal) : Type 0 where
   pub spends : Spends (most_of (length journal.saved)) old new
   pub sends : SendsSaved (IsSavedCode journal) 1 journal old new
-  -- at every exit, no modifying command was sent, or the journal fits what the bus replied to the identification
+  -- At every exit, no modifying command was sent, or the journal fits what the bus replied to the identification.
   pub fits : (new.sent ≡ old.sent) ⊎ FitsReplies journal old new
   pub writes : WritesStatusAtMost 2 old new
   pub answers : IfErr result IsRestoreRefusal
   pub names : IfErr result (NamesSector (λ sector. is_saved journal sector ≡ true))
-  -- After an error of the checks, no modifying command was sent. On a punctual bus, the number of transactions is then
-  -- at most that of identifying and scanning the largest chip.
   pub only_reads : IfErr result (λ refusal. IsCheckedFirst refusal → OnlyReads (most_reads 4096) old new)
-  -- after success the counts of the report are within their bounds, and its erases and page programs are those that
-  -- were sent
   pub bounded : IfOk result (IsWithinCounts (choice.reads (length journal.saved)) (length journal.saved) 2 true)
   pub reported : IfOk result (λ report. SendsCounted report.erases report.programs old new)
   pub changing : IfOk result (CountsChanges (choice.reads (length journal.saved)) 2 true old new)
-  -- After success, each saved sector was read with its saved bytes. For a touched sector, that read followed all
-  -- writes.
   pub read_back : RestoreReadsBack choice journal old.history new.history result
   pub polled_ready : OnOk result (new.polled_ready ≡ true)
   pub last_transaction : IfErr result (λ refusal. EndsAtError refusal new.history)
@@ -216,7 +193,6 @@ pub record AlwaysBy (choice : Choice) (journal : Content) (old new : BusState)
 -- The promises of a restore on a well-behaved bus.
 pub record HonestBy (choice : Choice) (journal : Content) (old new : BusState)
     (result : Result Report Refusal) : Type 0 where
-  -- A timeout does not occur, and a punctual bus stops only if no transaction is left.
   pub honest_errors : IfErr result (HonestErrors (most_of (length journal.saved)) IsCheckedFirst old new)
   pub counted : IfOk result (λ report. Spent report.transactions old new)
   -- The restore read the touched sectors back and compared them, so this holds even for a chip that isn't genuine.
@@ -233,8 +209,6 @@ pub record ModelledBy (choice : Choice) (journal : Content) (old new : BusState)
   pub spares : (¬ NeedsStatusBy choice journal old.chip)
       → IfOk result (IsWithinCounts (choice.reads (length journal.saved)) (length journal.saved) 0 true)
 
--- ---- `restore`, which changes the sectors that differ
-
 abbrev pub RestoreErrors : Content → (old new : BusState) → Refusal → Type 0
 RestoreErrors journal old new refusal = ErrorsBy differing journal old new refusal
 
@@ -249,8 +223,6 @@ RestoreHonest journal old new result = HonestBy differing journal old new result
 
 abbrev pub RestoreModelled : Content → (old new : BusState) → Result Report Refusal → Type 0
 RestoreModelled journal old new result = ModelledBy differing journal old new result
-
--- ---- `rewrite`, which changes every saved sector
 
 abbrev pub RewriteAlways : Content → (old new : BusState) → Result Report Refusal → Type 0
 RewriteAlways journal old new result = AlwaysBy every_saved journal old new result

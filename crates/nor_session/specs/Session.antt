@@ -42,10 +42,8 @@ use Rattle.nor_session.specs.Made.{IsTargetChip, IsReported}
 use Rattle.nor_session.specs.Changing.{HasBytes}
 use Rattle.nor_scan.specs.Verdict.{IsNamed, NeedsStatusWrite, IsVerdict, IsAccepted}
 
--- ---- on every bus
-
--- Holds if a session may return this error and leave the vault in the state `new`. After errors 1 to 11 the vault isn't
--- sealed. Errors 1 to 8 are returned before the vault is used, so it is then as it was.
+-- Holds if a session may return this error and leave the vault in the state `new`. Errors 1 to 8 are returned before
+-- the vault is used, and errors 9 to 11 before it is sealed.
 pub record SessionReturns (old new : VaultState) (refusal : Refusal) : Type 0 where
   pub own : refusal_number refusal ≤ 14
   pub vault : refusal ≡ Vault → CountsRefusal old new
@@ -55,26 +53,26 @@ pub record SessionReturns (old new : VaultState) (refusal : Refusal) : Type 0 wh
 abbrev pub SavesSector : (sector : ℕ) → (bytes : List ℕ) → Type 0
 SavesSector sector bytes = (journal : IsJournal bytes) × (is_saved journal.content sector ≡ true)
 
--- Holds if the error names no address, an address in a sector for which `IsSuch` holds or, for a timeout, 0.
+-- Holds if the address of a timeout or mismatch, if any, is in a sector for which `IsSuch` holds or, for a timeout, 0.
 abbrev pub NamesSector : (IsSuch : (sector : ℕ) → Type 0) → Refusal → Type 0
 NamesSector IsSuch (Timeout address) = (address ≡ 0) ⊎ IsSuch (address / 4096)
 NamesSector IsSuch (Mismatch address) = IsSuch (address / 4096)
 NamesSector IsSuch _ = ⊤
 
--- Holds if the address that the error names is right: in a sector that the journal of a sealed faithful vault saves, or
--- 0 for a timeout.
+-- Holds if the address of a timeout or mismatch, if any, is in a sector that the sealed vault saves (if the vault is
+-- faithful) or, for a timeout, 0. With an unsealed vault, a timeout names 0, and a mismatch does not occur.
 pub record NamesAddress (vault : VaultState) (refusal : Refusal) : Type 0 where
   pub early : vault.sealed ≡ false → NamesSector (λ s. ⊥) refusal
   pub late : vault.sealed ≡ true → vault.telling ≡ true → NamesSector (λ s. SavesSector s vault.bytes) refusal
 
--- The greatest number of status writes of a session: one for a protection range, and two for a write or an erase if
--- protection may be lifted (one to lift it, one to restore it).
+-- The greatest number of status writes of a session: one for a protection range, otherwise two if `unlock` is set (to
+-- lift and restore protection) and none if it isn't.
 abbrev pub most_status_writes : What → (unlock : Bool) → ℕ
 most_status_writes (WpRange start len) unlock = 1
 most_status_writes _ unlock = if unlock then 2 else 0
 
--- Holds if the journal saves a whole chip, and the sector lies past that chip's end. The erase of a whole chip names no
--- address, so it counts as targeting such a sector too.
+-- Holds if the journal saves a whole chip, and the sector lies past that chip's end. A chip erase (C7h) has no address,
+-- so it counts as targeting this sector too.
 pub record IsPastChipEnd (journal : Content) (sector : ℕ) : Type 0 where
   pub whole : (s : ℕ) → s < journal.size / 4096 → is_saved journal s ≡ true
   pub past_end : journal.size / 4096 ≤ sector
@@ -89,16 +87,16 @@ abbrev pub IsWrittenCode : What → Content → (code : ℕ) → Type 0
 IsWrittenCode (WpRange start len) journal code = IsLeastCode journal.size start len code
 IsWrittenCode _ journal code = IsSavedCode journal code
 
--- Holds if a status write of the bytes `one` and `two` is allowed. BUSY, WEL and SUS must be clear.
+-- Holds if a status write of the bytes `one` and `two` is allowed: `IsCode` holds for its protection bits, its other
+-- non-volatile bits are the journal's, and BUSY, WEL and SUS are clear.
 pub record WritesOnly (IsCode : (code : ℕ) → Type 0) (journal : Content) (one two : ℕ) : Type 0 where
   pub fixed : fixed_of (kept_in (one ∷ two ∷ [])) ≡ fixed_of (kept_in journal.status)
   pub code : IsCode (code_of (kept_in (one ∷ two ∷ [])))
   pub clear1 : one % 4 ≡ 0
   pub clear2 : two < 128
 
--- Holds if what `calls` calls sent fits this journal: they targeted only saved sectors (an erase of the whole chip: see
--- `IsPastChipEnd`), wrote only allowed status bytes, and sent no unknown transaction. What was sent before the calls
--- doesn't count.
+-- Holds if what `calls` calls sent fits this journal: the calls targeted only saved sectors (for a chip erase see
+-- `IsPastChipEnd`), wrote only allowed status bytes, and sent no unknown transaction.
 pub record SendsSaved (IsCode : ℕ → Type 0) (calls : ℕ) (journal : Content) (old new : BusState) : Type 0 where
   pub targeted : (s : ℕ) → (is_targeted new.sent s ≡ is_targeted old.sent s)
       ⊎ ((is_saved journal s ≡ true) ⊎ IsPastChipEnd journal s)
@@ -121,9 +119,8 @@ pub record SendsCounted (erases programs : ℕ) (old new : BusState) : Type 0 wh
 abbrev pub WritesStatusAtMost : ℕ → (old new : BusState) → Type 0
 WritesStatusAtMost most old new = status_writes_of new.sent ≤ status_writes_of old.sent + most
 
--- Bounds on the counts of a report. `reads` is the number of sectors that are read before the first change, `sectors` a
--- bound on the touched sectors, and `writes` a bound on the status writes. The identification takes at least four
--- transactions, and an operation at least three (write enable, the command, a poll).
+-- Holds if the counts of a report are within bounds, where `reads` sectors are read before the first change, at most
+-- `sectors` are touched, and at most `writes` status writes are sent.
 pub record IsWithinCounts (reads sectors writes : ℕ) (verify : Bool) (report : Report) : Type 0 where
   pub touched : report.touched ≤ sectors
   pub erases : report.erases ≤ sectors
@@ -137,9 +134,8 @@ pub record IsWithinCounts (reads sectors writes : ℕ) (verify : Bool) (report :
 abbrev pub IsWithinBound : (scanned writes : ℕ) → (verify : Bool) → Report → Type 0
 IsWithinBound scanned writes verify report = IsWithinCounts scanned scanned writes verify report
 
--- Limits the transactions of a call with this report, on every bus. Until the state `before`, the call only read. Then
--- it sent at most one read for each touched sector, another one if `verify` is set, three transactions for each
--- operation, and polls that showed BUSY.
+-- Holds if a call with this report only read until the state `before`. Then it sent at most one read (two with
+-- `verify`) for each touched sector, three transactions for each operation, and polls that showed BUSY.
 pub record CountsChanges (reads writes : ℕ) (verify : Bool) (old new : BusState) (report : Report) : Type 0 where
   pub before : BusState
   pub first : ℕ
@@ -161,27 +157,21 @@ pub record EndsSealed (request : Request) (old new : BusState) (vault vault' : V
   pub changing : CountsChanges (scanned_sectors request report.found.size)
       (most_status_writes request.what request.unlock) request.verify old new report
 
--- ---- on a well-behaved bus
-
--- The meaning of errors on a well-behaved bus. On a punctual bus a stop occurs only if no transaction is left and fewer
--- than `most` were left at the start. `IsEarly` holds for the errors from before the first modifying command. After
--- such an error, other than a stop, bytes and non-volatile status bits are as they were.
+-- Holds if a call may return this error on a well-behaved bus. After an error for which `IsEarly` holds, other than a
+-- stop, bytes and non-volatile status bits are as they were.
 abbrev pub HonestErrors : (most : ℕ) → (IsEarly : Refusal → Type 0) → (old new : BusState) → Refusal → Type 0
 HonestErrors most IsEarly old new Stopped = RanOut most old new
 HonestErrors most IsEarly old new (Timeout address) = ⊥
 HonestErrors most IsEarly old new refusal = IsEarly refusal → IsSame old.chip new.chip
 
--- ---- on a modelled bus
-
 -- Holds if a session may return this error on a modelled bus: the verdict on the request, 11 because the vault failed,
--- or 12 because the bus stopped (a punctual bus stops only if too few transactions were left).
+-- or 12 because the bus stopped.
 abbrev pub SessionErrors : Request → List ℕ → (old new : BusState) → (vault vault' : VaultState) → Refusal → Type 0
 SessionErrors request image old new vault vault' Vault = CountsRefusal vault vault'
 SessionErrors request image old new vault vault' Stopped = RanOut (most_of (old.chip.config.size / 4096)) old new
 SessionErrors request image old new vault vault' refusal = IsVerdict request image old.chip refusal
 
--- Holds after a session succeeded on a modelled bus. The chip has the target bytes and the target protection bits, and
--- the report counts the work that was done. If nothing had to be changed, no modifying command was sent.
+-- Holds after a session succeeded on a modelled bus. If nothing had to be changed, no modifying command was sent.
 pub record IsDone (request : Request) (image : List ℕ) (old new : BusState) (report : Report) : Type 0 where
   pub made : IsTargetChip (wanted request image old.chip) old.chip new.chip
   pub code : ℕ
@@ -191,8 +181,7 @@ pub record IsDone (request : Request) (image : List ℕ) (old new : BusState) (r
   pub unsent : report.touched ≡ 0 → ¬ NeedsStatusWrite request image old.chip → new.sent ≡ old.sent
 
 -- Holds at every exit after the seal, on a modelled bus: a faithful vault holds a journal of the original chip that
--- saves exactly the touched sectors, and the chip changed only as `MayChange` allows. On a punctual bus, at least four
--- transactions (the shortest identification) and one for each scanned sector were sent.
+-- saves exactly the touched sectors, and the chip changed only as `MayChange` allows.
 pub record CanBeUndone (request : Request) (image : List ℕ) (old new : BusState) (vault : VaultState) : Type 0 where
   pub accepted : IsAccepted request image old.chip
   pub journal : vault.telling ≡ true
@@ -209,9 +198,7 @@ HoldsBegun request image chip bytes = (bytes ≡ [])
     ⊎ (IsNamed request.named chip.config
     × IsJournalPrefix (header_of chip) chip.bytes (is_touched chip.bytes (wanted request image chip)) bytes)
 
--- Holds if the bytes are a journal that contains what the bus last replied before the seal. The size is the one in the
--- row that applies to the ID on this bus or, without a row, in the SFDP replies. `at_seal` is the history of the bus at
--- some point of the session; the proof gives the history at the seal.
+-- Holds if the bytes are a journal of what the bus had last replied at some point of the session (history `at_seal`).
 pub record IsJournalOfReplies (old new : BusState) (bytes : List ℕ) : Type 0 where
   pub at_seal : List Exchange
   pub before : Continues old.history at_seal
@@ -226,10 +213,9 @@ abbrev pub touched_for : Request → (image : List ℕ) → (size : ℕ) → (re
 touched_for request image size read s =
     sectors_below (size / 4096) s && is_touched read (wanted_at request image size read) s
 
--- Holds if the result fits what was read back, on every bus. `scanned` is the history at the end of the scan. After
--- success with `verify` set, each scanned sector had been read by then, and the last transactions read each byte of a
--- touched sector as its target byte. A mismatch names the first address in a touched sector whose byte was read
--- otherwise.
+-- Holds if the result fits what was read back. `scanned` is the history at the end of the scan. After success with
+-- `verify` set, each scanned sector had been read by then, and the last transactions read the touched sectors with
+-- their target bytes. A mismatch names the first address in these sectors at which another byte was read.
 abbrev pub SessionReadsBack : Request → (image : List ℕ) → (old new : List Exchange) → Result Report Refusal → Type 0
 SessionReadsBack request image old new (Ok report) = request.verify ≡ true
     → (scanned : List Exchange) × HaveBeenRead (IsScanned request report.found.size) old scanned
@@ -241,13 +227,9 @@ SessionReadsBack request image old new (Err (Mismatch address)) =
     (wanted_at request image size (bytes_read scanned)) address scanned new
 SessionReadsBack request image old new (Err _) = ⊤
 
--- ---- the promises of a session
-
 -- The promises of a session on every bus and with every vault.
 pub record SessionAlways (request : Request) (image : List ℕ) (old new : BusState) (vault vault' : VaultState)
     (result : Result Report Refusal) : Type 0 where
-  -- Without a seal, no modifying command was sent. On a punctual bus, the number of transactions is then at most that
-  -- of identifying and scanning the largest chip.
   pub only_reads : vault'.sealed ≡ false → OnlyReads (most_reads 4096) old new
   pub spends : Spends (most_of 4096) old new
   pub few : SendsFew old new
@@ -256,13 +238,11 @@ pub record SessionAlways (request : Request) (image : List ℕ) (old new : BusSt
   pub sends : vault'.sealed ≡ true → vault'.telling ≡ true → (journal : IsJournal vault'.bytes)
       × SendsSaved (IsWrittenCode request.what journal.content) 1 journal.content old new
   pub holds : HoldsJournal vault'
-  -- if a faithful vault is sealed, its journal contains what the bus replied, even if the bus isn't well-behaved
+  -- If a faithful vault is sealed, its journal contains what the bus replied, even if the bus isn't well-behaved.
   pub replied : vault'.sealed ≡ true → vault'.telling ≡ true → IsJournalOfReplies old new vault'.bytes
   pub answers : IfErr result (SessionReturns vault vault')
   pub names : IfErr result (NamesAddress vault')
   pub ends : IfOk result (EndsSealed request old new vault vault')
-  -- After success with `verify` set, each scanned sector was read with its target bytes. For a touched sector, that
-  -- read followed all writes.
   pub read_back : SessionReadsBack request image old.history new.history result
   pub polled_ready : OnOk result (new.polled_ready ≡ true)
   pub last_transaction : IfErr result (λ refusal. EndsAtError refusal new.history)
@@ -270,8 +250,6 @@ pub record SessionAlways (request : Request) (image : List ℕ) (old new : BusSt
 -- The promises of a session on a well-behaved bus.
 pub record SessionHonest (request : Request) (image : List ℕ) (old new : BusState)
     (result : Result Report Refusal) : Type 0 where
-  -- After an error from 1 to 11, the chip's bytes and non-volatile status bits are as they were before the session. No
-  -- wait times out, and a punctual bus stops only if no transaction is left.
   pub honest_errors : IfErr result (HonestErrors (most_of 4096) (λ refusal. refusal_number refusal ≤ 11) old new)
   pub counted : IfOk result (λ report. Spent report.transactions old new)
   -- The session read the touched sectors back and compared them, so this holds even for a chip that isn't genuine.
@@ -287,18 +265,14 @@ pub record SessionModelled (request : Request) (image : List ℕ) (old new : Bus
   pub unwritten : ¬ NeedsStatusWrite request image old.chip → WritesStatusAtMost 0 old new
   pub spares : ¬ NeedsStatusWrite request image old.chip
       → IfOk result (IsWithinBound (scanned_sectors request old.chip.config.size) 0 request.verify)
-  -- on a punctual bus, a stop before the seal occurs only if fewer transactions were left at the start than the
-  -- identification of this chip and the scan need together
   pub early : vault'.sealed ≡ false → old.punctual ≡ true → IfErr result (λ refusal. refusal ≡ Stopped
       → old.left < needed_to_identify old.chip + scanned_sectors request old.chip.config.size)
-  -- after an error other than 11, an unsealed faithful vault is empty, or holds the header and complete records of the
-  -- only journal that the session can write
+  -- After an error other than 11, an unsealed faithful vault is empty, or holds the header and complete records of the
+  -- only journal that the session can write.
   pub begins : vault'.sealed ≡ false → vault'.telling ≡ true → IfErr result (λ refusal. refusal ≢ Vault
       → (vault'.bytes ≡ [])
       ⊎ HasWholeRecords (header_of old.chip) old.chip.bytes
       (is_touched old.chip.bytes (wanted request image old.chip)) vault'.bytes)
-  -- after any error, even 11, an unsealed faithful vault is empty, or holds a prefix of the only journal that the
-  -- session can write
   pub cut : vault'.sealed ≡ false → vault'.telling ≡ true
       → OnErr result (HoldsBegun request image old.chip vault'.bytes)
   pub undo : vault'.sealed ≡ true → CanBeUndone request image old new vault'

@@ -11,20 +11,18 @@ use nor_probe::ChipName;
 use nor_request::{Refusal, Report};
 use nor_scan::{identify, save_whole};
 
-/// Saves every sector of the chip, its protection bits and its unique ID to `vault`, and changes nothing. If `named` is
-/// given, the chip must have that name. `vault` must be empty and unsealed.
+/// Saves every sector of the chip, its non-volatile status bits and its unique ID to `vault`, and changes nothing.
+/// `vault` must be empty and unsealed. If `named` is given, the chip must have that name.
 ///
-/// The journal of a session saves only the sectors that the session will change. If a faulty wire or chip changes
-/// another sector, only a backup has its bytes. After success on a modelled bus, a `telling` vault holds a journal from
-/// which `restore` can restore the chip, even after any changes that a restore can write (`backup_restores_any`).
-/// `rewrite` can do so too, unless a locked status protects a sector (error 9).
+/// After success on a modelled bus, a `telling` vault holds a journal from which `restore` can restore the chip, even
+/// after changes at any address that a restore can write (`backup_restores_any`). `rewrite` can do so too, unless a
+/// locked status protects a sector (error 9).
 ///
 /// On any bus the vault is sealed if and only if the call succeeds, and the journal of a sealed `telling` vault
-/// contains what the bus replied. The report counts 0 touched sectors, erases and programs, and counts all
-/// transactions.
+/// contains what the bus replied.
 ///
 /// Returns error 1 (no chip), 2 (unknown chip), 3 (other name), 11 (the vault failed), 12 (the bus stopped) or 13 (the
-/// chip stayed busy during the identification; not on a well-behaved bus). Nothing is sent after error 12 or 13 occurs.
+/// chip stayed busy during the identification; not on a well-behaved bus).
 pub fn backup<B: Bus, V: Vault>(
     bus: &mut B,
     vault: &mut V,

@@ -13,8 +13,7 @@ use nor_model::Bus;
 use nor_request::{Refusal, Report, Request};
 use nor_scan::{Identity, save};
 
-/// The state of a session whose request was checked against the identification, and in which nothing is saved yet. It
-/// obtains the `Restorer` that every change needs only from a sealed vault or a journal that was read.
+/// The state of a session whose request was checked against the identification, and in which nothing is saved yet.
 pub(crate) struct Judged<'a, B: Bus, V: Vault> {
     pub(crate) bus: &'a mut B,
     pub(crate) vault: &'a mut V,
@@ -25,8 +24,8 @@ pub(crate) struct Judged<'a, B: Bus, V: Vault> {
 }
 
 impl<'a, B: Bus, V: Vault> Judged<'a, B, V> {
-    /// The clause `keeps` states the promises of the whole session, which began before this call: it holds for every
-    /// bus state from which the identification can have started.
+    /// Runs the rest of the session. The clause `keeps` has the promises of the whole session, for every bus state in
+    /// which the identification can have started.
     pub(crate) fn answer<F: FnOnce(Announcement) + Drop>(
         self,
         announce: F,

@@ -11,13 +11,11 @@ use nor_journal::{Journal, Vault};
 use nor_model::Bus;
 use nor_request::Refusal;
 
-/// Evidence that the vault that received the journal is sealed, or that the journal was read. Only this module
-/// constructs it.
+/// Evidence that the journal's vault is sealed, or that the journal was read. Only this module constructs a `Restorer`.
 pub(crate) struct Restorer(());
 
 impl Restorer {
-    /// Returns the evidence for a sealed vault. The premise doesn't say that the vault received the journal: the caller
-    /// must have written it.
+    /// Returns the evidence for a sealed vault, to which the caller must have written the journal.
     pub(crate) fn in_vault<V: Vault>(_vault: &V) -> Restorer
         requires { (V.state _vault.now).sealed ≡ true }
     {
@@ -29,8 +27,8 @@ impl Restorer {
     }
 }
 
-/// The state of a session after its vault was sealed, or of a restore after its journal was read. Only a `Kept` changes
-/// the chip. A `Kept` can't be dropped, so `finish` must consume it.
+/// The state of a session after its vault was sealed, or of a restore after its journal was read. In this crate only
+/// `finish` changes a chip. A `Kept` can't be dropped, so `finish` must consume it.
 pub(crate) struct Kept<'a, B: Bus, S: Source> {
     pub(crate) bus: &'a mut B,
     pub(crate) source: &'a S,
@@ -69,7 +67,7 @@ impl<'a, B: Bus, S: Source> Kept<'a, B, S> {
     }
 }
 
-/// The state after everything was written. Only `Kept` constructs a `Done`, which can't be dropped.
+/// The state after all changes were made. Only `Kept::finish` constructs a `Done`, which can't be dropped.
 pub(crate) struct Done<'a, B: Bus, S: Source> {
     bus: &'a mut B,
     source: &'a S,

@@ -15,35 +15,35 @@ ghost use Rattle.nor_session.specs.Restore.{IsRestored};
 ghost use Rattle.nor_session.specs.Session.{CanBeUndone, HoldsBegun};
 ghost use Rattle.nor_session.specs.WrittenOver.{IsWrittenOver};
 
-/// If a journal saves the chip in its present state (`SavesChip`), for example after another restore, a restore from
-/// this journal that succeeds on a modelled bus changes nothing.
+/// States that if a journal saves the chip in its present state (`SavesChip`), for example after another restore, a
+/// restore from this journal that succeeds on a modelled bus changes nothing.
 pub fn restored_stays()
     ensures { (journal : Content) (first : Chip) (old new : BusState) (report : Report)
         → SavesChip journal first → IsSame first old.chip → IsRestored journal old new report
         → ChangesNothing journal old new report }
 {}
 
-/// A journal that can restore the original chip can still do so after the chip has lost its power, provided that the
-/// bus wasn't steady, or that the chip was idle. So the power may fail between two runs.
+/// States that a journal that can restore the original chip can still do so after the chip lost its power, provided
+/// that the bus wasn't steady, or that the chip was idle.
 pub fn power_lost_restores_original()
     ensures { (journal : Content) (first : Chip) (old new : BusState)
         → CanRestore journal first old → LosesPower old new → CanRestore journal first new }
 {}
 
-/// If a session on a modelled bus sealed a `telling` vault, the journal in this vault saves no sector that a locked
-/// status protects. If this journal can restore the chip, a `rewrite` from it can therefore only fail with a stop.
+/// States that if a session on a modelled bus sealed a `telling` vault, the journal in this vault saves no sector that
+/// a locked status of the original chip protects. Therefore a `rewrite` on a modelled bus can only fail with error 12,
+/// if this journal can restore the original chip.
 pub fn session_can_be_rewritten()
     ensures { (request : Request) (image : List ℕ) (old new : BusState) (journal : Content)
         → LeavesJournal request image old new journal → CanBeRewritten journal old.chip }
 {}
 
-/// Suppose that two sessions ran one after the other, and that a restore from the later journal then succeeded. Then
-/// the earlier journal can restore the chip from before the first session.
+/// States that if two sessions ran one after the other, and a restore from the later journal then succeeded, the
+/// earlier journal can restore the chip from before the first session.
 ///
-/// Both journals are in sealed `telling` vaults, and all buses are modelled, but may differ. Before the restore that
-/// succeeded, others from the later journal may have been stopped, if that journal can still restore the chip from
-/// before the second session. Between two runs the chip may lose its power, if it was idle or its bus isn't steady, or
-/// be opened from files that were not completely overwritten (`IsTakenUp`).
+/// Both journals are in sealed `telling` vaults, and all buses are modelled. Other restores from the later journal may
+/// have been stopped, if that journal can still restore the chip from before the second session. Between two runs the
+/// chip may lose its power or be opened from files, as `IsTakenUp` says.
 pub fn undone_is_restorable()
     ensures { (request later : Request) (image later_image : List ℕ) (old mid mid' new new' back : BusState)
         (journal other : Content) (report : Report)
@@ -53,9 +53,10 @@ pub fn undone_is_restorable()
         → IsRestored other new' back report → CanRestore journal old.chip back }
 {}
 
-/// Suppose that two sessions ran one after the other, and that restores from their journals then succeeded in the
-/// reverse order. Then the chip is the one from before the first session. The premises are those of
-/// `undone_is_restorable`, for both journals.
+/// States that if restores from the journals of two successive sessions succeed in the reverse order, the chip has the
+/// contents and non-volatile status bits from before the first session. The premises are those of
+/// `undone_is_restorable`. Between the two restores the chip may lose its power, and restores from the earlier journal
+/// may be stopped, if that journal can still restore the chip from before the first session.
 pub fn undone_in_turn()
     ensures { (request later : Request) (image later_image : List ℕ) (old mid mid' new new' back back' end : BusState)
         (journal other : Content) (report last : Report)
@@ -67,17 +68,16 @@ pub fn undone_in_turn()
         → IsRestored journal back' end last → IsSame old.chip end.chip }
 {}
 
-/// After a session on a modelled bus, the journal that is read from the session's sealed `telling` vault can restore
-/// the original chip. So what `session` promises is what `restore` needs.
+/// States that after a session on a modelled bus, the journal that is read from the session's sealed `telling` vault
+/// can restore the original chip.
 pub fn read_restores_original()
     ensures { (request : Request) (image : List ℕ) (old new : BusState) (vault : VaultState) (journal : Content)
         → IsModelled old → IsChip old.chip → vault.telling ≡ true → CanBeUndone request image old new vault
         → IsContent journal → vault.bytes ≡ text journal → CanRestore journal old.chip new }
 {}
 
-/// If the bytes of an unsealed `telling` vault are a journal after a session on a modelled bus, for example because
-/// only the seal failed, that journal can restore the original chip. The premise is that the chip to be restored is
-/// idle, and has the original bytes and non-volatile status bits.
+/// States that if the bytes of an unsealed `telling` vault are a journal after a session on a modelled bus, that
+/// journal can restore the original chip. The chip must be idle, with its original bytes and non-volatile status bits.
 pub fn begun_restores_original()
     ensures { (request : Request) (image : List ℕ) (old new : BusState) (bytes : List ℕ) (journal : Content)
         → IsModelled old → IsChip old.chip → HoldsBegun request image old.chip bytes
@@ -85,9 +85,8 @@ pub fn begun_restores_original()
         → CanRestore journal old.chip new }
 {}
 
-/// Suppose that the chip's files held the chip from before a session on a modelled bus, and were being overwritten with
-/// the chip after the session. Wherever the overwriting was interrupted, the journal from the session's sealed
-/// `telling` vault can restore the original chip from these files.
+/// States that if files with the original chip were being overwritten with the chip after a session on a modelled bus,
+/// the journal from the session's sealed `telling` vault can restore the original chip from these files.
 pub fn session_written_over()
     ensures { (request : Request) (image : List ℕ) (old new opened : BusState) (vault : VaultState) (journal : Content)
         → IsModelled old → IsChip old.chip → vault.telling ≡ true → CanBeUndone request image old new vault
@@ -95,37 +94,34 @@ pub fn session_written_over()
         → CanRestore journal old.chip opened }
 {}
 
-/// Suppose that a journal can restore the original chip before and after a restore. Then it can do so from files that
-/// held the chip from before the restore and were being overwritten with the chip after it.
+/// States that if a journal can restore the original chip before and after a restore, the journal can also restore the
+/// original chip from files with the chip before the restore that were being overwritten with the chip after it.
 pub fn restore_written_over()
     ensures { (journal : Content) (first : Chip) (old new opened : BusState)
         → CanRestore journal first old → CanRestore journal first new → IsWrittenOver old.chip new.chip opened.chip
         → CanRestore journal first opened }
 {}
 
-/// Files that are overwritten with the same chip that they hold still hold that chip at each moment.
+/// States that files that are overwritten with the same chip that they hold still hold that chip at each moment.
 pub fn same_written_over()
     ensures { (old new opened : Chip) → IsSame old new → IsWrittenOver old new opened → IsSame old opened }
 {}
 
-/// If any journal can restore a chip, a backup of that chip can restore it too.
+/// States that if any journal can restore a chip, a backup of that chip can restore the chip too.
 pub fn backup_restores_original()
     ensures { (journal backup : Content) (first : Chip) (state : BusState)
         → SavesWholeChip backup first → CanRestore journal first state → CanRestore backup first state }
 {}
 
-/// A backup can restore the known chip that it saves, even if bytes changed in sectors that no session touched, for
-/// example because an erase went to a wrong address. The chip on the bus may differ from the saved chip in bytes at any
-/// addresses and in protection bits that a restore can write. If the bus isn't steady, an operation in progress must
-/// change only these (`IsWithin`).
+/// States that a backup can restore the known chip (`IsKnown`) that it saves, even if bytes changed in sectors that no
+/// session touched. The chip on the bus may differ as `IsWithin` allows at the addresses that a restore can write.
 pub fn backup_restores_any()
     ensures { (backup : Content) (first : Chip) (state : BusState) → IsKnown first.config
         → SavesWholeChip backup first → IsWithin (writable_addresses first) first state
         → CanRestore backup first state }
 {}
 
-/// After a backup on a modelled bus, the journal that is read from the backup's sealed `telling` vault saves the whole
-/// chip. So what `backup` promises is what the laws above need.
+/// States that the journal that is read from the bytes of a chip's backup (`IsBackupOf`) saves the whole chip.
 pub fn read_is_backup()
     ensures { (first : Chip) (bytes : List ℕ) (journal : Content) → IsBackupOf bytes first → IsContent journal
         → bytes ≡ text journal → SavesWholeChip journal first }

@@ -23,11 +23,8 @@
 //! ```
 //!
 //! The files in `specs/` define what each call promises. Read `Headline.antt` first, and then `Session.antt`,
-//! `Restore.antt`, `Rehearsal.antt` and `Backup.antt`. `IsVerdict` of nor_scan is the verdict on a request, and
-//! `IsModelled` of nor_probe says for which buses most promises are made.
-//!
-//! `laws.rt` states the laws: theorems on sessions and restores that follow one another, on chips in files, and on
-//! backups. Read `InTurn.antt` and `WrittenOver.antt` for the definitions that they need in addition.
+//! `Restore.antt`, `Rehearsal.antt` and `Backup.antt`. `IsModelled` of nor_probe says for which buses most promises
+//! are made. `laws.rt` has theorems on calls that follow one another, on chips in files, and on backups.
 #![tactic(auto)]
 
 mod announcement;

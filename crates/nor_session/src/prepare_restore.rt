@@ -30,7 +30,8 @@ pub(crate) struct PreparedRestore {
     pub transactions: u64,
 }
 
-/// Returns error 1, 2, 16, 20, 17 or 9 (checked in this order), 12 or 13.
+/// Identifies the chip, checks it against the journal, and reads the saved sectors to find those that differ. Returns
+/// error 1, 2, 16, 20, 17 or 9 (checked in this order), 12 or 13.
 #[tactic(auto, using(crate::proofs::SavedBytes::saved_room))]
 pub(crate) fn prepare_restore<B: Bus>(
     bus: &mut B,
@@ -54,7 +55,7 @@ pub(crate) fn prepare_restore<B: Bus>(
     })
 }
 
-/// Marks every saved sector for an erase, without reading it. Returns the same errors as `prepare_restore`.
+/// Identifies and checks the chip, and marks all saved sectors for an erase. Returns the errors of `prepare_restore`.
 pub(crate) fn prepare_rewrite<B: Bus>(
     bus: &mut B,
     journal: &Journal<'_>,
@@ -91,7 +92,6 @@ fn identify_saved<B: Bus>(bus: &mut B, journal: &Journal<'_>) -> Result<Identity
     Ok(identity)
 }
 
-// Identifies the chip. Returns error 16 if the ID or size differs, before status 2 and the unique ID are read.
 fn identify_type<B: Bus>(bus: &mut B, journal: &Journal<'_>) -> Result<Identity, Refusal>
     ensures leaves { OnlyReads most_identity (B.state bus.old) (B.state bus.new) }
     ensures identifies { IfOk result (ReadsIdentity None (B.state bus.old) (B.state bus.new)) }
@@ -132,8 +132,8 @@ fn judge_device(journal: &Journal<'_>, identity: &Identity) -> Result<(), Refusa
     }
 }
 
-// Returns whether the status bits that a restore can't write are those of the journal. With block protection these are
-// the bits that flashnor never changes, without it they are all non-volatile status bits.
+// Returns whether the status bits that a restore can't write are those of the journal. On a chip with block protection
+// these are the bits that flashnor never changes, on any other chip all non-volatile status bits.
 fn has_fixed(journal: &Journal<'_>, identity: &Identity) -> bool
     ensures shows { ShowsFixed journal.now identity.now result }
     ensures fixed { result ≡ true → HasFixedRead journal.now identity.now }

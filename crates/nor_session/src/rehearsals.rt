@@ -1,4 +1,4 @@
-//! The call `rehearse`, which runs a session that may be stopped on purpose, and then undoes it from its journal.
+//! Rehearsals, which run a session that may be stopped on purpose, and then undo it from its journal.
 ghost use Rattle.std.specs.Prelude.{◌≡◌, ◌≤◌, ◌+◌, ◌∷◌, true, length, drop, IfOk, IfErr, OnOk, OnErr};
 ghost use Rattle.nor_model.specs.Chip.{IsSame};
 ghost use Rattle.nor_driver.specs.OnlyReads.{IsSteadyOrIdle};
@@ -17,8 +17,8 @@ use nor_geometry::MOST_SECTORS;
 use nor_journal::{Journal, MemVault, Vault};
 use nor_model::{Bus, Meter};
 
-/// The result of a rehearsal: whether the session ended, whether its vault was sealed, and how many restores were run
-/// until one ended, including the ones that were stopped (0 if the vault wasn't sealed).
+/// The result of a rehearsal: whether the session succeeded (`ended`) or was stopped, whether its vault was sealed, and
+/// the number of restores that were run. The last restore succeeded, and all others were stopped.
 #[derive(Clone, Copy, Debug, PartialEq, Eq)]
 pub struct Rehearsal {
     pub ended: bool,
@@ -26,16 +26,15 @@ pub struct Rehearsal {
     pub restores: u32,
 }
 
-/// Runs a session and, if its vault is sealed, restores from its journal until one ends. `stops` has the allowances of
-/// the session, the first restore, and so on. The allowance of a call without an entry is enough for any session or
-/// restore. The rehearsal ends at the first error; a stop of a call that has an entry isn't an error.
+/// Runs a session and, if its vault is sealed, restores from its journal until one succeeds. `stops` has the allowances
+/// of the session, the first restore, and so on. A call without an entry has an allowance that is enough for every
+/// session and restore. The rehearsal ends at the first error; a stop of a call that has an entry isn't an error.
 ///
-/// `stops` must have at most 64 entries, and `vault` must be empty and unsealed. `image` and `request` are as for
+/// `stops` must have at most 64 entries, `vault` must be empty and unsealed, and `image` and `request` are as for
 /// `session`.
 ///
-/// Promises about modelled and well-behaved buses hold only if the bus is also punctual, because on any other bus an
-/// allowance means nothing. On such a modelled bus that is steady, or whose chip was idle at the start, the chip's
-/// contents and non-volatile status bits are at every exit as they were before the call.
+/// On a modelled, punctual bus that is steady, or whose chip was idle at the start, the chip's contents and
+/// non-volatile status bits are at every exit as they were before the call.
 ///
 /// Returns an error of the session or, if the vault was sealed, of a restore. On a well-behaved, punctual bus errors 12
 /// and 13 do not occur.

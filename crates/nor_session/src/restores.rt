@@ -20,21 +20,17 @@ use nor_journal::Journal;
 use nor_model::Bus;
 use nor_request::{Refusal, Report};
 
-/// Restores the saved sectors and the protection bits of `journal`, and verifies the sectors that it changed. A sector
-/// that already has its saved bytes is not written. After success on any bus, each saved sector was read with its saved
-/// bytes; if it was changed, that read followed all writes (`read_back`).
-///
-/// A journal of format 2 is accepted only if the unique ID that is read from the chip is the one in the journal. A
-/// journal of format 1 contains none, so a restore from it checks ID, size and status bits, but no unique ID.
+/// Restores the saved sectors and the protection bits of `journal`, and verifies the changed sectors. A sector that is
+/// read with its saved bytes is not written. After success on any bus, each saved sector was read with its saved bytes
+/// (`read_back`).
 ///
 /// On a modelled bus a restore that is stopped can be run again: if the journal could restore a chip at the start, it
 /// can restore that chip at every exit. In this case success leaves that chip, and the only possible error is 12.
 ///
 /// Before anything is modified, returns error 1 (no chip), 2 (unknown chip), 16 (another ID or size), 20 (another
-/// device), 17 (other status bits) or 9 (the status is locked, but would have to be written), checked in this order.
-/// Error 17 is for the bits that flashnor never changes and, without block protection, for all non-volatile ones. Also
-/// returns 12 (the bus stopped), 13 (the chip stayed busy; not on a well-behaved bus) or 14 (the bytes that were read
-/// back differ; not on a modelled bus). Nothing is sent after error 12, 13 or 14 occurs.
+/// unique ID; a journal of format 1 has none), 17 (other status bits, see `FitsStatus`) or 9 (the status is locked, but
+/// would have to be written), checked in this order. Also returns 12 (the bus stopped), 13 (the chip stayed busy; not
+/// on a well-behaved bus) or 14 (the bytes that were read back differ; not on a modelled bus).
 pub fn restore<B: Bus>(bus: &mut B, journal: &Journal<'_>) -> Result<Report, Refusal>
     ensures restores_original { IsModelled (B.state bus.old)
         → RestoresOriginal journal.now (B.state bus.old) (B.state bus.new) result }
@@ -47,13 +43,12 @@ pub fn restore<B: Bus>(bus: &mut B, journal: &Journal<'_>) -> Result<Report, Ref
     restore_announced(bus, journal, |_| ())
 }
 
-/// Runs a restore as `restore` does, with the same promises. Before the first modifying command `announce`, which must
-/// accept every announcement, receives the numbers of touched sectors and of erases, even if both are 0. A saved sector
-/// is touched if its bytes, as read from the chip, are not the saved ones. A restore that refuses the chip announces
-/// nothing.
+/// Runs a restore as `restore` does. Before the first modifying command `announce`, which must accept every
+/// announcement, receives the numbers of touched sectors and of erases, even if both are 0. A restore that refuses the
+/// chip announces nothing.
 ///
-/// The clause `announces` states for every bus that an announcement was made or no modifying command was sent. No
-/// clause states that the announcement comes first. A status write may follow an announcement of 0 touched sectors.
+/// The clause `announces` states that an announcement was made or no modifying command was sent. No clause states that
+/// the announcement comes first.
 pub fn restore_announced<B: Bus, F: FnOnce(Announcement) + Drop>(
     bus: &mut B,
     journal: &Journal<'_>,
@@ -78,14 +73,11 @@ pub fn restore_announced<B: Bus, F: FnOnce(Announcement) + Drop>(
 /// saved sector, even if the sector has its saved bytes already, and then verifies all of them.
 ///
 /// After an erase or a program was interrupted, a memory cell may be read correctly once and wrongly later. `restore`
-/// doesn't write a sector that is read with its saved bytes, so it can leave such a cell. `rewrite` reads no sector
-/// before its erase. After success on any bus, each saved sector was the target of an erase, and no erase was sent
-/// after the first page program (`thorough`). If a saved sector is protected, the protection is lifted first.
+/// can leave such a cell, because it doesn't write a sector that is read with its saved bytes.
 ///
 /// If a rewrite is stopped, `rewrite` can be run again, or `restore` instead. The errors are those of `restore`, in the
 /// same order. Error 9 is also returned if a locked status protects a saved sector that has its saved bytes. The
-/// journal of a session on a modelled bus saves no such sector (`session_can_be_rewritten`), but the journal of a
-/// backup may.
+/// journal of a session on a modelled bus saves no such sector (`session_can_be_rewritten`).
 pub fn rewrite<B: Bus>(bus: &mut B, journal: &Journal<'_>) -> Result<Report, Refusal>
     ensures restores_original { IsModelled (B.state bus.old)
         → RewritesOriginal journal.now (B.state bus.old) (B.state bus.new) result }
@@ -99,9 +91,9 @@ pub fn rewrite<B: Bus>(bus: &mut B, journal: &Journal<'_>) -> Result<Report, Ref
     rewrite_announced(bus, journal, |_| ())
 }
 
-/// Runs a restore as `rewrite` does, with the same promises. Before the first modifying command `announce`, which must
-/// accept every announcement, receives the numbers of saved sectors and of erases, even if both are 0. A rewrite that
-/// refuses the chip announces nothing. The clause `announces` is as for `restore_announced`.
+/// Runs a restore as `rewrite` does. Before the first modifying command `announce`, which must accept every
+/// announcement, receives the numbers of saved sectors and of erases. The clause `announces` is as for
+/// `restore_announced`.
 pub fn rewrite_announced<B: Bus, F: FnOnce(Announcement) + Drop>(
     bus: &mut B,
     journal: &Journal<'_>,
@@ -123,8 +115,6 @@ pub fn rewrite_announced<B: Bus, F: FnOnce(Announcement) + Drop>(
     change_chip(bus, journal, &prepared, announce)
 }
 
-// The clause `keeps` states the promises of the whole restore, which began before this call: it holds for every choice
-// of sectors, and for every bus state `old` from which the preparation can have started.
 fn change_chip<B: Bus, F: FnOnce(Announcement) + Drop>(
     bus: &mut B,
     journal: &Journal<'_>,

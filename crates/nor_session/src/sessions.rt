@@ -1,5 +1,4 @@
-//! The calls `session` and `session_announced`, which save each sector that they will change, and then change the chip
-//! as the request asks.
+//! The call `session`, which saves each sector that it will change, and then changes the chip.
 ghost use Rattle.std.specs.Prelude.{◌≡◌, ℕ, List, true};
 ghost use Rattle.nor_model.specs.Chip.{Chip};
 ghost use Rattle.nor_journal.specs.Vault.{IsFresh};
@@ -21,25 +20,21 @@ use nor_scan::{identify, judge_identity};
 /// Saves to `vault` each sector that the session will touch (in which a byte differs from its target), and then changes
 /// the chip as `request` asks.
 ///
-/// `vault` must be empty and unsealed. `image` is the session's only buffer besides fixed arrays. For a write or an
-/// erase it must be as long as the chip. For a write it holds the target byte at each included address; its other
-/// bytes, and all bytes for an erase, may have any value. For a protection range it is not used. After the call its
-/// contents are unspecified.
+/// `vault` must be empty and unsealed. For a write or an erase, `image` must be as long as the chip. For a write, the
+/// image holds the target byte at each included address; its other bytes may have any value. After the call the
+/// contents of `image` are unspecified.
 ///
 /// On every bus no modifying command is sent before the vault is sealed, and the journal of a sealed `telling` vault
 /// contains what the bus replied. On a modelled bus that journal can restore the original chip at every exit, even if
-/// the bus stopped inside a transaction, and success leaves the target bytes and protection bits. On a well-behaved bus
-/// that is steady, or whose chip was idle at the start, an exit before the seal leaves the contents and the
-/// non-volatile status bits as they were.
+/// the bus stopped inside a transaction, and success leaves the target bytes and protection bits.
 ///
 /// If the request asks for verification, success on any bus means that every scanned sector was read with its target
-/// bytes (`read_back`). For a touched sector, that read followed all writes; for any other one, it was part of the
-/// scan.
+/// bytes (`read_back`). For a touched sector, that read followed all writes.
 ///
 /// Returns an error from 1 to 8 before the vault is used, and one from 9 to 11 before the vault is sealed (`Refusal`
 /// has their meanings). On a modelled bus an error from 1 to 10 is the verdict on the request (`IsVerdict`). Returns 12
 /// (the bus stopped) or 13 (the chip stayed busy; not on a well-behaved bus) before or after the seal, and 14 (the
-/// bytes that were read back differ; not on a modelled bus) after it. Nothing is sent after error 12, 13 or 14 occurs.
+/// bytes that were read back differ; not on a modelled bus) after it.
 pub fn session<B: Bus, V: Vault>(
     bus: &mut B,
     vault: &mut V,
@@ -58,12 +53,9 @@ pub fn session<B: Bus, V: Vault>(
     session_announced(bus, vault, image, request, |_| ())
 }
 
-/// Runs a session as `session` does, with the same promises. After the vault is sealed, and before the first modifying
-/// command, `announce`, which must accept every announcement, receives the numbers of touched sectors and of erases,
-/// even if both are 0. A call that returns before the seal does not call `announce`.
-///
-/// The clause `announces` states for every bus that an announcement was made or no modifying command was sent. No
-/// clause states that the announcement comes first. A status write may follow an announcement of 0 touched sectors.
+/// Runs a session as `session` does. After the vault is sealed, and before the first modifying command, `announce`,
+/// which must accept every announcement, receives the numbers of touched sectors and of erases, even if both are 0. The
+/// clause `announces` is as for `restore_announced`.
 pub fn session_announced<B: Bus, V: Vault, F: FnOnce(Announcement) + Drop>(
     bus: &mut B,
     vault: &mut V,

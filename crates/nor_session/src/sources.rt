@@ -1,4 +1,4 @@
-//! The sources of the target bytes.
+//! The sources of the target bytes: the image of a session, and the journal of a restore.
 ghost use Rattle.std.specs.Prelude.{◌≡◌, ℕ, ◌<◌, ◌+◌, ◌*◌, nat_lt, length, slice_index};
 ghost use Rattle.std.proofs.lemmas.Bool.Decides.{nat_tests};
 ghost use Rattle.nor_journal.specs.Saved.{is_saved, saved_byte};

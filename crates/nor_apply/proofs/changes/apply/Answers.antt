@@ -5,7 +5,6 @@ use Rattle.nor_apply.proofs.ApplyingExits.{Lifted, Parts, Ended, lifted, not_lif
 use Rattle.nor_apply.proofs.changes.apply.Goals.{After-erase_all, In_ok-programmed, Joined-writes_code, then-changes+in_ok-status_transactions, else-changes, then-writes_code+in_ok-status_transactions-2, else-writes_code}
 use Rattle.nor_apply.proofs.changes.apply.Goals as goal
 
--- The bus's state before the erases: after the unlock, or without one.
 lifted_here : (g : _) (c : After-erase_all g) → Lifted c.args.changes.now (g.S.Source.wanted c.args.source.now)
     (g.B.Bus.state c.args.bus.now) (g.B.Bus.state c.if-changes.bus) c.if-changes.status_transactions
 lifted_here g c = elim c.if-changes.branch [
@@ -61,7 +60,6 @@ returns-in_err-status_transactions-2 g c =
       names = rw (p.1, p.2) names;
     }
 
--- The bus's state at the end: after the last status write, or without one.
 ended : (g : _) (c : Joined-writes_code g) (parts : Parts c.args.changes.now (g.S.Source.wanted c.args.source.now)
     (g.B.Bus.state c.args.bus.now) (g.B.Bus.state c.if-changes.bus) (g.B.Bus.state c.erase_all.new.bus)
     (g.B.Bus.state c.program_all.new.bus) c.if-changes.status_transactions c.in_ok-erased.erased c.in_ok-programmed.programmed)

@@ -4,6 +4,5 @@ use Rattle.nor_plan.specs.SectorSet.{has}
 use Rattle.nor_scan.specs.Saving.{IsIdentityOf, is_touched_protected}
 use Rattle.nor_scan.proofs.judging.first_protected.Given as goal
 
--- On each chip with this identification, no sector below the loop's `sector` is touched and protected.
 abbrev pub invariant-loop-sector : goal.invariant-loop-sector
 invariant-loop-sector l = (chip : Chip) → IsIdentityOf chip l.identity → (s : ℕ) → s < l.sector → is_touched_protected (has l.touched) chip s ≡ false
