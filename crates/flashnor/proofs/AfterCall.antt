@@ -36,8 +36,6 @@ pub setup_done : (done : Task) (amid : View) (after : FilesState) (programmer : 
     → DoesJob amid after programmer named done old new outcome → new.chip.config ≡ old.chip.config
 setup_done done amid after programmer named old new outcome puts does = grind arith
 
--- The result of a call to the engine still holds after the chip's files were written, because the journal's file is
--- none of them.
 module _ (programmer : Programmer) (s2 s3 : FilesState) (nature : s3.view.nature ≡ s2.view.nature)
     (last : is_lawful s2.view ≡ true → StayApart programmer.image programmer.status s2 s3) where
   kept_in_after : (kept : JournalUse) (vault vault' : VaultState)

@@ -36,7 +36,6 @@ aside_of other was (Some all) left len mid new rest may_stay is whole long aside
     let has = new.view.seen other.now in
     (has, inl (may_stay other.now), grind (arith, long all (sym seen) has (may_stay other.now)), inr aside)
 
--- If a later run may find `left`, then `left` is what it may find after the restore alone, or you moved the file aside.
 pub pick : (one other : Option (Bor Text)) (was found left : Found) (len : ℕ) (mid new : FilesState) → NameOne one other
     → AreAtRest mid → ((name : Name) → new.may_leave name (new.view.seen name)) → IsFileFound mid.view other len found
     → IfSome found (λ all. length all ≡ len) → LeavesAsLong other mid new → MayFind one was left new

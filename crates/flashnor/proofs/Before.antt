@@ -54,9 +54,6 @@ keeps_existing job old new file is own stay = grind arith
 
 module _ (old mid new : FilesState) (rest : AreAtRest old) (nature : mid.view.nature ≡ old.view.nature)
     (known : KnownStay old mid) (first : LeaveNoMore old mid) where
-  -- Suppose that a host crash after the state `new` can leave of the journal's file only what it could leave in `mid`,
-  -- or an empty file if the file was missing in `mid` (`MakesNothing`). Then the same holds for `old` in place of `mid`
-  -- (`LeavesOrEmpty`). `mid` is the state after the chip's files were locked.
   or_empty : (named : Option (Bor Text)) (file : Bor Text) → named ≡ Some file → MakesNothing named mid new
       → LeavesOrEmpty file.now old new
   or_empty named file is makes left can = grind arith

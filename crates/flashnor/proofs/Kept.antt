@@ -94,8 +94,6 @@ module _ (job : ChipJob) (held : Held) (s0 s1 s2 : FilesState) (bus bus' : BusSt
         as_long job.programmer.status held.status_there _ _ s0 s1 s3 are_held.stay are_held.status status_many
         is_amid.status
 
-    -- Each byte, and the non-volatile bits of each status byte, are those of the chip before or after the call. This is
-    -- so even if a file that was missing at first was moved aside.
     over : (image status : Found) (later : BusState) → MayFind job.programmer.image read.bytes.found image s3
         → MayFind job.programmer.status read.status.found status s3 → IsOpenedFrom image status bus.chip.config later.chip
         → IsWrittenOver bus.chip bus'.chip later.chip

@@ -13,6 +13,5 @@ cut_to bytes rest = grind (arith, length-append, take-append_seam, append-nil)
 pub length-sized : (len : ℕ) (has : List ℕ) → length (with_length len has) ≡ len
 length-sized len has = grind (arith, length-append, length-take, length-replicate)
 
--- A new file is extended to one byte more than `bytes`, and then overwritten, which keeps its length.
 pub length-filled : (bytes : List ℕ) → length (written_over bytes (with_length (length bytes + 1) [])) ≡ length bytes + 1
 length-filled bytes = grind (arith, length-append, length-drop, length-sized)

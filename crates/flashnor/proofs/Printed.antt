@@ -1,4 +1,3 @@
--- The bytes that a run has printed after several writes.
 use Rattle.std.proofs.Common.{◌≡◌, ℕ, Bool, List, Option, Some, Result, Err, IfSome, arith}
 use Rattle.std.proofs.Common.{false, true}
 use Rattle.std.specs.Fmt.{option_append}

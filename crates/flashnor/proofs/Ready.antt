@@ -41,7 +41,6 @@ pub refuses_ready : (programmer : Programmer) (named : Option ChipName) (old new
 refuses_ready programmer named old new fault ready errors =
     grind (arith, shows, shown_with programmer.chip programmer.unique old.chip.config ready.config)
 
--- `start` gives the bus its contents, then the setting for power cuts, and then its number of transactions.
 pub opens_held : (programmer : Programmer) (content : Content) (allowed : ℕ) (first last : BusState)
     → HoldsFiles programmer content first → allowed ≡ allowance_of programmer
     → Allows allowed (record first { steady = is_none programmer.power }) last → OpensChip programmer content last

@@ -1,4 +1,4 @@
--- The configuration of an emulated chip with any unique ID, and the chip type as which it is identified.
+-- The configuration of an emulated chip with any unique ID, and the chip type that is found for this configuration.
 use Rattle.std.proofs.Common.{◌≡◌, ◌∙◌, List, ℕ, Option, Ok, sym, arith}
 use Rattle.nor_model.specs.declared.config.Config.{Config}
 use Rattle.nor_probe.specs.Known.{IsKnown, shown_as}

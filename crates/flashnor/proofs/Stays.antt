@@ -1,4 +1,3 @@
--- Files that stay as they were, over several calls.
 use Rattle.std.proofs.Common.{◌≡◌, Option, Some, arith}
 use Rattle.std.specs.Borrow.{Bor}
 use Rattle.nor_files.specs.Files.{AllStay, AreAtRest, FilesState, IsKnownFile, KnownStay, Name}

@@ -155,7 +155,6 @@ module _ (programmer : Programmer) (file : Text) (start : FilesState) (first : O
           pick programmer.status other.status _ _ status 2 mid new same.status rest may_stay' found.read.status.is_found
           found.read.status.whole kept.status can_status is.two
 
-      -- The bus that a later run would open if nobody had moved aside a file that the restore found.
       abbrev state : BusState
       state = record later {
         chip = record later.chip {

@@ -14,7 +14,6 @@ use Rattle.nor_console.specs.Stored.{ArePut, AreTwo, Happens, IsNot, IsReportedO
 abbrev OthersOf : Option (Bor Text) → (old new : FilesState) → Type 0
 OthersOf name old new = is_lawful old.view ≡ true → (any : Name) → IsNot old.view.nature name any → KeepsFile any old new
 
--- The clauses that `write_if_named` ensures for a file, if one is named.
 abbrev PutsBack : Option (Bor Text) → (there : Bool) → (bytes : List ℕ) → (failed : Option (Bor Text))
     → (old new : FilesState) → Type 0
 PutsBack name there bytes failed old new = record {
@@ -41,8 +40,6 @@ pub reported_before : (name failed : Option (Bor Text)) (old mid : View) → mid
     → IsReportedOf name failed old
 reported_before name failed old mid same is = grind arith
 
--- The clauses that `last_look` ensures: `failed` is the name of a file that could not be written, and `found` the name
--- that the last look returns.
 abbrev Looks : (name failed found : Option (Bor Text)) → View → Type 0
 Looks name failed found view = record {
   fails : IsReportedOf name failed view → IsReportedOf name found view;
@@ -56,8 +53,6 @@ put_looked name bytes (Some failed) None files looks put = let never = looks.wri
 put_looked name bytes None (Some found) files looks put = looks.fails tt
 put_looked name bytes (Some failed) (Some found) files looks put = looks.fails put
 
--- If a write of a file fails at `mid`, and the last look follows at `new`, the name that it returns is reported at
--- `old`.
 pub reported_looked : (name failed found : Option (Bor Text)) (old mid new : View) → mid.nature ≡ old.nature
     → new.nature ≡ old.nature → IfSome failed (λ is. (name ≡ Some is) × Happens mid (Unwritten is.now))
     → Looks name failed found new → IsReportedOf name found old

@@ -34,29 +34,26 @@ use Rattle.nor_console.specs.Tasks.{journal_of}
 use Rattle.nor_console.specs.declared.answers.Answer.{Answer}
 use Rattle.nor_console.specs.declared.answers.Answer.TheVariants as answer
 
--- ---- sessions
-
 abbrev pub ReportsChange : Request → List ℕ → (old new : BusState) → Answer → Type 0
 ReportsChange request image old new (answer.Done report) = IsDone request image old new report
 ReportsChange request image old new _ = ⊥
 
--- Holds after a session returned the error `refusal`. After errors 1 to 11 the chip is as before; after errors 1 to 8
--- the vault is, too.
+-- Holds if a session returned this error. Errors 1 to 11 leave the chip as it was, errors 1 to 8 also the vault.
 pub record FailsSession (request : Request) (image : List ℕ) (old new : BusState)
     (vault vault' : VaultState) (refusal : Refusal) : Type 0 where
   pub refuses : SessionErrors request image old new vault vault' refusal
   pub same : refusal_number refusal ≤ 11 → IsSame old.chip new.chip
   pub unused : refusal_number refusal ≤ 8 → vault' ≡ vault
 
--- Holds for a chip that a later run opens: it is the original chip if the vault isn't sealed. If the vault is sealed
--- and faithful (`telling`), its journal can restore the original chip from this one.
+-- Holds if the chip that a later run opens is the original chip, unless the vault is sealed. If the vault is sealed and
+-- faithful (`telling`), its journal must be able to restore the original chip.
 pub record IsSafe (old opened : BusState) (vault : VaultState) : Type 0 where
   pub same : vault.sealed ≡ false → IsSame old.chip opened.chip
   pub back : vault.sealed ≡ true → vault.telling ≡ true
       → (journal : Journal) → IsContent journal → vault.bytes ≡ text journal → CanRestore journal old.chip opened
 
--- Holds for a session at every exit: if the vault isn't sealed, the chip is as before; a sealed faithful vault can undo
--- the session. `over`: this also holds if overwriting the chip's files is interrupted (`IsSafe`).
+-- Holds if a session had this outcome: the chip is as before unless the vault is sealed. A sealed faithful vault can
+-- undo the session.
 pub record HasKeptChange (request : Request) (image : List ℕ) (old new : BusState) (vault vault' : VaultState)
     (outcome : Result Answer Refusal) : Type 0 where
   pub returned : MatchResult outcome (ReportsChange request image old new)
@@ -66,22 +63,16 @@ pub record HasKeptChange (request : Request) (image : List ℕ) (old new : BusSt
   pub undo : vault'.sealed ≡ true → CanBeUndone request image old new vault'
   pub over : (opened : BusState) → IsWrittenOver old.chip new.chip opened.chip → IsSafe old opened vault'
 
--- ---- rehearsals
-
--- Holds for the result of a rehearsal. `chip` is the chip before it, and `vault` the vault after it.
+-- Holds if a rehearsal of this request has this result. `chip` is the chip before it, and `vault` the vault after it.
 pub record IsRehearsed (request : Request) (image stops : List ℕ) (chip : Chip)
     (vault : VaultState) (rehearsal : Rehearsal) : Type 0 where
   pub counts : IsRehearsal (length stops) vault rehearsal
-  -- The session ended if the first stop allowed the bound for this size, and only if it allowed what `CanEnd` says.
   pub ended : most_of (chip.config.size / 4096) ≤ first_allowance stops → rehearsal.ended ≡ true
   pub enough : rehearsal.ended ≡ true → CanEnd request image (first_allowance stops) chip
-  -- Whether the journal was sealed fits the first stop (`SealFits`). A sealed journal saves exactly the touched
-  -- sectors.
   pub fits : SealFits request (first_allowance stops) chip rehearsal.sealed
   pub accepted : rehearsal.sealed ≡ true → IsAccepted request image chip
   pub saves : rehearsal.sealed ≡ true
       → JournalSaves (header_of chip) chip.bytes (is_touched chip.bytes (wanted request image chip)) vault.bytes
-  -- After a seal, the number of restores fits the stops after the first (`AreRestores`).
   pub restores : rehearsal.sealed ≡ true
       → AreRestores (sector_count (is_touched chip.bytes (wanted request image chip))) (drop 1 stops) rehearsal.restores
 
@@ -96,7 +87,7 @@ pub record HasRehearsed (request : Request) (image stops : List ℕ) (old new : 
   pub returned : MatchResult outcome (ReportsRehearsal request image stops old.chip vault')
       (RehearsalErrors request image old.chip vault vault')
 
--- Holds if the journal's file has the bytes of `vault'`, or if the vault of a rehearsal, in memory, is faithful.
+-- Holds if the journal's file keeps `vault'` (`IsKeptFile`) or, for a rehearsal, if the vault in memory is faithful.
 abbrev pub IsKeptIn : JournalUse → (vault vault' : VaultState) → FilesState → Type 0
 IsKeptIn (uses.Journal file) vault vault' files =
     is_lawful files.view ≡ true → IsKeptFile file.now vault' files
@@ -109,7 +100,7 @@ HasDone request image (uses.Journal file) old new vault vault' outcome =
 HasDone request image (uses.Rehearse stops) old new vault vault' outcome =
     HasRehearsed request image stops.items old new vault vault' outcome
 
--- Holds for a change with its journal in a file that was missing, or for a rehearsal with its journal in memory.
+-- Holds if a change was made with its journal in a file that was missing, or rehearsed with its journal in memory.
 pub record HasMadeChange (request : Request) (image : List ℕ) (kept : JournalUse) (old new : BusState)
     (before : View) (after : FilesState) (outcome : Result Answer Refusal) : Type 0 where
   pub missing : IsMissing (journal_of kept) before
@@ -119,8 +110,6 @@ pub record HasMadeChange (request : Request) (image : List ℕ) (kept : JournalU
   pub kept_in : IsKeptIn kept vault vault' after
   pub done : HasDone request image kept old new vault vault' outcome
 
--- ---- restores
-
 abbrev pub ReportsRestore : Journal → (old new : BusState) → Answer → Type 0
 ReportsRestore journal old new (answer.Done report) = IsRestored journal old new report
 ReportsRestore journal old new _ = ⊥
@@ -129,7 +118,7 @@ abbrev pub ProbeRefuses : Option ChipName → (old new : BusState) → Refusal �
 ProbeRefuses named old new refusal =
     (fault : ProbeFault) × (refusal ≡ of_probe fault) × ProbeErrors named old new fault
 
--- Holds after a restore returned an error. After an error that is checked first, the chip is as before.
+-- Holds if a restore returned this error. After an error of the first checks (`IsCheckedFirst`), the chip is as before.
 pub record RestoreRefuses (journal : Journal) (old new : BusState) (refusal : Refusal) : Type 0 where
   pub refuses : RestoreErrors journal old new refusal
   pub same : IsCheckedFirst refusal → IsSame old.chip new.chip
@@ -144,8 +133,8 @@ pub record Passes (named : Option ChipName) (old new : BusState) : Type 0 where
   pub steady_or_idle : IsSteadyOrIdle new
   pub name : HasGivenName named old.chip
 
--- Holds for the result of a restore, after a check of the name. Even if writing to the chip's files is interrupted, the
--- journal can still restore each original chip that it could restore. After success, the chip is this original chip.
+-- Holds if a restore, after a check of the name, had this outcome. Even if writing to the chip's files is interrupted,
+-- the journal can still restore each original chip that it could restore.
 pub record HasRestoredEmulated (journal : Journal) (named : Option ChipName) (old new : BusState)
     (outcome : Result Answer Refusal) : Type 0 where
   -- the bus after the identification that checks the name or, if no name is given, the bus before the restore

@@ -22,7 +22,7 @@ use Rattle.flashnor.specs.declared.chips.Content.{Content}
 use Rattle.nor_console.specs.declared.messages.Fault.{Fault}
 use Rattle.nor_console.specs.declared.messages.Fault.TheVariants as end
 
--- Holds for an emulated chip with the given unique ID, or with eight zero bytes.
+-- Holds if the configuration is that of this emulated chip with the given unique ID, or with eight zero bytes.
 abbrev pub IsConfigWith : Emulated → Option (List ℕ) → Config → Type 0
 IsConfigWith chip None config = IsConfigOfEmulated chip config
 IsConfigWith chip (Some unique) config =
@@ -31,8 +31,8 @@ IsConfigWith chip (Some unique) config =
 abbrev pub allowance_of : Programmer → ℕ
 allowance_of programmer = unwrap_or programmer.stop 18446744073709551615
 
--- Holds for a well-behaved, punctual bus to the idle emulated chip, over which no modifying command was sent. It is
--- steady (a stop doesn't cut the chip's power) if and only if `power=` is missing.
+-- Holds if the bus is well-behaved and punctual, its emulated chip is idle, and no modifying command was sent over it.
+-- The bus is steady if and only if `power=` is missing.
 pub record IsReady (programmer : Programmer) (bus : BusState) : Type 0 where
   pub config : IsConfigWith programmer.chip programmer.unique bus.chip.config
   pub idle : bus.chip.busy ≡ 0
@@ -57,7 +57,7 @@ pub record OpensChip (programmer : Programmer) (content : Content) (bus : BusSta
   pub ready : IsReady programmer bus
   pub holds : HasContent content bus.chip
 
--- Holds for a bus as in `IsReady` to a chip with these contents; its allowance and the effect of a stop are left open.
+-- Holds if the bus is as in `IsReady`, with any allowance and any effect of a stop, and its chip has this content.
 pub record HoldsFiles (programmer : Programmer) (content : Content) (bus : BusState) : Type 0 where
   pub config : IsConfigWith programmer.chip programmer.unique bus.chip.config
   pub idle : bus.chip.busy ≡ 0
@@ -68,7 +68,7 @@ pub record HoldsFiles (programmer : Programmer) (content : Content) (bus : BusSt
   pub kept : bus.chip.kept ≡ kept_in content.status
   pub latch : bus.chip.latch ≡ (slice_index content.status 0 / 2 % 2 == 1)
 
--- Holds for a simulated bus to a chip with these contents, with the polls of `busy=` and the bytes of `power=`.
+-- Holds if the simulated bus leads to a chip with this content, with the polls of `busy=` and the byte of `power=`.
 pub record StartsBus (programmer : Programmer) (content : Content) (bus : SimBus) : Type 0 where
   pub opens : OpensChip programmer content (sim_state bus)
   pub pace : pace_of bus ≡ unwrap_or programmer.busy 0
@@ -84,8 +84,8 @@ FailsToHold view programmer fault = (fault ≡ end.Refused Memory)
     ⊎ (IsSomeAnd programmer.image (λ name. IsLockingFault view name.now (emulated_part programmer.chip).size fault)
     ⊎ IsSomeAnd programmer.status (λ name. IsLockingFault view name.now 2 fault))
 
--- Holds after the chip was written back. `image` and `status` name the files that could not be written. If the files
--- obey their contract, the others durably have the chip's bytes and status bytes.
+-- Holds if the chip was written back, except to the files `image` and `status`, which could not be written. The others
+-- durably have the chip's bytes and status bytes, if the files obey their contract.
 pub record AreWrittenBack (programmer : Programmer) (chip : Chip) (image status : Option (Bor Text))
     (files : FilesState) : Type 0 where
   pub bytes : List ℕ

@@ -25,14 +25,14 @@ use Rattle.flashnor.specs.declared.printing.Ending.{Ending}
 use Rattle.flashnor.specs.declared.streams.Reports.{Reports}
 use Rattle.flashnor.specs.declared.streams.Reports.TheVariants as at
 
--- every file was written, and neither trace nor journal was lost
+-- the value for a run in which every file was written, and neither the trace nor the journal was lost
 abbrev pub all_written : Unwritten
 all_written = record { image = None; status = None; trace = None; journal = None }
 
 abbrev pub lines_after : (is_printed : Bool) → Unwritten → List ℕ
 lines_after is_printed unwritten = line_if_lost is_printed ++ lines_of_unwritten unwritten
 
--- The lines that report the faults of a run, or `None` if the fault's lines aren't known.
+-- the lines that report the faults of a run, or `None` if the lines of its fault aren't known
 abbrev pub lines_printed : Wording → Detail → Result Answer Fault → (is_printed : Bool) → Unwritten → Option (List ℕ)
 lines_printed wording detail (Ok found) is_printed unwritten = Some (lines_after is_printed unwritten)
 lines_printed wording detail (Err fault) is_printed unwritten =
@@ -43,8 +43,7 @@ abbrev pub stream_for : Result Answer Fault → (to : Reports) → Reports
 stream_for (Ok found) to = at.Errors
 stream_for (Err fault) to = to
 
--- Holds for the end of a run with an answer or help. If it was printed and every file was written, the status is 0, and
--- standard error is as it was.
+-- Holds if this is the end of a run with an answer or help. Standard error had the contents `err`, and now has `err'`.
 pub record EndsWell (is_printed : Bool) (unwritten : Unwritten) (err err' : Option (List ℕ))
     (ending : Ending) : Type 0 where
   pub few : ending.status ≤ 1
@@ -53,8 +52,7 @@ pub record EndsWell (is_printed : Bool) (unwritten : Unwritten) (err err' : Opti
   pub reported : ending.reported ≡ true → Appends err err' (lines_after is_printed unwritten)
   pub silent : is_printed ≡ true → unwritten ≡ all_written → err' ≡ err
 
--- Holds for the end of a run with a fault: the status is 1. `err` and `err'` are the contents of the fault's stream
--- before and after. Nothing is claimed if the fault's lines aren't known.
+-- Holds if this is the end of a run with this fault. The fault's stream had the contents `err`, and now has `err'`.
 pub record EndsBadly (wording : Wording) (detail : Detail) (fault : Fault) (unwritten : Unwritten)
     (err err' : Option (List ℕ)) (ending : Ending) : Type 0 where
   pub status : ending.status ≡ 1
@@ -62,18 +60,14 @@ pub record EndsBadly (wording : Wording) (detail : Detail) (fault : Fault) (unwr
   pub reported : ending.reported ≡ true → IfSome (lines_printed wording detail (Err fault) false unwritten)
       (Appends err err')
 
--- Holds for what a run prints, and for its exit status. A fault is printed in this wording, where `to` says.
+-- Holds if this is the end of a run with this outcome. A fault is printed in this wording to the stream `to`.
 pub record HasPrinted (wording : Wording) (detail : Detail) (outcome : Result Answer Fault) (unwritten : Unwritten)
     (to : Reports) (out out' err err' : Option (List ℕ)) (ending : Ending) : Type 0 where
-  -- the status is 0 if and only if the answer or the help was printed and every file was written
   pub few : ending.status ≤ 1
   pub exact : (ending.status ≡ 0) ↔ ((ending.printed ≡ true) × (unwritten ≡ all_written))
-  -- What was printed was appended to its stream. The text of help, and some faults' lines (`line_of`), aren't known.
   pub printed : ending.printed ≡ true → PrintsAnswer outcome out out'
   pub reported : ending.reported ≡ true → IfSome (lines_printed wording detail outcome ending.printed unwritten)
       (AppendsTo (stream_for outcome to) out out' err err')
-  -- A run with a fault prints only to the stream of `to`. If all was printed and written, standard error stays as it
-  -- was.
   pub no_output : (IsAnswered outcome → ⊥) → (to ≡ at.Output → ⊥) → out' ≡ out
   pub no_errors : (IsAnswered outcome → ⊥) → (to ≡ at.Errors → ⊥) → err' ≡ err
   pub silent : IsAnswered outcome → ending.printed ≡ true → unwritten ≡ all_written → err' ≡ err
@@ -87,7 +81,7 @@ pub record IsUnread (error : Error) (wording : Wording) (out out' err err' : Opt
   pub of_words : IsOfArguments error fault
   pub prints : HasPrinted wording Unsaid (Err fault) all_written at.Errors out out' err err' ending
 
--- Holds for the end of a run that could not open a directory in place of closed standard streams: file fault 1.
+-- Holds if a run ends with file fault 1, because no directory could be opened in place of closed standard streams.
 pub record IsWithoutStreams (wording : Wording) (out out' err err' : Option (List ℕ)) (ending : Ending) : Type 0 where
   pub name : Bor Text
   pub prints : HasPrinted wording Unsaid (Err (end.File file.Read name because.Unknown)) all_written at.Errors

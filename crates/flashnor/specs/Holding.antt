@@ -11,12 +11,12 @@ use Rattle.nor_args.specs.Text.{Text}
 use Rattle.flashnor.specs.Found.{emulated_part}
 use Rattle.flashnor.specs.declared.holding.Held.{Held}
 
--- Holds if no file is named, or if the named file durably has these contents (`None`: is durably missing).
+-- Holds if no file is named, or if the named file durably has these contents (`None` if it is missing).
 abbrev pub MakesDurable : Option (Bor Text) → Found → FilesState → Type 0
 MakesDurable None content files = ⊤
 MakesDurable (Some name) content files = IsDurable name.now content files
 
--- Holds after a file of the chip was locked and read: no file changed, and what was found is durable.
+-- Holds if a file of the chip was locked and read: no file changed, and what was found is durable.
 pub record IsHeld (name : Option (Bor Text)) (found : Found) (old new : FilesState) : Type 0 where
   pub stay : AllStay old new
   pub durable : MakesDurable name found new
@@ -35,8 +35,8 @@ pub record FillsMissing (programmer : Programmer) (held : Held) : Type 0 where
       → held.content.bytes.items ≡ replicate (emulated_part programmer.chip).size 255
   pub status : held.status_there ≡ false → held.content.status ≡ 0 ∷ 0 ∷ []
 
--- Holds if a host crash may leave `left` of a file while `bytes` are written. A file that existed is a mix of old and
--- new bytes; a new file is missing, has another length than `bytes`, or has exactly `bytes`.
+-- Holds if a host crash may leave `left` while `bytes` are written to a file: a mix of `had` and `bytes`, or for a new
+-- file no file, `bytes`, or contents of another length.
 abbrev pub IsAmid : (there : Bool) → (had bytes : List ℕ) → Found → Type 0
 IsAmid true had bytes left = (has : List ℕ) × (left ≡ Some has) × IsMixed had bytes has
 IsAmid false had bytes left = (left ≡ None)
@@ -49,8 +49,7 @@ abbrev pub LeavesAmid : Option (Bor Text) → (there : Bool) → (had bytes : Li
 LeavesAmid None there had bytes files = ⊤
 LeavesAmid (Some name) there had bytes files = LeavesFileAmid name.now there had bytes files
 
--- Holds if the named file is ready to be written with `bytes`: it is known, and durably has the bytes `had`, as many as
--- `bytes`. If it is durably missing, a run opens `had` in its place.
+-- Holds if a known file durably has the bytes `had` or is durably missing, and `had` is as long as `bytes`.
 pub record IsReadyFile (name : Text) (there : Bool) (had bytes : List ℕ) (files : FilesState) : Type 0 where
   pub known : IsKnownFile name files.view
   pub durable : IsDurable name (was there had) files

@@ -15,14 +15,12 @@ use Rattle.flashnor.specs.Chips.{IsContentOf, OpensChip}
 use Rattle.nor_console.specs.Stored.{IsNot, IsRead, LeavesNoMoreOf}
 use Rattle.flashnor.specs.declared.chips.Content.{Content}
 
--- Holds if a later run may find the contents `found` under this name: a host crash may leave them, or the file was
--- missing at first and is missing again, for example because you moved it aside.
+-- Holds if a later run may find `found` under this name: a host crash may leave it, or the file is missing as at first.
 abbrev pub MayFind : Option (Bor Text) → (was found : Found) → FilesState → Type 0
 MayFind None was found files = found ≡ None
 MayFind (Some name) was found files = files.may_leave name.now found ⊎ ((was ≡ None) × (found ≡ None))
 
--- Holds if `chip` is the idle chip that is opened from its files `image` and `status`. A missing image has bytes FFh,
--- and a missing status file zeros.
+-- Holds if `chip` is the idle chip of these files. A missing image has bytes FFh, and a missing status file zeros.
 pub record IsOpenedFrom (image status : Found) (setup : Config) (chip : Chip) : Type 0 where
   pub config : chip.config ≡ setup
   pub whole : IfSome image (λ bytes. length bytes ≡ setup.size)
@@ -49,8 +47,8 @@ LeavesOnly {programmer} first Is files = (image status : Found) (opened : BusSta
     → MayFind programmer.status first.read.status.found status files
     → IsOpenedFrom image status first.bus.chip.config opened.chip → Is opened
 
--- Holds if a host crash can leave only one valid journal under the name `file`, and this journal can restore the
--- original chip (the chip of `first`) from every chip that a later run may open (`LeavesOnly`).
+-- Holds if a host crash can leave only one valid journal in `file`, and this journal can restore the original chip (the
+-- chip of `first`) from every chip that a later run may open (`LeavesOnly`).
 pub record IsRestorableFrom {programmer : Programmer} {old : FilesState} (file : Text) (first : Opened programmer old)
     (files : FilesState) : Type 0 where
   pub journal : Journal
@@ -63,16 +61,14 @@ pub record IsNoFileOf (nature : Nature) (programmer : Programmer) (name : Text) 
   pub status : IsNot nature programmer.status name
   pub trace : IsNot nature programmer.trace name
 
--- Holds if no file is named, if the named file was missing, or if a host crash can leave it only with the length that
--- it had.
+-- Holds if no file is named, if it was missing, or if a host crash can leave it only with the length that it had.
 abbrev pub LeavesAsLong : Option (Bor Text) → (old new : FilesState) → Type 0
 LeavesAsLong None old new = ⊤
 LeavesAsLong (Some name) old new = (had : List ℕ) → old.view.seen name.now ≡ Some had → (left : Found)
     → new.may_leave name.now left → IsSomeAnd left (λ has. length has ≡ length had)
 
--- Holds if a change with its journal in this file, which was missing, does not lose the original chip. Either each chip
--- that a later run may open is the original chip (`same`), or the one journal that a host crash can leave restores it
--- (`back`).
+-- Holds if a change with its journal in `file`, which was missing, doesn't lose the original chip: each chip that a
+-- later run may open is the original chip (`same`), or the one journal that a crash can leave can restore it (`back`).
 pub record LeavesOriginalRestorable (programmer : Programmer) (file : Text) (old new : FilesState) : Type 0 where
   pub missing : old.view.seen file ≡ None
   pub others : (name : Text) → IsNoFileOf old.view.nature programmer name → AreApart old.view.nature file name
@@ -84,8 +80,7 @@ pub record LeavesOriginalRestorable (programmer : Programmer) (file : Text) (old
   pub same : sealed ≡ false → LeavesOnly first (λ opened. IsSame first.bus.chip opened.chip) new
   pub back : sealed ≡ true → IsRestorableFrom file first new
 
--- Holds if a host crash can leave only what it could leave before, except for the trace, and for a missing journal's
--- file, which may be left empty. This holds for the chip's files even if the trace has the name of one.
+-- Holds if a host crash can leave only what it could before, except for the trace and an empty file of the journal.
 pub record LeavesAll (programmer : Programmer) (file : Text) (old new : FilesState) : Type 0 where
   pub image : LeavesNoMoreOf programmer.image old new
   pub status : LeavesNoMoreOf programmer.status old new
@@ -93,22 +88,19 @@ pub record LeavesAll (programmer : Programmer) (file : Text) (old new : FilesSta
       → LeavesNoMore name old new
   pub empty : LeavesOrEmpty file old new
 
--- Holds after a change with its journal in this file: a host crash can leave nothing new, or the original chip isn't
--- lost.
+-- Holds if a host crash can leave nothing new, or if the original chip isn't lost (`LeavesOriginalRestorable`).
 abbrev pub KeepsOriginalFiles : Programmer → (file : Text) → (old new : FilesState) → Type 0
 KeepsOriginalFiles programmer file old new =
     LeavesAll programmer file old new ⊎ LeavesOriginalRestorable programmer file old new
 
--- Holds if a host crash can leave only what it could leave before, except for the trace. This holds for the chip's
--- files and the journal even if the trace has the name of one.
+-- Holds if a host crash can leave only what it could before, except for the trace.
 pub record LeavesSources (programmer : Programmer) (file : Text) (old new : FilesState) : Type 0 where
   pub image : LeavesNoMoreOf programmer.image old new
   pub status : LeavesNoMoreOf programmer.status old new
   pub journal : LeavesNoMore file old new
   pub others : (name : Text) → IsNot old.view.nature programmer.trace name → LeavesNoMore name old new
 
--- Holds if a restore from the journal in this file keeps every original chip restorable: the journal can still restore
--- it from every chip that a later run may open.
+-- Holds if the journal in `file` can still restore each original chip, from every chip that a later run may open.
 pub record LeavesRestorable (programmer : Programmer) (file : Text) (old new : FilesState) : Type 0 where
   pub others : (name : Text) → IsNoFileOf old.view.nature programmer name → KeepsFile name old new
   pub image : LeavesAsLong programmer.image old new
@@ -120,8 +112,7 @@ pub record LeavesRestorable (programmer : Programmer) (file : Text) (old new : F
   pub stays : KeepsFile file old new
   pub back : (first : Chip) → CanRestore journal first found.bus → LeavesOnly found (CanRestore journal first) new
 
--- Holds after a restore from the journal in this file: a host crash can leave nothing new, or the journal can still
--- restore every original chip that it could restore before.
+-- Holds if a host crash can leave nothing new, or if the journal can still restore (`LeavesRestorable`).
 abbrev pub KeepsRestorable : Programmer → (file : Text) → (old new : FilesState) → Type 0
 KeepsRestorable programmer file old new =
     LeavesSources programmer file old new ⊎ LeavesRestorable programmer file old new

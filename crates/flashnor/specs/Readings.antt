@@ -12,7 +12,7 @@ use Rattle.flashnor.specs.Found.{HasName, IsEmulatedFound, emulated_part}
 use Rattle.nor_console.specs.declared.answers.Answer.{Answer}
 use Rattle.nor_console.specs.declared.answers.Answer.TheVariants as answer
 
--- Holds for each possible error of an identification on a ready bus (`IsReady`).
+-- Holds if an identification on a ready bus (`IsReady`) may return this error.
 abbrev pub FindRefuses : Programmer → Option ChipName → Refusal → Type 0
 FindRefuses programmer named OtherName = HasName named programmer.chip → ⊥
 FindRefuses programmer named Stopped = allowance_of programmer < most_probe

@@ -15,8 +15,7 @@ use Rattle.nor_console.specs.declared.messages.FileFault.TheVariants as file
 use Rattle.nor_console.specs.declared.roles.Role.{Role}
 use Rattle.nor_console.specs.declared.roles.Role.TheVariants as role
 
--- Holds if roles that need different files have names that are apart. Some pairs are left out, since no task names an
--- output together with a journal or an image.
+-- Holds if roles that need different files have names that are apart.
 pub record FilesHaveOneRole (nature : Nature) (job : ChipJob) : Type 0 where
   pub status : writes_back job.task ≡ true → AreTwo nature job.programmer.image job.programmer.status
   pub image_layout : writes_back job.task ≡ true → AreTwo nature job.programmer.image (named_by job.task).layout
@@ -43,8 +42,6 @@ pub record HasOwnTrace (nature : Nature) (job : ChipJob) : Type 0 where
   pub wanted : AreTwo nature job.programmer.trace (named_by job.task).wanted
   pub journal : AreTwo nature job.programmer.trace (named_by job.task).journal
 
--- ---- the fault of a file with two roles
-
 abbrev pub file_with_role : ChipJob → Role → Option (Bor Text)
 file_with_role job role.Image = job.programmer.image
 file_with_role job role.Status = job.programmer.status
@@ -54,7 +51,7 @@ file_with_role job role.Wanted = (named_by job.task).wanted
 file_with_role job role.Output = (named_by job.task).output
 file_with_role job role.Journal = (named_by job.task).journal
 
--- the position of a role; if two roles have one file, the fault names the file of the later role
+-- the position of a role; if two roles have one file, the fault names the later role's file
 abbrev pub order_of : Role → ℕ
 order_of role.Image = 0
 order_of role.Status = 1
@@ -64,7 +61,7 @@ order_of role.Wanted = 4
 order_of role.Output = 5
 order_of role.Journal = 6
 
--- True if the job may write the file in that role. Even a restore's journal counts as written.
+-- True if the job may write the file in this role, or if the role is the journal.
 abbrev pub is_written : ChipJob → Role → Bool
 is_written job role.Image = writes_back job.task
 is_written job role.Status = writes_back job.task
@@ -72,14 +69,13 @@ is_written job role.Layout = false
 is_written job role.Wanted = false
 is_written job _ = true
 
--- True if the two roles need different files: one of them is written, except that a chip's image may be the image to
--- write.
+-- True if `earlier` precedes `later`, and they need different files. (`Image` and `Wanted` may be the same file.)
 abbrev pub must_differ : ChipJob → (earlier later : Role) → Bool
 must_differ job role.Image role.Wanted = false
 must_differ job earlier later =
     nat_lt (order_of earlier) (order_of later) && (is_written job earlier || is_written job later)
 
--- Holds for file fault 5 with the name of the later of two roles whose names may refer to one file.
+-- Holds if this is file fault 5 with the name of the later of two roles that need different files, but may have one.
 abbrev pub IsTwice : Nature → ChipJob → Fault → Type 0
 IsTwice nature job fault = (earlier later : Role) × (must_differ job earlier later ≡ true)
     × IsShared nature (file_with_role job earlier) (file_with_role job later) fault
@@ -95,7 +91,6 @@ IsStream nature job _ = ⊥
 abbrev pub changes_files : ChipJob → Bool
 changes_files job = writes_back job.task || (is_some job.programmer.trace || is_some (named_by job.task).output)
 
--- Holds for file fault 1 of a standard stream whose name can't be looked up, if the job may change or create a file.
 abbrev pub IsWithoutStream : Nature → ChipJob → Fault → Type 0
 IsWithoutStream nature job fault = (changes_files job ≡ true) × IsUnseenStream nature fault
 

@@ -59,9 +59,7 @@ use Rattle.flashnor.specs.declared.printing.Ending.{Ending}
 use Rattle.flashnor.specs.declared.streams.Reports.{Reports}
 use Rattle.flashnor.specs.declared.streams.Reports.TheVariants as at
 
--- ---- calls to the engine
-
--- Holds for the result of a change or rehearsal of these addresses, with the bytes that it asks for.
+-- Holds if `change` had this outcome, as a session or a rehearsal, at the addresses of its regions.
 pub record ChangesChip (view : View) (after : FilesState) (chip : Emulated) (named : Option ChipName)
     (change : Change) (old new : BusState) (outcome : Result Answer Refusal) : Type 0 where
   pub ranges : Option (List Span)
@@ -76,8 +74,6 @@ pub record DoesRead (view after : View) (named : Option ChipName) (file : Text) 
   pub included : AreRangesOf view None regions ranges
   pub read : HasReadOut named file ranges old new after outcome
 
--- Holds for the result of comparing the chip with the image. At most one byte more than the largest chip has is read
--- from the image's file.
 pub record DoesVerify (view : View) (named : Option ChipName) (file : Text) (regions : Option Regions)
     (old new : BusState) (outcome : Result Answer Refusal) : Type 0 where
   pub ranges : Option (List Span)
@@ -86,8 +82,6 @@ pub record DoesVerify (view : View) (named : Option ChipName) (file : Text) (reg
   pub read : IsRead view file 16777217 image
   pub verified : HasVerified named ranges image old new outcome
 
--- Holds for the result of a restore from the valid journal in the file. At most one byte more than the longest journal
--- has is read from the file.
 pub record DoesRestore (view : View) (named : Option ChipName) (file : Text) (old new : BusState)
     (outcome : Result Answer Refusal) : Type 0 where
   pub journal : Journal
@@ -119,8 +113,7 @@ AreReported true programmer unwritten view =
     IsReportedOf programmer.image unwritten.image view × IsReportedOf programmer.status unwritten.status view
 AreReported false programmer unwritten view = (unwritten.image ≡ None) × (unwritten.status ≡ None)
 
--- Holds if each known file without a borrowed vault or log is the same in `amid` (the files after the trace was
--- created) as in `old`, except the trace.
+-- Holds if each known file except the trace is the same in `amid`, after the trace was created, as in `old`.
 pub record IsViewBut (trace : Option (Bor Text)) (old amid : View) : Type 0 where
   pub nature : amid.nature ≡ old.nature
   pub stays : (name : Name) → IsNot old.nature trace name → IsKnownFile name old
@@ -135,8 +128,8 @@ abbrev pub DoesStarted : (files after : FilesState) → ChipJob → Content → 
 DoesStarted files after job content new outcome = (bus : SimBus) × StartsBus job.programmer content bus
     × DoesTraced files after job (sim_state bus) new outcome
 
--- Holds if the call was made on the chip that the programmer's files hold. `left`: if the chip is written back, each of
--- its files was written or is named in `unwritten`. `traced`, `kept`: only the run's own trace and journal may be lost.
+-- Holds if the call was made on the chip in the programmer's files. `left`: if the chip is written back, `unwritten`
+-- names each of its files that wasn't written. `traced`, `kept`: only the run's own trace and journal may be lost.
 pub record IsCalled (files after : FilesState) (job : ChipJob) (unwritten : Unwritten)
     (outcome : Result Answer Refusal) : Type 0 where
   pub roles : FilesHaveOneRole files.view.nature job
@@ -152,8 +145,6 @@ pub record IsCalled (files after : FilesState) (job : ChipJob) (unwritten : Unwr
       → AreWrittenBack job.programmer new.chip unwritten.image unwritten.status after
   pub traced : OnSome unwritten.trace (unwritten.trace ≡ job.programmer.trace)
   pub kept : IsReportedOf (journal_by job.task) unwritten.journal files.view
-
--- ---- faults that occur before the call
 
 abbrev pub FailsToReadImage : View → Wanted → Fault → Type 0
 FailsToReadImage view (wanted.Write image) fault = IsReadingFault view image.now 16777217 fault
@@ -192,8 +183,6 @@ FailsJob view on_chip fault = FailsFileRoles view.nature on_chip fault
     ⊎ (FailsToStart (writes_back on_chip.task) view on_chip.programmer fault
     ⊎ FailsTraced view on_chip fault)
 
--- ---- the files at every exit of a run
-
 -- Holds if all files are as they were, except the trace and the file that the task creates or truncates (`made`).
 pub record StayBut (programmer : Programmer) (made : Option (Bor Text)) (old new : FilesState) : Type 0 where
   pub image : StaysOf programmer.image old new
@@ -201,26 +190,23 @@ pub record StayBut (programmer : Programmer) (made : Option (Bor Text)) (old new
   pub others : (name : Name) → IsNot old.view.nature programmer.trace name → IsNot old.view.nature made name
       → KeepsFile name old new
 
--- The promise of a change: the original chip isn't lost. A rehearsal changes no file except the trace.
+-- Holds if a change doesn't lose the original chip, or if a rehearsal changes no file except the trace.
 abbrev pub KeepsChange : Programmer → JournalUse → (old new : FilesState) → Type 0
 KeepsChange programmer (uses.Journal file) old new = KeepsOriginalFiles programmer file.now old new
 KeepsChange programmer (uses.Rehearse stops) old new = StayBut programmer None old new
 
--- The promise of each task about the files, at every exit, if the files were at rest at the start.
+-- Holds if the files are as the task promises at every exit of a run that started with files at rest (`AreAtRest`).
 abbrev pub KeepsFiles : Programmer → Task → (old new : FilesState) → Type 0
 KeepsFiles programmer (task.Change change) old new = KeepsChange programmer change.journal_use old new
 KeepsFiles programmer (task.Restore journal) old new = KeepsRestorable programmer journal.now old new
 KeepsFiles programmer done old new = StayBut programmer (made_by done) old new
 
--- ---- the files after a run that ends with an answer
-
--- Holds after a change ended with this answer, and all files were written: the chip's files durably hold the target
--- chip, and the journal's file one journal, which can restore the original chip.
+-- Holds if a change ended with this answer and all files were written: the chip's files durably hold the target chip,
+-- and the journal's file durably holds one journal, which can restore the original chip.
 pub record HoldsTarget (programmer : Programmer) (named : Option ChipName) (change : Change) (file : Text)
     (found : Answer) (old new : FilesState) : Type 0 where
   pub first : Opened programmer old
   pub last : BusState
-  -- `last.chip` is the target chip, `ranges` its included addresses, and `image` the session's buffer
   pub ranges : Option (List Span)
   pub included : AreRangesOf old.view None change.regions ranges
   pub image : List ℕ
@@ -230,16 +216,14 @@ pub record HoldsTarget (programmer : Programmer) (named : Option ChipName) (chan
   pub restorable : IsRestorableFrom file first new
   pub durable : IsDurable file (Some (text restorable.journal)) new
 
--- Holds after a restore ended with this answer, and all files were written: the chip's files durably hold the restored
--- chip.
+-- Holds if a restore ended with this answer and all files were written: the chip's files durably hold its result.
 pub record HoldsRestored (programmer : Programmer) (file : Text) (found : Answer) (old new : FilesState) : Type 0 where
   pub opened : Opened programmer old
   pub last : BusState
   pub journal : Journal
   pub sound : IsContent journal
   pub read : IsRead old.view file 16793662 (text journal)
-  -- `probed` is the bus after the identification, if a name is given, and its chip is the opened one. If the journal
-  -- could restore an original chip from the opened chip, `last.chip` is this original chip.
+  -- the bus after the identification that checks the name or, if no name is given, the bus before the restore
   pub probed : BusState
   pub same : IsSame opened.bus.chip probed.chip
   pub target : ReportsRestore journal probed last found
@@ -260,13 +244,11 @@ HoldsTask programmer named (task.Restore journal) found old new =
     HoldsRestored programmer journal.now found old new
 HoldsTask programmer named done found old new = ⊤
 
--- Holds if the files hold the result of the task, unless there was a fault or a file could not be written.
+-- Holds if the files hold the result of the task, or if there was a fault or a file could not be written.
 abbrev pub HoldsResult : ChipJob → Unwritten → Result Answer Fault → (old new : FilesState) → Type 0
 HoldsResult job unwritten (Ok found) old new = unwritten ≡ all_written
     → HoldsTask job.programmer job.named job.task found old new
 HoldsResult job unwritten (Err fault) old new = ⊤
-
--- ---- how jobs and runs end
 
 abbrev pub EndsChipJob : (files after : FilesState) → ChipJob → Unwritten → Result Answer Fault → Type 0
 EndsChipJob files after on_chip unwritten (Ok found) = IsCalled files after on_chip unwritten (Ok found)
@@ -274,7 +256,7 @@ EndsChipJob files after on_chip unwritten (Err (end.Refused refusal)) =
     IsCalled files after on_chip unwritten (Err refusal) ⊎ FailsJob files.view on_chip (end.Refused refusal)
 EndsChipJob files after on_chip unwritten (Err fault) = FailsJob files.view on_chip fault
 
--- Holds if this job may have this result. What is promised about files requires that they were at rest at the start.
+-- Holds if this job may have this result. The clauses about files require that they were at rest at the start.
 abbrev pub AnswersJob : (files after : FilesState) → Job → Unwritten → Result Answer Fault → Type 0
 AnswersJob files after job.List unwritten (Ok answer.Chips) = (unwritten ≡ all_written) × AllStay files after
 AnswersJob files after job.List unwritten _ = ⊥
@@ -282,16 +264,14 @@ AnswersJob files after (job.Chip on_chip) unwritten outcome = EndsChipJob files 
     × (AreAtRest files → KeepsFiles on_chip.programmer on_chip.task files after)
     × (AreAtRest files → HoldsResult on_chip unwritten outcome files after)
 
--- Holds if the arguments lead to this result: a usage fault or help, after which no file is changed, or the result of
--- their job.
+-- Holds if these arguments may lead to this result: a usage fault or help, or the result of their job.
 abbrev pub AnswersArguments : (files after : FilesState) → List Text → Result Answer Fault → Unwritten → Type 0
 AnswersArguments files after words (Err (end.Usage fault reason)) unwritten =
     AreWrong words (record { fault = fault; reason = reason }) × (unwritten ≡ all_written) × AllStay files after
 AnswersArguments files after words outcome unwritten =
     (asked : Job) × IsJob words asked × AnswersJob files after asked unwritten outcome
 
--- Holds for a run without a fault: the arguments ask for help, or each file was written and exactly the answer's lines
--- were appended to standard output.
+-- Holds if the arguments ask for help, or if each file was written and the answer's lines were appended to `out`.
 abbrev pub RunSucceeds : (files after : FilesState) → List Text → (out out' : Option (List ℕ)) → Type 0
 RunSucceeds files after words out out' = IsAmong kind.DisplayHelp (refusals_of words)
     ⊎ ((found : Answer) × AnswersArguments files after words (Ok found) all_written × Prints (AreLines found) out out')
@@ -300,14 +280,12 @@ abbrev pub IsPrintedAt : Nature → Result Answer Fault → Reports → Type 0
 IsPrintedAt nature (Ok found) to = to ≡ at.Errors
 IsPrintedAt nature (Err fault) to = IsReportedTo nature fault to
 
--- Holds for the end of a run, with the contents of standard output and standard error before and after it. The status
--- is 1 if the arguments ask neither for a job nor for help, and 0 only if the run succeeds.
+-- Holds if this may be the end of a run with these arguments. Status 0 requires that the run succeeds (`RunSucceeds`).
 pub record IsStatus (files after : FilesState) (words : List Text) (wording : Wording)
     (out out' err err' : Option (List ℕ)) (ending : Ending) : Type 0 where
   pub few : ending.status ≤ 1
   pub refused : IsRefusedArguments words → ending.status ≡ 1
   pub succeeds : ending.status ≡ 0 → RunSucceeds files after words out out'
-  -- `prints` states what was printed, and how the status depends on it.
   pub outcome : Result Answer Fault
   pub unwritten : Unwritten
   pub answers : AnswersArguments files after words outcome unwritten

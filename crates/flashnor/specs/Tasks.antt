@@ -17,7 +17,6 @@ writes_back (task.Change change) = keeps_journal change.journal_use
 writes_back (task.Restore journal) = true
 writes_back _ = false
 
--- the file in which the task creates its journal; a rehearsal has its journal in memory
 abbrev pub journal_by : Task → Option (Bor Text)
 journal_by (task.Change change) = journal_of change.journal_use
 journal_by _ = None

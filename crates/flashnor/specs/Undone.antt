@@ -16,8 +16,8 @@ use Rattle.nor_console.specs.declared.answers.Answer.{Answer}
 use Rattle.flashnor.specs.declared.holding.Unwritten.{Unwritten}
 use Rattle.nor_console.specs.declared.messages.Fault.{Fault}
 
--- Holds for files `new` at rest that a run may find after an earlier run left the files `old`, even if that run was
--- killed or the host crashed. You may have moved aside a file of the chip that was missing at first.
+-- Holds if a run may find the files `new` at rest after an earlier run left `old`, even if that run was killed or the
+-- host crashed. You may have moved aside a file of the chip that was missing at first.
 pub record Follows {programmer : Programmer} {start : FilesState} (file : Text) (first : Opened programmer start)
     (old new : FilesState) : Type 0 where
   pub rest : AreAtRest new
@@ -42,8 +42,8 @@ abbrev pub Restores : Text → Task → Type 0
 Restores file (task.Restore journal) = journal.now ≡ file
 Restores file _ = ⊥
 
--- Holds for a run that restores from a journal that can restore the original chip, which an earlier run left in the
--- files `old`. It has the same chip as `programmer`, finds the files `mid`, and leaves the files `new`.
+-- Holds if a run of `--restore` on the same chip, with the journal in `file`, found the files `mid` (an earlier run
+-- left `old`) and left the files `new`, and if this journal can restore the original chip from `old`.
 pub record RestoresFrom {programmer : Programmer} {start : FilesState} (file : Text)
     (first : Opened programmer start) (on_chip : ChipJob) (unwritten : Unwritten) (returned : Result Answer Fault)
     (old mid new : FilesState) : Type 0 where

@@ -1,4 +1,4 @@
-//! The changes of a chip, as sessions with a journal, and their rehearsals.
+//! The changes of a chip, as sessions with a journal, and rehearsals of changes.
 ghost use Rattle.std.specs.Prelude.{◌≡◌, ◌≤◌, ◌⊎◌, true, IfOk, IfErr, None, OnErr, length};
 ghost use Rattle.nor_files.specs.Files.{Name, KeepsFile, is_lawful};
 ghost use Rattle.nor_driver.specs.OnlyReads.{IsSteadyOrIdle};
@@ -20,9 +20,8 @@ use nor_journal::{MemVault, Vault};
 use nor_probe::ChipName;
 use nor_session::{Request, rehearse};
 
-/// Changes the chip, with the journal in a new file, or rehearses the change with the journal in memory. `sources` has
-/// what was read from the change's files. The outer error is a fault of creating the journal's file, or error 18 if
-/// memory runs out.
+/// Changes the chip with the journal in a new file, or rehearses the change with the journal in memory. The outer error
+/// is a fault of creating the journal's file, or error 18 if memory runs out.
 #[tactic(auto, using(crate::proofs::Doing::does_change))]
 pub fn change_or_rehearse<'a, R: Store, B: Meter>(
     rt: &mut R,
@@ -79,7 +78,6 @@ fn change_with<'a, R: Store, B: Meter>(
     }
 }
 
-// Rehearses a change. The first of `stops` is the allowance of the session, and each further one that of a restore.
 fn rehearse_change<B: Meter>(
     bus: &mut B,
     vault: &mut MemVault,

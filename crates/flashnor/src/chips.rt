@@ -19,8 +19,7 @@ pub struct Content {
     pub status: [u8; 2],
 }
 
-/// Reads the chip's files, with the faults of `read_chip_file`. A missing image is all FFh, and a missing status file
-/// zeros.
+/// Reads the chip's files, with the faults of `read_chip_file`. A missing image is FFh, a missing status file zeros.
 pub fn read_content<'a, R: Store>(rt: &R, programmer: &Programmer<'a>) -> Result<Content, Fault<'a>>
     ensures len { IfOk result (λ content. vec_len content.bytes ≡ (emulated_part programmer.now.chip).size) }
     ensures ok { IfOk result (IsContentOf (R.state rt.now).view programmer.now) }
@@ -32,8 +31,7 @@ pub fn read_content<'a, R: Store>(rt: &R, programmer: &Programmer<'a>) -> Result
     Ok(content_of(rt.alloc(), size, image, status)?)
 }
 
-/// Returns the contents of a chip of `size` bytes, with FFh or zeros for what is missing. A given image must have
-/// `size` bytes, and given status bytes must be two. Fails if memory runs out.
+/// Returns a chip's contents: FFh for a missing image, and zeros for a missing status. Fails if memory runs out.
 pub fn content_of(
     alloc: Global,
     size: u32,
@@ -59,9 +57,8 @@ pub fn content_of(
     Ok(Content { bytes, status })
 }
 
-/// Reads a file of the chip, which must have `len` bytes, or returns `None` if it isn't named or is missing. Returns
-/// file fault 1 if the file can't be read or may block (a FIFO or terminal), file fault 3 if it has another length, and
-/// error 18 if memory runs out.
+/// Reads a file of the chip, or returns `None` if it isn't named or is missing. Returns file fault 1 if the file can't
+/// be read or may block (a FIFO or terminal), file fault 3 if it doesn't have `len` bytes, error 18 if memory runs out.
 #[tactic(auto, using(nor_console::proofs::FileFaults::unread_opening))]
 pub fn read_chip_file<'a, R: Store>(
     rt: &R,
@@ -100,9 +97,8 @@ fn cause_of_length(wanted: u32, found: usize) -> Cause {
     }
 }
 
-/// Returns a bus to the idle emulated chip with these contents, whose length must be the chip's size. The bus stops
-/// after the number of transactions in `stop=` (default: `u64::MAX`). After each operation, `busy=` polls show BUSY
-/// (default: none). With `power=`, a stop cuts the chip's power.
+/// Returns a bus to the idle chip with these contents. The bus stops after `stop=` transactions (default: `u64::MAX`).
+/// After each operation, `busy=` polls show BUSY (default: none). With `power=`, a stop cuts the chip's power.
 pub fn start(programmer: &Programmer<'_>, content: Content) -> SimBus
     requires { vec_len content.bytes ≡ (emulated_part programmer.now.chip).size }
     ensures { StartsBus programmer.now content result }

@@ -1,4 +1,4 @@
-//! What an error compared (the chip with a name or a journal), or the system's reason why a file can't be written.
+//! What an error compared, or the system's reason why a file can't be written.
 ghost use Rattle.std.specs.Prelude.{Some};
 
 use nor_args::{ChipJob, Emulated, Task};
@@ -11,10 +11,9 @@ use nor_session::Refusal;
 use std::fmt;
 use std::io::ErrorKind;
 
-/// What an error compared, or the system's reason for it. Contracts claim nothing about it.
+/// What an error compared, or the system's reason for the error.
 #[derive(Clone, Copy)]
 pub enum Detail {
-    /// Nothing more is known than the error says.
     Unsaid,
     /// Error 3: `-c` has a name that no known chip has.
     NoName,
@@ -46,7 +45,7 @@ pub enum Detail {
     Output(SystemReason),
 }
 
-/// Returns what the error of a call compared, or the system's reason for it. `bus` is the bus after the call.
+/// Returns what the error of a call compared, or the system's reason for this error. `bus` is the bus after the call.
 pub fn detail_of<R: Store>(rt: &R, job: &ChipJob<'_>, outcome: &Outcome, bus: &SimBus) -> Detail {
     let Err(refusal) = outcome else {
         return Detail::Unsaid;
@@ -66,7 +65,6 @@ pub fn detail_of<R: Store>(rt: &R, job: &ChipJob<'_>, outcome: &Outcome, bus: &S
     }
 }
 
-// Returns why the last journal or output can't be written, if it wasn't removed or replaced.
 fn unwritten_by<R: Store>(rt: &R) -> Option<SystemReason> {
     let error = rt.vault_error()?;
     match error.kind() {
@@ -86,7 +84,6 @@ fn name_detail(job: &ChipJob<'_>) -> Detail {
     }
 }
 
-// Reads the journal again, since the call has used up its bytes. If that fails, the detail is `Unsaid`.
 fn journal_detail<R: Store>(
     rt: &R,
     name: &str,
@@ -127,7 +124,7 @@ fn chip_detail(saved: &Journal<'_>, chip: Emulated) -> Detail {
     }
 }
 
-/// The line with what an error compared, with its line feed, or no text if nothing is known.
+/// The line with this detail and its line feed, or no text if nothing is known.
 #[derive(Drop)]
 pub struct DetailLine(pub Detail);
 

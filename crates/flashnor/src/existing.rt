@@ -28,11 +28,8 @@ pub fn existing_journal<'a, R: Store>(rt: &R, task: &Task<'a>) -> Option<&'a str
     }
 }
 
-/// Returns the first fault of a session whose journal exists: a fault of the steps that come before the journal is
-/// created, or file fault 4 with the journal's name.
-///
-/// The trace is the only file that is created, and only if its name is apart from the job's other files. `Disk` does
-/// not truncate it, since nothing is written to it.
+/// Returns the first fault of a session whose journal exists: a fault of the steps before the journal is created, or
+/// file fault 4 with the journal's name. May create only the trace, if its name is apart from the job's other files.
 pub fn fault_before<'a, R: Store>(rt: &mut R, job: &ChipJob<'a>, journal: &'a str) -> Fault<'a>
     requires makes { journal_by job.now.task ≡ Some journal }
     requires there { Happens (R.state rt.old).view (There journal.now) }

@@ -1,5 +1,4 @@
-//! For a run that changes the chip: locks and reads the chip's files at the start, and writes the chip back to them at
-//! the end.
+//! Locks and reads the chip's files at the start of a run that changes the chip, and writes them back at its end.
 ghost use Rattle.std.specs.Prelude.{◌≡◌, ◌+◌, true, false, List, ℕ, None, Some, IfErr, IfOk, IfSome, IsSomeAnd, OnErr};
 ghost use Rattle.std.specs.Prelude.{OnOk, option_map, vec_len};
 ghost use Rattle.nor_files.specs.Calls.{LeaveNoMore};
@@ -30,20 +29,15 @@ pub struct Held {
     pub status_there: bool,
 }
 
-/// Locks the chip's files against other runs, reads them and syncs them. If an image is missing or not named, all bytes
-/// are FFh. If a status file is missing or not named, both status bytes are 0.
-///
-/// If the files obey the contract of `Store` and none is open as a journal, an output or a trace (`AreAtRest`), the
-/// contents that were read are durable: a host crash leaves them.
+/// Locks the chip's files against other runs, reads them and syncs them. A missing or unnamed image is all FFh, and a
+/// missing or unnamed status file two zeros. If the files were at rest (`AreAtRest`), what was read is durable.
 ///
 /// Returns one of these faults:
 ///
-/// - file fault 1 if a file can't be looked up or read, if it is a directory, or if the store finds no file of a name
-///   that it has locked
-/// - file fault 2 if a file can't be opened for overwriting, locked or synced, or its directory can't be synced; on a
-///   `Disk` also for a FIFO, a device or a dangling link, and if the file was removed or replaced after it was locked,
-///   since a sync then fails
-/// - file fault 3 if the image has another length than the chip, or the status file does not have two bytes
+/// - file fault 1 if a file can't be looked up or read, is a directory, or isn't found after it was locked
+/// - file fault 2 if a file can't be opened for overwriting, locked or synced (a `Disk` refuses FIFOs, devices and
+///   dangling links), if it was removed or replaced after it was locked, or if its directory can't be synced
+/// - file fault 3 if the image has another length than the chip, or the status file doesn't have two bytes
 /// - file fault 5 if another process has locked a file
 /// - error 18 if memory runs out
 pub fn hold_content<'a, R: Store>(
@@ -72,7 +66,6 @@ pub fn hold_content<'a, R: Store>(
     })
 }
 
-// Syncs the directory of a named file even if the file is missing.
 fn hold_whole<'a, R: Store>(
     rt: &mut R,
     name: Option<&'a str>,
@@ -126,7 +119,6 @@ fn read_held<'a, R: Store>(rt: &mut R, name: &'a str, len: u32) -> Result<Vec<u8
     }
 }
 
-// A sync of a locked file returns `NotFound` if its name no longer refers to it.
 fn unsynced<'a>(error: &io::Error, name: &'a str) -> Fault<'a>
     ensures { IsUnmadeFault name.now result }
 {
@@ -138,9 +130,8 @@ fn unsynced<'a>(error: &io::Error, name: &'a str) -> Fault<'a>
 }
 
 /// The names of files that were not written or were lost in a run. The image and the status file are named if they
-/// could not be written, or if they were removed or replaced, or their length changed, after they were written. The
-/// trace is named if it lost a line. The journal is named if it was removed or replaced, or if its length changed,
-/// after the session sealed it.
+/// could not be written, the trace if it lost a line. A file, except the trace, is also named if it was removed or
+/// replaced, or its length changed, after it was written or sealed.
 #[derive(Clone, Copy)]
 pub struct Unwritten<'a> {
     pub image: Option<&'a str>,
@@ -149,8 +140,7 @@ pub struct Unwritten<'a> {
     pub journal: Option<&'a str>,
 }
 
-/// Returns the name of the journal that the task created and sealed, if that name no longer refers to the journal's
-/// file, or if the file has another length (`Store::is_kept`).
+/// Returns the name of the journal that the task sealed, if a later run would not find it (see `Store::is_kept`).
 pub fn lost_journal<'a, R: Store>(rt: &R, task: &Task<'a>) -> Option<&'a str>
     ensures { IsReportedOf (journal_by task.now) result (R.state rt.now).view }
 {
@@ -160,13 +150,11 @@ pub fn lost_journal<'a, R: Store>(rt: &R, task: &Task<'a>) -> Option<&'a str>
     }
 }
 
-/// Writes the chip's bytes and status bytes to the files that are named. A file that existed (`image_there`,
-/// `status_there`) is overwritten in place, and a missing file is created. The status file is written even if the image
-/// could not be written.
+/// Writes the chip's bytes and status bytes to the named files. Overwrites an existing file (`image_there`,
+/// `status_there`) in place, and creates a missing one. Writes the status file even if writing the image failed.
 ///
-/// Then looks at both files once more, because another program may have changed the image while the status file was
-/// written and synced. Returns the name of the image and the name of the status file, each only if that file could not
-/// be written, or if a later run won't find what was written (`Store::still_has`).
+/// Returns the names of the image and of the status file, each only if the file could not be written, or if a later run
+/// won't find what was written (`Store::still_has`, which is checked after both files were written).
 pub fn write_back<'a, R: Store>(
     rt: &mut R,
     programmer: &Programmer<'a>,
@@ -256,9 +244,8 @@ fn write_over<R: Store>(rt: &mut R, name: &str, bytes: &[u8]) -> io::Result<()>
     rt.sync(name)
 }
 
-// Creates a file with these bytes. Until all bytes are synced, the file is empty or has one byte more than `bytes`.
-// Therefore, if the files obey the contract of `Store`, a host crash can leave the file with as many bytes as `bytes`
-// only if its contents are `bytes`.
+// Creates a file with these bytes. Until all are synced, the file is empty or has one byte more than `bytes`. So if the
+// files obey their contract, a host crash can leave a file as long as `bytes` only with exactly these bytes.
 fn make_with<R: Store>(rt: &mut R, name: &str, bytes: &[u8]) -> io::Result<()>
     ensures nature { (R.state rt.new).view.nature ≡ (R.state rt.old).view.nature }
     ensures others { is_lawful (R.state rt.old).view ≡ true → OthersStay name.now (R.state rt.old) (R.state rt.new) }

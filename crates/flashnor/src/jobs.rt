@@ -32,7 +32,6 @@ pub struct Called<'a> {
 }
 
 impl<'a> Called<'a> {
-    // Writes the rest of the trace's buffer. `lost` is the trace's name if a line could not be written, now or before.
     fn of_traced<L: Write + Drop>(
         mut traced: TraceBus<SimBus, L>,
         name: Option<&'a str>,
@@ -51,7 +50,7 @@ impl<'a> Called<'a> {
 }
 
 /// Creates or opens the trace, if requested, reads the files of the task, and performs the task on a simulated chip
-/// with these contents. Returns a fault if one occurred before the call to the engine.
+/// with this content. Returns a fault if one occurred before the call to the engine.
 pub fn call_on<'a, R: Store>(
     rt: &mut R,
     content: Content,

@@ -12,18 +12,14 @@ ghost use Rattle.nor_console.specs.declared.messages.Fault.{Fault};
 
 use nor_files::Store;
 
-/// States that the original chip of a change can be restored, however often a restore is interrupted by a kill or a
-/// host crash.
+/// States that the original chip of a change can be restored, even if kills or host crashes interrupt restores.
 ///
-/// `restorable`: suppose that the journal can restore the original chip from everything that a host crash may leave of
-/// the chip's files (`IsRestorableFrom`). Then it still can after each run that restores from it, wherever that run was
-/// interrupted. `ends`: a run that restores, returns an answer and writes all files leaves the original chip.
+/// `restorable`: if the journal can restore the original chip from everything that a host crash may leave of the chip's
+/// files (`IsRestorableFrom`), it still can after each run that restores from it. `ends`: a run that restores, returns
+/// an answer and writes all files leaves the original chip.
 ///
 /// Each run must have the same chip and files (`HaveOneChip`) and find them at rest (`AreAtRest`). Between two runs
 /// nothing else may change them (`Follows`), but you may move aside a file of the chip that was missing at first.
-///
-/// The contract of `run_over` supplies the premise for a change with its journal in a file (`KeepsOriginalFiles`),
-/// unless the original chip is as it was.
 pub fn runs_restore_original<R: Store>()
     ensures restorable { (programmer : Programmer) (file : Text) (start old mid new : R)
         (first : Opened programmer (R.state start)) (on_chip : ChipJob)

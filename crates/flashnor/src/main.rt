@@ -1,21 +1,9 @@
 //! `flashnor`, a programmer for SPI NOR flash that can undo its own changes.
 //!
 //! It identifies, reads, verifies, writes, erases and write-protects emulated chips, whose contents are files. Each
-//! change first saves a journal, from which `--restore` restores the original chip. `nor_jobs` and `nor_console` have
-//! the code that this program shares with `flashnor_serprog`.
-//!
-//! - `run.rt`: a run of the program, from its arguments to its exit status
-//! - `jobs.rt`: performs a job on the chip, with a trace if one is requested
-//! - `tasks.rt`: which tasks write the chip back, and the journal that a task creates
-//! - `existing.rt`: ends a run if the file for its new journal already exists
-//! - `roles.rt`: checks that no file has two roles
-//! - `streams.rt`: checks that the program prints to no file of a job
-//! - `holding.rt`: locks, reads and writes the chip's files
-//! - `chips.rt`: the chip's contents, and the simulated bus
-//! - `changes.rt`: changes and rehearsals
-//! - `laws.rt`: a theorem about a change and the restores that follow it
-//! - `details.rt`: what an error compared
-//! - `printing.rt`: prints the end of a run, and chooses the exit status
+//! change first saves a journal, from which `--restore` restores the original chip. `run.rt` performs a run, `jobs.rt`
+//! a job on the chip, and `laws.rt` has a theorem about a change and the restores that follow it. `nor_jobs` and
+//! `nor_console` have code that this program shares with `flashnor_serprog`.
 #![tactic(auto)]
 
 mod changes;
@@ -52,7 +40,7 @@ fn main(rt: HostRuntime) -> ExitCode {
     ExitCode::from(status)
 }
 
-// Returns `Numbered` for a script, which expects only the lines with the faults' numbers, and else `Explained`.
+// Returns `Explained` if standard error is a terminal, and otherwise `Numbered`, on whose lines scripts rely.
 fn wording_for(rt: &HostRuntime) -> Wording {
     if rt.stderr().is_terminal() {
         Wording::Explained

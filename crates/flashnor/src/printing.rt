@@ -23,17 +23,14 @@ pub struct ErrorStream<E> {
 pub struct Ending {
     /// The exit status: 0 if the answer or the help was printed and every file was written, otherwise 1.
     pub status: u8,
-    /// True if the answer or the help was printed.
     pub printed: bool,
-    /// True if each message was printed: those of a fault, of standard output, and of each file that could not be
-    /// written.
+    /// True if each message (of a fault, standard output, or a file that could not be written) was printed.
     pub reported: bool,
 }
 
-/// Prints an answer or the help to `output`, and a message for each file that could not be written to `errors`. Prints
-/// a fault, and then these messages, to the stream that `to` names. `detail` is what an error compared.
-///
-/// If the answer or the help can't be printed, file fault 2 is printed to `errors`, and the status is 1.
+/// Prints an answer or the help to `output`, or `detail` (unless `Numbered`) and the fault to the stream `to`. Then
+/// prints, to `errors` or after a fault to that stream, a message for each file that could not be written. If the
+/// answer or the help can't be printed, prints file fault 2 to `errors`, and the status is 1.
 #[tactic(auto, using(crate::proofs::Printed::printed_well, crate::proofs::Printed::printed_badly))]
 pub fn print_end<O: Write, E: Write>(
     output: &mut O,

@@ -22,11 +22,9 @@ pub fn has_own_trace<'a, R: Store>(rt: &R, job: &ChipJob<'a>) -> Result<(), Faul
     check_pair(rt, job, Role::Trace, Role::Journal)
 }
 
-/// Checks that two names of a job refer to different files, if the job writes one of the two. The chip's image may be
-/// the image to write, and a restore's journal counts as written.
-///
-/// Returns file fault 5 with the later of the two roles (image, status, trace, layout, image to write or compare,
-/// output, journal), or file fault 1 if a name can't be looked up.
+/// Checks that two roles of a job have different files, if the job writes one of the two. The chip's image may be the
+/// image to write, and a restore's journal counts as written. Returns file fault 5 with the file of the later role (in
+/// the order of `Role`), or file fault 1 if a name can't be looked up.
 pub fn files_have_one_role<'a, R: Store>(rt: &R, job: &ChipJob<'a>) -> Result<(), Fault<'a>>
     ensures ok { OnOk result (FilesHaveOneRole (R.state rt.now).view.nature job.now) }
     ensures err { IfErr result (FailsFileRoles (R.state rt.now).view.nature job.now) }
@@ -52,8 +50,8 @@ pub fn files_have_one_role<'a, R: Store>(rt: &R, job: &ChipJob<'a>) -> Result<()
     check_pair(rt, job, Role::Wanted, Role::Journal)
 }
 
-/// Looks up the files that the task only reads, before the run opens any file. On a `Disk`, reading a file that can't
-/// be looked up returns file fault 1 later, unless the file is one of the chip's. Returns error 18 if memory runs out.
+/// Looks up the layout and the image to write or compare, before the run opens any file. If this fails on a `Disk`, a
+/// later `read_file` returns file fault 1, unless the run locked the file. Returns error 18 if memory runs out.
 pub fn look_at_sources<'a, R: Store>(rt: &R, job: &ChipJob<'a>) -> Result<(), Fault<'a>>
     ensures { IfErr result (λ fault. fault ≡ Faults.Refused Refusals.Memory) }
 {

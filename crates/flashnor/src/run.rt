@@ -32,11 +32,9 @@ use std::io::Write;
 use std::rt::Files;
 
 /// Performs the job given by the arguments (the first is the program's name), or prints the help. Returns the exit
-/// status: 0, or 1 after a fault, or if the result could not be printed or a file could not be written.
-///
-/// Results are printed to `output`, and faults to `errors`. If standard error prints to a file of the job, the fault
-/// that reports this is printed to `output`, unless standard output prints to such a file, too. If `given` is an error
-/// of the system, it is printed as a fault.
+/// status: 1 after a fault, or if the result could not be printed or a file could not be written; otherwise 0. Results
+/// are printed to `output`, and faults to `errors`. If standard error prints to a file of the job, the fault that
+/// reports this is printed to `output`, unless standard output prints to such a file, too.
 pub fn run_words<R: Files + AllocGlobal, O: Write, E: Write>(
     rt: &R,
     given: io::Result<Args>,
@@ -59,8 +57,7 @@ where
     ending.status
 }
 
-/// Ends a run that could not open a directory in place of closed standard streams (`keep_streams`), because the next
-/// file that is opened could get the descriptor of such a stream. Prints file fault 1, and returns exit status 1.
+/// Ends a run that could not open a directory in place of closed standard streams: prints file fault 1, and returns 1.
 pub fn end_without_streams<O: Write, E: Write>(output: &mut O, errors: &mut ErrorStream<E>) -> u8
     ensures { EndsWith (IsWithoutStreams errors.old.wording (O.contents output.old) (O.contents output.new)
         (E.contents errors.old.writer) (E.contents errors.new.writer)) result }

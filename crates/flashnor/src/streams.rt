@@ -11,7 +11,6 @@ use nor_files::{Store, Stream};
 
 #[derive(Clone, Copy)]
 pub enum Reports {
-    /// To standard error.
     Errors,
     /// To standard output, because standard error prints to a file of the job.
     Output,
@@ -19,7 +18,6 @@ pub enum Reports {
     Nowhere,
 }
 
-/// The fault that was found when a job's files were compared with the standard streams, and where it is printed.
 #[derive(Drop)]
 pub struct StreamFault<'a> {
     pub fault: Fault<'a>,
@@ -36,10 +34,9 @@ const ROLES: [Role; 7] = [
     Role::Journal,
 ];
 
-/// Checks that the program prints to no regular file that the job names, even if the job only reads that file.
-///
-/// Returns file fault 5 with the first file (by `Role`) to which standard output or else standard error prints. Returns
-/// file fault 1 with a name that can't be looked up; if the job may change files, a standard stream's name counts, too.
+/// Checks that the program prints to no regular file that the job names. Returns file fault 5 with the first file (by
+/// `Role`) to which standard output or else standard error prints, or file fault 1 with a name that can't be looked up.
+/// If the job may change files, the names of the standard streams are looked up, too.
 pub fn are_unprinted<'a, R: Store>(rt: &R, job: &ChipJob<'a>) -> Result<(), StreamFault<'a>>
     ensures fails { IfErr result (λ refused. FailsFileRoles (R.state rt.now).view.nature job.now refused.fault) }
     ensures to { IfErr result (λ refused. IsReportedTo (R.state rt.now).view.nature refused.fault refused.to) }

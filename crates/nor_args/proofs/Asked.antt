@@ -16,7 +16,6 @@ use Rattle.nor_args.specs.declared.words.UsageFault.{UsageFault}
 use Rattle.nor_args.specs.declared.words.UsageFault.TheVariants as why
 use Rattle.nor_args.proofs.Sound.{cases}
 
--- The first fault in a list of the faults 2 to 9 is never `Words`, the fault 1 that `clap` reports.
 not-words : (a b c d e f g h : Bool) (error : Error) → first_fault (cases a b c d e f g h) ≡ Some (why.Words error) → ⊥
 not-words a b c d e f g h error is = grind arith
 
@@ -45,10 +44,6 @@ wrong-by_words words given fault wrong taken same is named because =
       reason = subst (λ (f : UsageFault). IsReason (given_by words) f wrong.reason) (sym named) said;
     }
 
--- ---- programs for hardware
-
--- Let `wrong` be the fault and reason of the options of a program for hardware. The options then ask for no job because
--- of this fault, and the reason belongs to it.
 no-job : (given : Texts) (wrong : WrongArguments) → IsWrongForHardware given wrong
     → HasNoJob given wrong.fault × IsReason given wrong.fault wrong.reason
 no-job given wrong (inl checked) = (inl (checked.0, checked.1.fault), checked.1.reason)

@@ -25,7 +25,6 @@ pub given_text : (text : Option (Bor Text)) (is : Bool) → is ≡ is_some text 
 given_text None is same = same
 given_text (Some text) is same = same
 
--- If the options ask for `on_chip` on an emulated chip, a program for hardware is asked for the same task.
 pub operation-asked : (given : Texts) (on_chip : ChipJob) (named : Option ChipName) (backup : Bool)
     (srp0 : Option Bool) (progress : ProgressMode) (log : Option (Bor Text))
     → named ≡ option_map name_in_any_case given.chip → backup ≡ is_some given.backup

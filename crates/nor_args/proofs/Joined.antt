@@ -1,4 +1,4 @@
--- The values of an option that may be repeated, joined as borrowed texts or as bytes.
+-- The values of a repeated option can be joined as borrowed texts or as their bytes, with the same result.
 use Rattle.std.proofs.Common.{◌≡◌, ◌∙◌, List, [], ◌∷◌, ◌++◌, Some, ap, codes, map, option_map, refl}
 use Rattle.std.specs.Borrow.{Bor}
 use Rattle.std.specs.List.{flat_map, join_by}

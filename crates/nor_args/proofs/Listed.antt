@@ -14,7 +14,6 @@ abbrev pub with_stops : List ℕ → List Text → Option (List ℕ)
 with_stops stops pieces = cond (list_all (reads decimal_number) pieces && nat_le (length stops + length pieces) 64)
     (Some (stops ++ filter_map decimal_number pieces)) None
 
--- The piece at index `n` isn't a number, or follows 64 stops, or is one more stop.
 module _ (stops : List ℕ) (pieces : List Text) (n : ℕ) (piece : Text)
     (at : (n < length pieces) × (piece ≡ get_or pieces n piece)) where
   pub stops-refused : decimal_number piece ≡ None → with_stops stops (drop n pieces) ≡ None

@@ -1,4 +1,3 @@
--- Properties of options that have no usage fault.
 use Rattle.std.proofs.Common.{◌≡◌, arith, ◌&&◌, ◌||◌, ℕ, Bool, true, false, List, [], ◌∷◌, Option, None, is_some}
 use Rattle.std.specs.Prelude.{option_and_then}
 use Rattle.nor_args.specs.Text.{Text, reads}

@@ -15,7 +15,6 @@ use Rattle.nor_args.specs.declared.reasons.Reason.TheVariants as because
 use Rattle.nor_args.specs.declared.reasons.WrongArguments.{WrongArguments}
 use Rattle.nor_args.specs.declared.words.UsageFault.{UsageFault}
 
--- No option requires or excludes another one, and `clap` specifies the matches of each option's form.
 pub options_are_free : is_simple_and_free options ≡ true
 unfolding clap_on_literals
 options_are_free = refl

@@ -1,4 +1,3 @@
--- The unit that may follow the number of a clock.
 use Rattle.std.proofs.Common.{◌≡◌, ◌≤◌, true, false, Option, Some, None, MatchOption, arith, length, option_map, refl}
 use Rattle.std.specs.Borrow.{Bor}
 use Rattle.std.specs.Str.Pattern.{FindsTextSuffix, StripsSuffix}

@@ -15,7 +15,7 @@ use Rattle.nor_args.specs.declared.reasons.OptionName.TheVariants as option
 use Rattle.nor_args.specs.declared.words.UsageFault.{UsageFault}
 use Rattle.nor_args.specs.declared.words.UsageFault.TheVariants as why
 
--- a usage fault, and before it whether the options have this fault
+-- a pair: whether the options have a usage fault, and this fault
 abbrev pub Case : Type 0
 Case = Bool × UsageFault
 
@@ -25,12 +25,10 @@ passes_test test text = option_map_or test text false
 abbrev pub is_no : (Text → Bool) → Option Text → Bool
 is_no test = passes_test (λ text. not (test text))
 
--- fault 6: a change without exactly one of `--journal` and `--rehearse`, or one of these without a change
 abbrev pub has_wrong_journal : Texts → Bool
 has_wrong_journal given =
     not (nat_eq (how_many (is_some given.journal ∷ is_some given.rehearse ∷ [])) (if asks_change given then 1 else 0))
 
--- whether an option is given, and this option
 abbrev pub Choosing : Type 0
 Choosing = Bool × OptionName
 
@@ -41,14 +39,13 @@ first_given choices =
 abbrev pub is_dash : Option Text → Bool
 is_dash = passes_test (λ text. bytes_eq text (codes "-"))
 
--- true if a part of the value of `-i` names the file `-` for its region
+-- True if `piece`, a part of the value of `-i`, has the form `NAME:-`, so that the region's file is `-`.
 abbrev pub has_dash : Text → Bool
 has_dash piece = bytes_eq (after_colon piece) (codes "-")
 
 abbrev pub lists_dash : Text → Bool
 lists_dash text = list_any has_dash (pieces_of text)
 
--- each option that names a file, with whether the file is `-`
 abbrev pub file_choices : Texts → List Choosing
 file_choices given =
     (is_dash given.read, option.Read) ∷ (is_dash given.verify, option.Verify) ∷ (is_dash given.write, option.Write)
@@ -62,12 +59,10 @@ file_choices given =
 abbrev pub dashed : Texts → Option OptionName
 dashed given = if given.hardware then first_given (file_choices given) else None
 
--- fault 5: a value of `--wp-range` or `--progress` that can't be parsed, or the file `-` in a program for hardware
 abbrev pub has_wrong_value : Texts → Bool
 has_wrong_value given =
     (is_no (reads range_of) given.wp_range || is_no (reads progress_of) given.progress) || is_some (dashed given)
 
--- fault 7: a layout without `-i`, `-i` without a layout, both without `-r`, `-v`, `-w` or `-E`, or several layouts
 abbrev pub has_wrong_regions : Texts → Bool
 has_wrong_regions given = (gives_layout given || is_some given.names)
     && not (gives_layout given
@@ -79,7 +74,6 @@ lacks_check given = is_some given.extract_image && not (is_some given.check_jour
 abbrev pub has_unneeded_for_journal : Texts → Bool
 has_unneeded_for_journal given = (given.replaced_chip && not (is_some given.restore)) || lacks_check given
 
--- the part of fault 8 that only a program for hardware can have
 abbrev pub has_unneeded_for_hardware : Texts → Bool
 has_unneeded_for_hardware given = (given.no_verify_all && not (is_new_content given || is_some given.restore))
     || ((given.quick && not (is_some given.restore)) || has_unneeded_for_journal given)
@@ -88,7 +82,7 @@ abbrev pub has_unneeded : Texts → Bool
 has_unneeded given =
     ((given.no_verify || given.unlock) && not (is_new_content given)) || has_unneeded_for_hardware given
 
--- the faults 2 to 9, in this order, and for each whether the options have it
+-- the faults 2 to 9, in this order, each with whether the options have it
 abbrev pub usage_faults : Texts → List Case
 usage_faults given =
     (not (is_some given.programmer) && not given.list, why.NoProgrammer)
@@ -105,15 +99,13 @@ usage_faults given =
     )
     ∷ []
 
--- the faults 4 to 9. The value of `-p` is ignored, as if it were correct and had no `stop=`.
+-- the faults 4 to 9, each with whether the options have it; the value of `-p` is ignored
 abbrev pub operation_faults : Texts → List Case
 operation_faults given = drop 2 (usage_faults (record given { programmer = None }))
 
 abbrev pub first_fault : List Case → Option UsageFault
 first_fault [] = None
 first_fault (case ∷ cases) = if case.0 then Some case.1 else first_fault cases
-
--- ---- messages
 
 abbrev pub usage_fault_number : UsageFault → ℕ
 usage_fault_number (why.Words error) = 1

@@ -13,7 +13,7 @@ use Rattle.nor_args.specs.declared.job.LayoutForm.TheVariants as form
 use Rattle.nor_args.specs.declared.job.ProgressMode.{ProgressMode}
 use Rattle.nor_args.specs.declared.job.ProgressMode.TheVariants as mode
 
--- The values of the options, by their long names except `names` (`-i`) and `log` (`-o`); true for a flag that is set.
+-- The values of the options: `None` or false if an option isn't given. `names` is that of `-i`, `log` that of `-o`.
 pub record Texts : Type 0 where
   pub programmer : Option Text
   pub chip : Option Text
@@ -49,24 +49,22 @@ pub record Texts : Type 0 where
   pub progress : Option Text
   pub verbose : Bool
   pub log : Option Text
-  -- Whether the program is one for hardware, which takes no file with the name `-`.
+  -- True for a program for hardware, which accepts no file with the name `-`.
   pub hardware : Bool
 
--- true for the text `true`, which `clap` gives a flag that is set
 abbrev pub is_flag_set : Option Text → Bool
 is_flag_set value = option_map_or (λ text. bytes_eq text (codes "true")) value false
 
 abbrev pub text_in : List Row → Text → Option Text
 text_in rows id = first_of id rows
 
--- all values of the option with this ID in the rows of a parse, with commas between them; `None` without a value
+-- the values of the option `id` in the rows of a parse by `clap`, joined with commas; `None` without a value
 abbrev pub joined_in : List Row → Text → Option Text
 joined_in rows id = option_map (join_by (λ text. text) (codes ",")) (all_of id rows)
 
 abbrev pub is_set_in : List Row → Text → Bool
 is_set_in rows id = is_flag_set (first_of id rows)
 
--- the options of flashnor in the rows of a parse by `clap`
 abbrev pub given_in : List Row → Texts
 given_in rows = record {
   programmer = text_in rows (codes "programmer");
@@ -109,7 +107,6 @@ given_in rows = record {
 abbrev pub given_by : List Text → Texts
 given_by words = given_in (matches_of options words)
 
--- the options of a program for hardware in the rows of a parse; the values of all `-i` count as one value
 abbrev pub hardware_given_in : List Row → Texts
 hardware_given_in rows = record (given_in rows) {
   rehearse = None;
@@ -136,7 +133,7 @@ hardware_given_in rows = record (given_in rows) {
 abbrev pub hardware_given_by : (program : Text) → List Text → Texts
 hardware_given_by program words = hardware_given_in (matches_of (hardware_options program) words)
 
--- the options of the code's type `Given`, with each text as its bytes
+-- the options in the code's type `Given`, with each text as its bytes
 abbrev pub texts_of : Given → Texts
 texts_of given = record {
   programmer = option_map (λ text. text.now) given.programmer;
@@ -200,7 +197,6 @@ gives_layout given = is_some (layout_file given) || (given.fmap || given.ifd)
 abbrev pub has_two_layouts : Texts → Bool
 has_two_layouts given = nat_lt 1 (how_many (layouts_given given))
 
--- the form of the layout; it has a meaning only if exactly one layout is given
 abbrev pub layout_form : Texts → LayoutForm
 layout_form given =
     if is_some given.layout then (if given.hardware then form.Words else form.Lines)

@@ -37,7 +37,7 @@ use Rattle.nor_args.specs.declared.words.UsageFault.TheVariants as why
 abbrev pub NamesFile : Option Text → Bor Text → Type 0
 NamesFile option text = option ≡ Some text.now
 
--- Holds for the layout's file (`None` if it is read from the chip), its form, and the value of `-i`.
+-- Holds if the layout's file (`None` if it is read from the chip), its form and the names are those of the options.
 abbrev pub IsRegions : Texts → Option Regions → Type 0
 IsRegions given None = (gives_layout given ≡ false) × (given.names ≡ None)
 IsRegions given (Some regions) = (gives_layout given ≡ true)
@@ -60,7 +60,8 @@ pub record IsChange (given : Texts) (change : Change) : Type 0 where
   pub verify : change.verify ≡ not given.no_verify
   pub journal_use : IsJournalUse given change.journal_use
 
--- Holds if the options ask for this operation. `Probe` allows `--flash-name`, `--wp-enable` and `--wp-disable`.
+-- Holds if the options ask for this task. For `Probe`, they ask only for `--flash-name`, `--wp-enable` or
+-- `--wp-disable`, or for no operation.
 abbrev pub IsTask : Texts → Task → Type 0
 IsTask given task.Probe = operations given ≡ how_many (given.flash_name ∷ given.wp_enable ∷ given.wp_disable ∷ [])
 IsTask given task.FlashSize = given.flash_size ≡ true
@@ -80,13 +81,10 @@ abbrev pub IsAsked : Texts → Job → Type 0
 IsAsked given job.List = given.list ≡ true
 IsAsked given (job.Chip on_chip) = (given.list ≡ false) × IsChipJob given on_chip
 
--- ---- programs for hardware
-
 -- the row that `-c` names, in upper or lower case, by its own name or by that of another chip with its ID
 abbrev pub name_in_any_case : Text → ChipName
 name_in_any_case text = row_named (map to_ascii_uppercase text)
 
--- Holds if the options ask for this operation and have none of the faults 4 to 9.
 pub record IsOperation (given : Texts) (operation : Operation) : Type 0 where
   pub sound : first_fault (operation_faults given) ≡ None
   pub named : operation.named ≡ option_map name_in_any_case given.chip
@@ -125,7 +123,6 @@ pub record IsListAsked (given : Texts) : Type 0 where
   pub listed : given.list ≡ true
   pub sound : first_fault (operation_faults given) ≡ None
 
--- Holds for a job on a chip. Its operation is what the options ask for, or the first of their faults 4 to 9.
 pub record IsProgrammerJob (given : Texts) (on_chip : ProgrammerJob) : Type 0 where
   pub on_a_chip : is_on_chip given ≡ true
   pub programmer : NamesFile given.programmer on_chip.programmer

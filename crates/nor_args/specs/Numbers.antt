@@ -9,7 +9,6 @@ use Rattle.std.specs.Str.Parse.{digits_value}
 use Rattle.hex.specs.Hex.{decode_sized}
 use Rattle.nor_args.specs.Text.{Text, front_of, rest_of}
 
--- true if the text consists of 1 to `most` digits to the base `radix`, with a value of at most `greatest`
 abbrev pub is_numeral : (radix most greatest : ℕ) → Text → Bool
 is_numeral radix most greatest text = list_all (λ digit. is_digit digit radix) text
     && (nat_le 1 (length text) && (nat_le (length text) most && nat_le (digits_value radix text) greatest))
@@ -18,11 +17,9 @@ abbrev pub numeral : (radix most greatest : ℕ) → Text → Option ℕ
 numeral radix most greatest text =
     if is_numeral radix most greatest text then Some (digits_value radix text) else None
 
--- the value of 1 to 20 decimal digits if it is below 2 to the power of 64
 abbrev pub decimal_number : Text → Option ℕ
 decimal_number = numeral 10 20 18446744073709551615
 
--- a number of polls: the value of 1 to 20 decimal digits if it is at most 65,535
 abbrev pub polls_of : Text → Option ℕ
 polls_of = numeral 10 20 65535
 
@@ -33,7 +30,6 @@ before_unit unit text =
 abbrev pub before_either : (unit other : Text) → Text → Option Text
 before_either unit other text = option_or (before_unit unit text) (before_unit other text)
 
--- the text of the number in the clock `text`, and the clock's unit in hertz
 abbrev pub with_unit : (kilo mega : Option Text) → Text → Text × ℕ
 with_unit (Some digits) mega text = (digits, 1000)
 with_unit None (Some digits) text = (digits, 1000000)
@@ -43,7 +39,7 @@ abbrev pub clock_parts : Text → Text × ℕ
 clock_parts text = with_unit (before_either (codes "k") (codes "K") text)
     (before_either (codes "M") (codes "m") text) text
 
--- a clock in hertz, from 1 to 4,294,967,295: a number, and `k` or `M` in either case for 1,000 or 1,000,000
+-- the clock in hertz, from 1 to 4,294,967,295: a number, in kHz before `k` or `K`, in MHz before `M` or `m`
 abbrev pub clock_of : Text → Option ℕ
 clock_of text = option_and_then
     (λ number. if nat_lt 0 number && nat_le (number * (clock_parts text).1) 4294967295

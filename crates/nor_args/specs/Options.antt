@@ -46,7 +46,6 @@ change_rules =
     ∷ by_name (valued (codes "restore"))
     ∷ []
 
--- the options that say how an operation is performed
 abbrev pub manner_rules : List Rule
 manner_rules =
     by_name (valued (codes "journal"))
@@ -84,12 +83,10 @@ options =
     with_rule (with_rules (with_rules (with_rules (with_rules no_options chip_rules) reader_rules) change_rules)
     manner_rules) help_rule
 
--- ---- programs for hardware
-
 abbrev pub is_for_hardware : Text → Bool
 is_for_hardware id = not (bytes_eq id (codes "rehearse"))
 
--- the options that only programs for hardware have, except `-R`; `long_form` adds the long names that lack here
+-- the options of programs for hardware that flashnor doesn't have, without `-R`; `hardware_form` adds the long names
 abbrev pub own_rules : List Rule
 own_rules =
     by_name (valued (codes "backup"))
@@ -117,7 +114,6 @@ no_hardware_options_of program = let app = no_options_of program in
 abbrev pub at_most_one : ValueRange
 at_most_one = record { start_inclusive = 0; end_inclusive = 1 }
 
--- the option `rule` with a long name, which is `--list-supported` for `-L`; `--progress` without a mode means `auto`
 abbrev pub long_form : Rule → Rule
 long_form rule =
     if bytes_eq rule.id (codes "progress")
@@ -127,7 +123,7 @@ long_form rule =
 abbrev pub repeated_names : Rule → Rule
 repeated_names rule = record (by_name rule) { action = Some Append; aliases = codes "image" ∷ [] }
 
--- the form that the option `rule` has in a program for hardware; `-i` and `-V` may be repeated
+-- the form of the option `rule` in a program for hardware, where each option has a long name
 abbrev pub hardware_form : Rule → Rule
 hardware_form rule =
     if bytes_eq rule.id (codes "include") then repeated_names rule
@@ -146,22 +142,19 @@ version_rule = record (by_letter (codes "R") (new_rule (codes "release"))) {
 abbrev pub hardware_help_rule : Rule
 hardware_help_rule = record help_rule { long = Some (codes "help") }
 
--- flashnor's options except `--rehearse`, and `own_rules`, `-R` and `-h`, all with a long name
+-- the options of a program for hardware: `most_rules` without `--rehearse`, then `own_rules`, `-R` and `-h`
 abbrev pub hardware_options : (program : Text) → App
 hardware_options program =
     let shared = with_rules (no_hardware_options_of program) (for_hardware most_rules) in
     with_rule (with_rule (with_rules shared (for_hardware own_rules)) version_rule) hardware_help_rule
 
--- ---- the tables in src/options.rt and src/options/hardware.rt
-
--- the option with the name and the letter of a row; `chosen` sets whether the option takes a value
 abbrev pub named : Choice → Rule
 named choice = record (new_rule choice.name.now) {
   short = choice.letter;
   long = if is_some choice.letter then None else Some choice.name.now;
 }
 
--- the option that a row describes, with a value if the row has a placeholder for it
+-- the option that `choice` describes; it takes a value if `choice.value` is a placeholder
 abbrev pub chosen : Choice → Rule
 chosen choice = record (named choice) {
   action = Some (if is_some choice.value then Set else SetTrue);

@@ -1,4 +1,4 @@
--- The names that `-c` takes in programs for hardware: those of the rows, and other names of chips with the ID of a row.
+-- The names that `-c` accepts in programs for hardware: those of the rows, and of other chips with the ID of a row.
 use Rattle.std.specs.Prelude.{Bool, List, [], ◌∷◌, Option, codes, find, unwrap_or}
 use Rattle.std.specs.List.{list_any}
 use Rattle.std.specs.Str.{bytes_eq}
@@ -7,8 +7,7 @@ use Rattle.nor_probe.specs.declared.table.ChipName.{ChipName}
 use Rattle.nor_probe.specs.declared.table.ChipName.TheVariants as row
 use Rattle.nor_args.specs.Text.{Text}
 
--- The names of the chips that have the ID of a row, except the name of the row. (Winbond datasheets of these chips:
--- manufacturer and device identification; flashrom 1.3.0: the names with a point.)
+-- the names of the chips that have the ID of this row, without the name of the row (sources: see `is_name_of`)
 abbrev pub other_names : ChipName → List Text
 other_names row.W25Q32FV =
     codes "W25Q32BV" ∷ codes "W25Q32CV" ∷ codes "W25Q32DV" ∷ codes "W25Q32JV" ∷ codes "W25Q32JV-Q"
@@ -27,7 +26,6 @@ other_names row.W25Q128JVM = codes "W25Q128.V..M" ∷ []
 other_names row.Sfdp = []
 other_names row.Other = []
 
--- the rows whose ID chips with other names have, too
 abbrev pub rows_with_names : List ChipName
 rows_with_names =
     row.W25Q32FV ∷ row.W25Q64FV ∷ row.W25Q128FV ∷ row.W25Q32FW ∷ row.W25Q64FW ∷ row.W25Q128FW ∷ row.W25Q64JVM
@@ -36,10 +34,9 @@ rows_with_names =
 abbrev pub is_among : List Text → Text → Bool
 is_among names text = list_any (bytes_eq text) names
 
--- the row whose ID a chip with this name has, unless this is the name of a row
 abbrev pub other_named : Text → Option ChipName
 other_named text = find (λ other. is_among (other_names other) text) rows_with_names
 
--- the row for a name in upper case; without one, `Sfdp` or `Other`
+-- the row that has this name, in upper case, as its own or another name; `Sfdp` for `SFDP`, `Other` for any other text
 abbrev pub row_named : Text → ChipName
 row_named text = unwrap_or (other_named text) (name_of text)

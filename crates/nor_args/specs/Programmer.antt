@@ -10,7 +10,6 @@ use Rattle.nor_args.specs.declared.programmer.Programmer.{Programmer}
 use Rattle.nor_args.specs.Numbers.{byte_number, decimal_number, polls_of, unique_number}
 use Rattle.nor_args.specs.Text.{Text, pieces_of, key_of, value_of, reads}
 
--- Holds for the configuration of `chip`, an emulated chip, with a unique ID of zeros.
 abbrev pub IsConfigOfEmulated : Emulated → Config → Type 0
 IsConfigOfEmulated chip = IsMadeOf chip.part
 
@@ -44,18 +43,17 @@ is_alone_in settings setting = nat_le (count_by (has_key (key_of setting)) setti
 abbrev pub are_settings : List Text → Bool
 are_settings settings = list_all (λ setting. is_setting setting && is_alone_in settings setting) settings
 
--- the settings that follow `dummy:` in the value of `-p`
 abbrev pub settings_of : Text → List Text
 settings_of text = pieces_of (drop 6 text)
 
 abbrev pub value_in : List Text → Text → Option Text
 value_in settings key = option_map value_of (find (has_key key) settings)
 
--- the value of `key` in `text`, the value of `-p`
+-- the value of the setting `key` in `text`, which is a value of `-p`
 abbrev pub said : (text key : Text) → Option Text
 said text = value_in (settings_of text)
 
--- true if the text consists of `dummy:` and correct settings, one of which names the chip
+-- True if the text consists of `dummy:` and correct settings, one of which names the chip.
 abbrev pub is_programmer_text : Text → Bool
 is_programmer_text text = starts_with nat_eq text (codes "dummy:")
     && (are_settings (settings_of text) && is_some (option_and_then emulated_named (said text (codes "emulate"))))
@@ -63,7 +61,6 @@ is_programmer_text text = starts_with nat_eq text (codes "dummy:")
 abbrev pub has_stop : Text → Bool
 has_stop text = is_programmer_text text && is_some (option_and_then decimal_number (said text (codes "stop")))
 
--- Holds if the text describes this programmer; a field is `None` if its key is missing.
 pub record IsProgrammer (text : Text) (programmer : Programmer) : Type 0 where
   pub sound : is_programmer_text text ≡ true
   pub chip : option_and_then emulated_named (said text (codes "emulate")) ≡ Some programmer.chip.part

@@ -50,8 +50,6 @@ option_text option.NoVerify = codes "-n"
 option_text option.Unlock = codes "--unlock"
 option_text option.Output = codes "-o"
 
--- ---- fault 3
-
 unfoldable pub is_flawed : List Text → Text → Bool
 is_flawed settings setting = not (is_setting setting) || not (is_alone_in settings setting)
 
@@ -61,7 +59,6 @@ first_flawed settings = find (is_flawed settings) settings
 abbrev pub has_known_key : Text → Bool
 has_known_key setting = list_any (λ known. has_key known.0 setting) keys
 
--- The flaw of a setting that has one: if its key and value are right, another setting has the same key.
 abbrev pub flaw_by : (known valid : Bool) → Flaw
 flaw_by known valid = if not known then flaw.Key else if valid then flaw.Twice else flaw.Value
 
@@ -76,9 +73,6 @@ IsWrongProgrammer text because.NoChip = (starts_with nat_eq text (codes "dummy:"
     × (first_flawed (settings_of text) ≡ None)
 IsWrongProgrammer text _ = ⊥
 
--- ---- fault 4
-
--- each operation with whether it is given, in the order of the help except that `--flash-name` follows `--flash-size`
 abbrev pub operation_choices : Texts → List Choosing
 operation_choices given =
     (given.list, option.List) ∷ (given.flash_size, option.FlashSize) ∷ (given.flash_name, option.FlashName)
@@ -92,8 +86,6 @@ operation_choices given =
 abbrev pub operations_reason : (first last : Option OptionName) → Reason
 operations_reason (Some first) (Some last) = because.Operations first last
 operations_reason first last = because.Unsaid
-
--- ---- faults 5 to 9
 
 abbrev pub IsWrongRange : Option Text → Reason → Type 0
 IsWrongRange (Some value) (because.Range text) = text.now ≡ value
@@ -109,13 +101,13 @@ abbrev pub dash_reason : Option OptionName → Reason
 dash_reason (Some option) = because.Dash option
 dash_reason None = because.Unsaid
 
--- Holds if this is the reason of fault 5: first a wrong `--progress`, then a wrong `--wp-range`, then a file `-`.
+-- Holds if `reason` explains fault 5: a wrong `--progress` precedes a wrong `--wp-range`, and both precede a file `-`.
 abbrev pub IsWrongValue : (wrong_mode wrong_range : Bool) → Texts → Reason → Type 0
 IsWrongValue true wrong_range given reason = IsWrongMode given.progress reason
 IsWrongValue false true given reason = IsWrongRange given.wp_range reason
 IsWrongValue false false given reason = reason ≡ dash_reason (dashed given)
 
--- the option that asks for the change; `--wp-range` also if none does
+-- the option that asks for the change, or `--wp-range` if no option does
 abbrev pub change_option : Texts → OptionName
 change_option given = if is_some given.write then option.Write else if given.erase then option.Erase else option.WpRange
 
@@ -130,7 +122,6 @@ layout_choices given =
     (is_some given.layout, option.Layout) ∷ (is_some given.fmap_file, option.FmapFile)
     ∷ (is_some given.ifd_file, option.IfdFile) ∷ (given.fmap, option.Fmap) ∷ (given.ifd, option.Ifd) ∷ []
 
--- the reason of fault 7 if at most one layout is given
 abbrev pub names_reason : (layout : Option OptionName) → (names : Option Text) → Reason
 names_reason (Some layout) (Some names) = because.NoRegions layout
 names_reason (Some layout) None = because.NoNames layout
@@ -142,7 +133,6 @@ regions_reason given =
     then operations_reason (first_given (layout_choices given)) (first_given (reverse (layout_choices given)))
     else names_reason (first_given (layout_choices given)) given.names
 
--- the reason of fault 8 for an option that needs `--check-journal` or `--restore`
 abbrev pub journal_option_reason : Texts → Reason
 journal_option_reason given =
     if lacks_check given then because.NoCheck
@@ -169,13 +159,11 @@ IsWrongStops (Some text) because.StopAndRehearse = (first_unread text ≡ None) 
 IsWrongStops None because.Unsaid = ⊤
 IsWrongStops text _ = ⊥
 
--- ---- all faults
-
 abbrev pub IsProgrammerReason : Option Text → Reason → Type 0
 IsProgrammerReason (Some text) reason = IsWrongProgrammer text reason
 IsProgrammerReason None reason = reason ≡ because.Unsaid
 
--- Holds if `reason` is the reason of this fault. It says what is wrong if the options have the fault.
+-- Holds if `reason` is the reason of this fault. A reason is meaningful only if the options have its fault.
 abbrev pub IsReason : Texts → UsageFault → Reason → Type 0
 IsReason given why.NoProgrammer reason = reason ≡ because.NoProgrammer
 IsReason given why.Programmer reason = IsProgrammerReason given.programmer reason

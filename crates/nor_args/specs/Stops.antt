@@ -1,10 +1,9 @@
--- The value of `--rehearse`: the numbers of transactions after which a rehearsal stops its session and its restores.
+-- The value of `--rehearse`: the numbers of transactions after which a rehearsal stops its session and first restores.
 use Rattle.std.specs.Prelude.{◌&&◌, ℕ, List, Option, Some, None, length, filter_map, nat_le, if◌then◌else◌}
 use Rattle.std.specs.List.{list_all}
 use Rattle.nor_args.specs.Text.{Text, pieces_of, reads}
 use Rattle.nor_args.specs.Numbers.{decimal_number}
 
--- the numbers between the commas; `None` if a part isn't a number, or if there are more than 64 parts
 abbrev pub stops_of : Text → Option (List ℕ)
 stops_of text =
     if list_all (reads decimal_number) (pieces_of text) && nat_le (length (pieces_of text)) 64

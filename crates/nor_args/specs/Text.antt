@@ -1,4 +1,4 @@
--- Texts as lists of bytes, and how commas and `=` divide them.
+-- Texts as lists of bytes, and how commas, colons and `=` divide them.
 use Rattle.std.specs.Prelude.{◌==◌, ◌||◌, ◌&&◌, ℕ, Bool, List, Option, is_some, nat_le}
 use Rattle.std.specs.Char.{is_control}
 use Rattle.std.specs.List.{slice_split, before_first, after_first}
@@ -6,7 +6,6 @@ use Rattle.std.specs.List.{slice_split, before_first, after_first}
 abbrev pub Text : Type 0
 Text = List ℕ
 
--- true for a control character, and for one that changes the direction of the text after it
 abbrev pub is_hidden : (character : ℕ) → Bool
 is_hidden character = is_control character
     || ((nat_le 0x202A character && nat_le character 0x202E) || (nat_le 0x2066 character && nat_le character 0x2069))
@@ -21,7 +20,6 @@ front_of = before_first (λ byte. byte == 44)
 abbrev pub rest_of : Text → Text
 rest_of = after_first (λ byte. byte == 44)
 
--- the bytes that precede the first `=`, or the whole text if it has no `=`
 abbrev pub key_of : Text → Text
 key_of = before_first (λ byte. byte == 61)
 

@@ -20,7 +20,7 @@ use Rattle.nor_args.specs.declared.reasons.WrongArguments.{WrongArguments}
 use Rattle.nor_args.specs.declared.words.UsageFault.{UsageFault}
 use Rattle.nor_args.specs.declared.words.UsageFault.TheVariants as why
 
--- the arguments of a run: all that the system provides after the program's name
+-- the arguments of a run, without the program's name
 abbrev pub arguments_of : IntoIter (String Global) Global → List Text
 arguments_of args = map string_bytes (drop 1 (into_iter_items args))
 
@@ -55,8 +55,6 @@ pub record BecomesWrong (error : Error) (wrong : WrongArguments) : Type 0 where
 pub record IsRefusedArguments (words : List Text) : Type 0 where
   pub no_job : (job : Job) → IsJob words job → ⊥
   pub no_help : IsAmong kind.DisplayHelp (refusals_of words) → ⊥
-
--- ---- programs for hardware
 
 abbrev pub hardware_refusals_of : (program : Text) → List Text → Kinds
 hardware_refusals_of program words = fault_of (hardware_options program) words

@@ -61,7 +61,6 @@ fn is_flawed(list: &str, setting: &str) -> bool
     !is_setting(setting) || !is_alone(list, setting)
 }
 
-// If the key is known and the value is correct, another setting has the same key.
 fn flaw_of(setting: &str) -> Flaw
     ensures { result ≡ flaw_of setting.now }
 {

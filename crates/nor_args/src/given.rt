@@ -79,7 +79,6 @@ pub struct Given<'a> {
     progress: Option<&'a str>,
     verbose: bool,
     log: Option<&'a str>,
-    // True in a program for hardware, which takes no file with the name `-`.
     is_hardware: bool,
 }
 
@@ -159,8 +158,7 @@ impl<'a> Given<'a> {
         }
     }
 
-    /// Returns the job that the options ask for, or the first of their faults 2 to 9. `--check-journal` must be
-    /// missing.
+    /// Returns the job that the options ask for, or the first of their faults 2 to 9. `--check-journal` must be absent.
     pub fn job(self) -> Result<Job<'a>, UsageFault>
         requires { (texts_of self).check_journal ≡ None }
         ensures { MatchResult result
@@ -180,12 +178,9 @@ impl<'a> Given<'a> {
         }
     }
 
-    /// Returns the job of a program for hardware: with `--check-journal` the check of a journal, with `-L` the list of
-    /// chips, otherwise the value of `-p` and the operation or the first of the faults 4 to 9. `named` must be the
-    /// result of `chip_named`.
-    ///
-    /// With `--check-journal` or `-L`, returns the first of the faults 4 to 9 if the options have one. Returns fault 2
-    /// if `-p`, `--check-journal` and `-L` are all missing.
+    /// Returns the job of a program for hardware. `named` must be the result of `chip_named`. Returns fault 2 if `-p`,
+    /// `--check-journal` and `-L` are all missing. With `--check-journal` or `-L`, returns the first of the faults 4 to
+    /// 9 if the options have one. With neither option, this fault is part of the job.
     pub fn hardware_job(
         self,
         named: Option<ChipName>,
@@ -239,7 +234,6 @@ impl<'a> Given<'a> {
         }
     }
 
-    // The faults of the other options are the same for each correct value of `-p` without a `stop=`.
     fn emulated(&self) -> Given<'a>
         ensures { texts_of result
             ≡ record (texts_of self.now) { programmer = Some (codes "dummy:emulate=TINY64") } }

@@ -10,7 +10,6 @@ use nor_probe::ChipName;
 /// The job that the arguments of flashnor ask for.
 #[derive(Drop)]
 pub enum Job<'a> {
-    /// `-L`: list the table of chips.
     List,
     /// Without `-L`: identify a chip, and perform at most one operation on it.
     Chip(ChipJob<'a>),
@@ -19,7 +18,6 @@ pub enum Job<'a> {
 /// A job of flashnor on the emulated chip that `-p` names.
 #[derive(Drop)]
 pub struct ChipJob<'a> {
-    /// The parsed value of `-p`: the emulated chip and its files.
     pub programmer: Programmer<'a>,
     /// `-c NAME`: the name that the chip must have.
     pub named: Option<ChipName>,
@@ -36,11 +34,10 @@ pub enum HardwareJob<'a> {
     },
     /// `-L`: list the chips that have a row. Ignores `-p`.
     List,
-    /// Without `--check-journal` and `-L`: a job on the chip of a programmer.
     Chip(ProgrammerJob<'a>),
 }
 
-/// A job on the chip of a programmer.
+/// A job of a program for hardware on the chip of a programmer.
 #[derive(Drop)]
 pub struct ProgrammerJob<'a> {
     /// The value of `-p` as you typed it. This crate doesn't parse it.
@@ -53,38 +50,34 @@ pub struct ProgrammerJob<'a> {
 /// An operation of a program for hardware, and how the program performs and shows it.
 #[derive(Drop)]
 pub struct Operation<'a> {
-    /// `-c NAME`: the name that the chip must have.
     pub named: Option<ChipName>,
     /// True without `-N`: compare what a restore left alone, and the whole chip after a verified write or erase.
     pub verifies_all: bool,
-    /// True with `--quick`: a restore rewrites only the saved sectors that differ.
+    /// True with `--quick`: a restore writes only the saved sectors that differ.
     pub is_quick: bool,
     /// True with `--replaced-chip`: a restore accepts a journal of a whole chip for another device of the same type.
     pub is_replaced_chip: bool,
     /// True with `--backup`: `task` is `Task::Read`, and its file is a new journal that saves the whole chip.
     pub is_backup: bool,
-    /// True with `--flash-name`: `task` is `Task::Probe`, and the program prints only the name of the identified chip.
+    /// True with `--flash-name`: `task` is `Task::Probe`, and the program prints the name of the identified chip.
     pub is_flash_name: bool,
     /// `--wp-enable` (true) or `--wp-disable` (false): `task` is `Task::Probe`. Sets or clears SRP0, bit 7 of status 1.
     pub srp0: Option<bool>,
-    /// The mode of `--progress MODE`: how the program shows its progress.
     pub progress: ProgressMode,
-    /// True with `-V`: the program prints more about the run.
     pub is_verbose: bool,
     /// `-o FILE`: the name of the file into which the log of the run is written.
     pub log: Option<&'a str>,
     pub task: Task<'a>,
 }
 
-/// How a program for hardware shows the progress of its job.
+/// How a program for hardware shows the progress of its job (`--progress MODE`).
 #[derive(Clone, Copy)]
 pub enum ProgressMode {
-    /// `auto`, the default: on standard error, one line that is rewritten on a terminal, lines on another character
-    /// device, and nothing otherwise.
+    /// `auto`, the default: one rewritten line on a terminal, lines below each other on another character device, and
+    /// at most one line per minute on any other standard error.
     Auto,
-    /// `plain`: progress is shown as lines below each other, even if standard error is a file or a pipe.
+    /// `plain`: lines below each other, even if standard error is a file or a pipe.
     Plain,
-    /// `none`: no progress is shown.
     Hidden,
 }
 
@@ -110,27 +103,21 @@ impl ProgressMode {
 /// An operation on a chip.
 #[derive(Drop)]
 pub enum Task<'a> {
-    /// Only identify the chip: without an operation, and for `Operation::is_flash_name` and `Operation::srp0`.
+    /// Identify the chip. In a program for hardware, `is_flash_name` and `srp0` of `Operation` say what follows.
     Probe,
-    /// `--flash-size`: print the size of the chip.
     FlashSize,
-    /// `--wp-status`: print the protected range, and whether the status is locked.
     WpStatus,
-    /// `--wp-list`: list the ranges that can be protected.
     WpList,
     /// `-r FILE`, or `--backup FILE` (`Operation::is_backup`): read the chip into the named file.
     Read {
         file: &'a str,
         regions: Option<Regions<'a>>,
     },
-    /// `-v FILE`: compare the chip with the named file.
     Verify {
         file: &'a str,
         regions: Option<Regions<'a>>,
     },
-    /// `-w FILE`, `-E` or `--wp-range S,L`: change the chip.
     Change(Change<'a>),
-    /// `--restore FILE`: restore the chip from the journal in the named file.
     Restore {
         journal: &'a str,
     },
@@ -142,7 +129,7 @@ pub struct Regions<'a> {
     /// The file that `-l`, `--fmap-file` or `--ifd-file` names, or `None` if the layout is read from the chip.
     pub layout: Option<&'a str>,
     pub form: LayoutForm,
-    /// `-i NAMES`: the names of the regions, separated by commas.
+    /// `-i NAMES`: the names of the regions, separated by commas; in a program for hardware also `NAME:FILE`.
     pub names: &'a str,
 }
 
@@ -150,7 +137,7 @@ pub struct Regions<'a> {
 pub enum LayoutForm {
     /// `-l` of flashnor: lines `START:END NAME`.
     Lines,
-    /// `-l` of a program for hardware: lines `START:END NAME` with any blanks between and around, as in flashrom.
+    /// `-l` of a program for hardware: lines `START:END NAME` with any blanks around the two words, as in flashrom.
     Words,
     /// `--fmap-file` and `--fmap`: an image or the bytes of the chip, with an FMAP.
     Fmap,
@@ -161,7 +148,6 @@ pub enum LayoutForm {
 /// A write, an erase or a change of protection, either with a journal or as a rehearsal.
 #[derive(Drop)]
 pub struct Change<'a> {
-    /// The target: what the chip or its protection must become.
     pub wanted: Wanted<'a>,
     /// The regions to which the change is limited, or `None` for the whole chip.
     pub regions: Option<Regions<'a>>,
@@ -175,7 +161,6 @@ pub struct Change<'a> {
 /// The target of a change.
 #[derive(Clone, Copy)]
 pub enum Wanted<'a> {
-    /// `-w FILE`: the image in the named file.
     Write { image: &'a str },
     /// `-E`: FFh for each included byte.
     Erase,
@@ -186,9 +171,8 @@ pub enum Wanted<'a> {
 /// What is done with the journal of a change.
 #[derive(Drop)]
 pub enum JournalUse<'a> {
-    /// `--journal FILE`: write the journal into the named file.
     Journal { file: &'a str },
-    /// `--rehearse N,N,..`: rehearse the change, and restore the chip in memory. The change stops after the first
-    /// number of transactions and each restore after the next; the last restore isn't stopped.
+    /// `--rehearse N,N,..`: the change stops after the first number of transactions, and each further number stops one
+    /// more restore. The last restore isn't stopped.
     Rehearse { stops: ArrayVec<u64, MOST_STOPS> },
 }

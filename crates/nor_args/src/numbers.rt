@@ -22,8 +22,7 @@ pub fn read_polls(text: &str) -> Option<u16>
     u16::try_from(polls).ok()
 }
 
-/// Parses a start and a length with a comma between them, or returns `None`. Each is hexadecimal after `0x`, else
-/// decimal.
+/// Parses `START,LENGTH`, each decimal or `0x..` as in `number_or_length`. Returns `None` for any other text.
 pub fn read_range(text: &str) -> Option<(u32, u32)>
     ensures { result ≡ range_of text.now }
 {
@@ -31,8 +30,8 @@ pub fn read_range(text: &str) -> Option<(u32, u32)>
     Some((read_place(start)?, read_place(len)?))
 }
 
-/// Parses a clock: a number of hertz, or of kHz or MHz if `k` or `M` follows it, in either case as in flashrom. Returns
-/// `None` for any other text, for 0 Hz, and for more than 4,294,967,295 Hz.
+/// Parses a clock in hertz, or in kHz or MHz if `k` or `M` (in upper or lower case, as in flashrom) follows the number.
+/// Returns `None` for any other text, for 0 Hz, and for more than 4,294,967,295 Hz.
 pub fn read_clock(text: &str) -> Option<u32>
     ensures { result ≡ clock_of text.now }
 {
@@ -84,7 +83,7 @@ fn read_numeral(text: &str, radix: u32, most: usize, greatest: u64) -> Option<u6
     }
 }
 
-// True for an empty text, too. In contrast to `from_str_radix`, this accepts no leading plus sign.
+// Returns true for an empty text, too. In contrast to `from_str_radix`, this function accepts no leading plus sign.
 fn has_digits(text: &str, radix: u32) -> bool
     requires { (2 ≤ radix) × (radix ≤ 36) }
     ensures { result ≡ list_all (λ digit. is_digit digit radix) text.now }

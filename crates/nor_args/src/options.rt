@@ -82,18 +82,16 @@ Error 15: journal fault 7: the digest differs: the file is damaged
 
 The manual page, flashnor(8), says what to do about each fault.";
 
-// An option: how it is written, and its line in the help.
+// An option, and its line in the help.
 struct Choice {
-    // The letter of the option. Every program gives an option without a letter its long name.
     letter: Option<char>,
-    // The option's ID for `clap`, and its long name. In flashnor only options without a letter have a long name.
+    // The ID for `clap` and, except for `-L`, the long name. In flashnor only options without a letter have a long one.
     name: &'static str,
     // The placeholder of the option's value in the help; a flag has none.
     value: Option<&'static str>,
     help: &'static str,
 }
 
-// All options of flashnor except `-h`, in the order of the help.
 static CHOICES: [Choice; 18] = [
     Choice {
         letter: Some('p'),
@@ -213,15 +211,13 @@ pub fn make_options<'a>(alloc: Global) -> Result<Command<'a>, AllocError>
     chosen.arg(help_option(alloc))
 }
 
-/// The name and the version of a program, and the texts of its help above and below the options.
+/// The name and the version of a program, and the texts above (`about`) and below (`notes`) the options in its help.
 #[derive(Clone, Copy)]
 pub struct Help {
     pub program: &'static str,
     /// The version, which `--version` of a program for hardware prints after the name.
     pub version: &'static str,
-    /// The first line of the help.
     pub about: &'static str,
-    /// The end of the help, below the options.
     pub notes: &'static str,
 }
 
@@ -307,7 +303,6 @@ impl Choice {
         }
     }
 
-    // The caller must still set whether the option takes a value.
     fn named<'a>(&self, alloc: Global) -> Arg<'a>
         ensures { IsOption (named self.now) result }
     {

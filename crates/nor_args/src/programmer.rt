@@ -9,12 +9,11 @@ use crate::settings::setting_value;
 use nor_model::Config;
 use nor_probe::{Part, emulated_part};
 
-/// A chip that the program emulates: `TINY64`, or a chip of the table.
+/// A chip that flashnor emulates: `TINY64`, or a chip that `-L` lists with its ID.
 #[derive(Clone, Copy)]
 pub struct Emulated {
-    /// The chip type as which the program identifies this chip: by its ID or, for TINY64, by its SFDP.
+    /// The chip type that an identification of this chip finds: by the ID or, for TINY64, by the SFDP.
     pub part: Part,
-    /// For proofs: `part` is the type of a chip that the program emulates.
     pub ghost emulated: { IsEmulatedPart part },
 }
 
@@ -58,9 +57,7 @@ impl Emulated {
 /// The value of `-p`: `dummy:` and settings `key=value` in any order, each key at most once. `emulate=` is required.
 #[derive(Clone, Copy)]
 pub struct Programmer<'a> {
-    /// `emulate=NAME`: the chip to emulate.
     pub chip: Emulated,
-    /// `image=FILE`: the file with the chip's bytes.
     pub image: Option<&'a str>,
     /// `status=FILE`: the file with the chip's two status bytes.
     pub status: Option<&'a str>,
@@ -68,7 +65,7 @@ pub struct Programmer<'a> {
     pub trace: Option<&'a str>,
     /// `stop=N`: the number of transactions after which the bus stops.
     pub stop: Option<u64>,
-    /// `unique=HEX`: the chip's unique ID, as 16 hexadecimal digits.
+    /// `unique=HEX`: the chip's unique ID, given as 16 hexadecimal digits.
     pub unique: Option<[u8; 8]>,
     /// `busy=N`: the number of polls that show BUSY after each program, erase or status write.
     pub busy: Option<u16>,

@@ -80,21 +80,18 @@ impl OptionName {
     }
 }
 
-/// What is wrong with a setting of `-p`.
+/// What is wrong with a setting of `-p`: an unknown key, a wrong value, or a key that another setting has, too.
 #[derive(Clone, Copy)]
 pub enum Flaw {
-    /// The setting's key is unknown.
     Key,
-    /// The setting's key is known, but may not have this value.
     Value,
-    /// Another setting has the same key as this one.
     Twice,
 }
 
 impl Flaw {
     ghost use Rattle.nor_args.specs.Reasons.{flaw_by};
 
-    /// Returns the flaw of a setting that has one: `known` for its key, `valid` for its key and its value.
+    /// Returns the flaw of a wrong setting. `known`: its key is known. `valid`: its key is known, its value correct.
     pub fn of(known: bool, valid: bool) -> Flaw
         ensures { result ≡ flaw_by known valid }
     {
@@ -106,22 +103,20 @@ impl Flaw {
     }
 }
 
-/// The reason of a usage fault. The number at each variant is the number of this fault.
+/// The reason of a usage fault. A number at a variant is the number of the fault.
 #[derive(Clone, Copy)]
 pub enum Reason<'a> {
     /// 1 and 10: there is no reason, because `clap`'s message contains it, or because memory ran out.
     Unsaid,
-    /// 2: `-p` is missing.
     NoProgrammer,
     /// 3: the value of `-p` doesn't begin with `dummy:`.
     NoPrefix,
-    /// 3: `setting` is the first setting of `-p` that has a flaw, and `flaw` says which.
+    /// 3: `setting` is the first setting of `-p` that has a flaw, and `flaw` is this flaw.
     Setting { setting: &'a str, flaw: Flaw },
     /// 3: no setting of `-p` has a flaw, but `emulate=` is missing.
     NoChip,
-    /// 4: the first and the last given operation, in the order of the help except that `--flash-name` follows
-    /// `--flash-size`. 7: the first and the last given layout, in the order `-l`, `--fmap-file`, `--ifd-file`,
-    /// `--fmap`, `--ifd`.
+    /// 4: the first and the last given operation, in the order of the help, but `--flash-name` after `--flash-size`. 7:
+    /// the first and the last given layout, in the order `-l`, `--fmap-file`, `--ifd-file`, `--fmap`, `--ifd`.
     Operations { first: OptionName, last: OptionName },
     /// 5: this value of `--wp-range` isn't a start and a length.
     Range(&'a str),
@@ -131,7 +126,6 @@ pub enum Reason<'a> {
     Dash(OptionName),
     /// 6: this option asks for a change, but neither `--journal` nor `--rehearse` is given.
     NoJournal(OptionName),
-    /// 6: both `--journal` and `--rehearse` are given.
     JournalAndRehearse,
     /// 6: this option (`--journal` or `--rehearse`) is given without any of `-w`, `-E` and `--wp-range`.
     NoChange(OptionName),

@@ -7,19 +7,16 @@ use clap::error::ErrorKind;
 use clap::{Command, Error as WordsError};
 use std::alloc::{AllocError, Global};
 
-// What surrounds an unknown argument in the text of `clap`'s error.
 const BEFORE_UNKNOWN: &str = "error: unexpected argument '";
 
 const AFTER_UNKNOWN: &str = "' found\n\n";
 
-// The beginning of the usage, which follows the message in the text of `clap`'s error.
 const USAGE: &str = "\n\nUsage: ";
 
-/// Whose options are parsed.
+/// The program whose options are parsed.
 #[derive(Clone, Copy)]
 pub enum Program {
     Flashnor,
-    /// A program for hardware.
     Hardware,
 }
 
@@ -59,7 +56,7 @@ fn message_of_unknown(alloc: Global, program: Program, text: &str) -> Result<Str
     Ok(message)
 }
 
-// What follows the argument doesn't contain it, so the argument ends before the last `AFTER_UNKNOWN`.
+// Nothing after the argument repeats `AFTER_UNKNOWN`, so the argument ends before the last `AFTER_UNKNOWN`.
 fn unknown_in(text: &str) -> &str {
     let rest = text.strip_prefix(BEFORE_UNKNOWN).unwrap_or(text);
     match rest.rsplit_once(AFTER_UNKNOWN) {
@@ -68,7 +65,6 @@ fn unknown_in(text: &str) -> &str {
     }
 }
 
-// Returns the message for an unneeded value with the value escaped, or `None` if nothing must be escaped.
 fn message_of_value(alloc: Global, text: &str) -> Result<Option<String>, AllocError> {
     let said = match text.rsplit_once(USAGE) {
         Some((said, _)) => said,

@@ -14,22 +14,19 @@ use std::alloc::{AllocError, Global};
 use std::fmt;
 use thiserror::Error;
 
-/// A usage fault: why the arguments ask for no job. Each variant begins with the number in its message. The first of
-/// the faults 1 to 9 is returned; fault 10 is possible with any arguments.
+/// A usage fault, with its number: the lowest of the faults 1 to 9 that applies, or 10 if memory runs out.
 #[derive(Debug, Drop, Error)]
 pub enum UsageFault {
-    /// 1: `clap` rejects the arguments, or they ask for the help. In a program for hardware also: they ask for the
-    /// version. The error has the text to print.
+    /// 1: `clap` rejects the arguments, or they ask for the help or the version. The error contains the text to print.
     Words(WordsError),
     /// 2: both `-p` and `-L` are missing. For a program for hardware: `-p`, `-L` and `--check-journal` are missing.
     NoProgrammer,
     /// 3: the value of `-p` doesn't describe a programmer.
     Programmer,
-    /// 4: more than one operation is given.
     TwoOperations,
     /// 5: `--wp-range` or `--progress` has a wrong value, or an option of a program for hardware names the file `-`.
     Range,
-    /// 6: a change without exactly one of `--journal` and `--rehearse`, or one of these without a change.
+    /// 6: a change without exactly one of `--journal` and `--rehearse`, or either of these without a change.
     Journal,
     /// 7: a layout without `-i`, `-i` without a layout, both without `-r`, `-v`, `-w` or `-E`, or several layouts.
     Layout,
@@ -37,7 +34,6 @@ pub enum UsageFault {
     Unneeded,
     /// 9: the value of `--rehearse` isn't 1 to 64 numbers, or `-p` has a `stop=`, too.
     Stops,
-    /// 10: memory ran out.
     Memory,
 }
 
@@ -63,7 +59,6 @@ impl UsageFault {
     }
 }
 
-// This `Display` is written by hand, because a derived one has no contract.
 impl fmt::Display for UsageFault {
     ghost use Rattle.nor_args.specs.Faults.{usage_fault_text};
 
@@ -126,15 +121,11 @@ pub fn explained_request_of<'a>(
     }
 }
 
-/// Returns the job that the arguments of a program for hardware ask for. `words` has the arguments after the program's
-/// name; `names` receives the values of all `-i`, with commas between them. The value of `-p` isn't parsed.
+/// Returns the job that `words`, the arguments of a program for hardware after its name, ask for. Sets `names` to the
+/// values of all `-i`, joined with commas.
 ///
-/// Returns one of these usage faults with its reason:
-///
-/// - fault 1 if `clap` rejects the arguments, or if they ask for the help or the version
-/// - fault 2 if `-p`, `--check-journal` and `-L` are all missing
-/// - with `--check-journal` or `-L`, the first of the faults 4 to 8; otherwise it is part of the job (`ProgrammerJob`)
-/// - fault 10 if memory runs out
+/// Returns with its reason: fault 1 or 10; fault 2 if `-p`, `--check-journal` and `-L` are all missing; or, with
+/// `--check-journal` or `-L`, the first of the faults 4 to 8. With neither, this fault is part of the `ProgrammerJob`.
 pub fn operation_of<'a>(
     alloc: Global,
     help: Help,
@@ -155,7 +146,6 @@ pub fn operation_of<'a>(
     Given::of_hardware(&matches, names.as_deref()).hardware_job(named)
 }
 
-// The text of an error has each argument escaped (`reword`).
 fn parse_words<'a>(
     alloc: Global,
     program: Program,

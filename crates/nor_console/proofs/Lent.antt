@@ -1,4 +1,4 @@
--- The effect of borrowing a vault in a file and taking it back, on this file and on all others.
+-- If a vault in a file is borrowed and taken back, this file has the vault's bytes. Files apart from it stay the same.
 use Rattle.std.proofs.Common.{◌≡◌, ◌∙◌, Some, ap, refl, subst, sym, true}
 use Rattle.nor_files.specs.Calls.{Borrows, TakesBack}
 use Rattle.nor_files.specs.Files.{AreApart, FilesState, Name, Nature, KeepsFile, is_lawful}

@@ -1,4 +1,3 @@
--- The text that several writes print one after the other.
 use Rattle.std.proofs.Common.{ℕ, ◌+◌, ◌<◌, List, [], ◌∷◌, ◌++◌, Option, add-one, append-nil, flat_map, get_or}
 use Rattle.std.proofs.Common.{length, take}
 use Rattle.std.proofs.Math.Seq.{take-suc}

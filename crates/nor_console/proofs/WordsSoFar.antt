@@ -1,4 +1,3 @@
--- Lemmas about the words of a text, one byte at a time.
 use Rattle.std.proofs.Common.{◌≡◌, ℕ, ◌+◌, ◌++◌, ◌<◌, ◌≤◌, List, drop, get_or, length}
 use Rattle.std.proofs.lemmas.List.{append_assoc, append-nil, drop_all, drop_more}
 use Rattle.nor_console.specs.LayoutWords.{in_words, kept_in_words, place_after}

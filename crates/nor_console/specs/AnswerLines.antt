@@ -70,7 +70,6 @@ abbrev pub protection_lines : Protection → List ℕ
 protection_lines protection = protected_line protection.range
     ++ line (codes "Mode: " ∷ (if protection.locked then codes "locked" else codes "open") ∷ [])
 
--- the line of a range, by its first address and its length in bytes
 abbrev pub range_line : ℕ × ℕ → List ℕ
 range_line range = line (codes "0x" ∷ hex_digits 6 range.0 ∷ codes ",0x" ∷ hex_digits 6 range.1 ∷ [])
 

@@ -34,7 +34,6 @@ role_text role.Wanted = codes "the image of -w or -v"
 role_text role.Output = codes "the file of -r"
 role_text role.Journal = codes "the journal"
 
--- what could not be done with the file: `read` for file fault 1, and otherwise `written`
 abbrev pub verb_of : FileFault → List ℕ
 verb_of file.Read = codes "read"
 verb_of _ = codes "written"
@@ -45,7 +44,7 @@ system_line fault name system.Directory = concat (codes "error: '" ∷ escaped n
 system_line fault name reason = concat (codes "error: '" ∷ escaped name ∷ codes "' can't be " ∷ verb_of fault
     ∷ codes ": " ∷ system_text reason ∷ codes "\n" ∷ [])
 
--- the line with the cause of a file fault, or no bytes if nothing is known but the fault
+-- the line with the cause of a file fault, or no bytes if the cause is unknown
 abbrev pub cause_line : FileFault → Text → Cause → List ℕ
 cause_line fault name because.Unknown = []
 cause_line fault name (because.System reason) = system_line fault name reason

@@ -1,5 +1,4 @@
--- The faults of files. A definition with `Happens view` also states that these files may have the failure that causes
--- the fault. A file is known (`IsKnownFile`) if the files obey their contract and no vault or log in it is borrowed.
+-- File faults. A file is known (`IsKnownFile`) if the files obey their contract and no vault or log in it is borrowed.
 use Rattle.std.specs.Prelude.{◌≡◌, ◌≢◌, ◌<◌, ◌+◌, ◌⊎◌, ℕ, List, None, length}
 use Rattle.nor_request.specs.declared.refusal.Refusal.TheVariants.{Memory}
 use Rattle.nor_args.specs.Text.{Text}
@@ -28,22 +27,20 @@ IsNotLocked why.Unheld name (end.File file.Write of cause) = of.now ≡ name
 IsNotLocked why.Busy name (end.File file.Taken of cause) = of.now ≡ name
 IsNotLocked _ name _ = ⊥
 
--- Holds if reading at most `most` bytes of the named file may fail with this fault. File fault 1 needs a missing file,
--- a failure, or a file that isn't known (`IsKnownFile`).
+-- Holds if reading at most `most` bytes of the named file may fail with this fault.
 abbrev pub IsReadingFault : View → Text → ℕ → Fault → Type 0
 IsReadingFault view name most (end.Refused refusal) = refusal ≡ Memory
 IsReadingFault view name most (end.File file.Read of cause) =
     (of.now ≡ name) × (ReadsFile name most None view ⊎ Happens view (Unread name))
 IsReadingFault view name most _ = ⊥
 
--- Holds for file fault 1 if the file has more than `most` bytes, or isn't known (`IsKnownFile`).
+-- Holds if this is file fault 1, and the named file has more than `most` bytes or isn't known (`IsKnownFile`).
 abbrev pub IsTooLong : View → Text → ℕ → Fault → Type 0
 IsTooLong view name most (end.File file.Read of cause) =
     (of.now ≡ name) × ((bytes : List ℕ) × IsRead view name (most + 1) bytes × (most < length bytes))
 IsTooLong view name most _ = ⊥
 
--- Holds if reading a chip's file, which must have `len` bytes, may fail with this fault. A missing file is no fault; a
--- file that isn't known (`IsKnownFile`) may have any length.
+-- Holds if reading a chip's file, which must have `len` bytes unless it is missing, may fail with this fault.
 abbrev pub IsOpeningFault : View → Text → ℕ → Fault → Type 0
 IsOpeningFault view name len (end.Refused refusal) = refusal ≡ Memory
 IsOpeningFault view name len (end.File file.Read of cause) = (of.now ≡ name) × Happens view (Unread name)
@@ -51,8 +48,7 @@ IsOpeningFault view name len (end.File file.Length of cause) =
     (of.now ≡ name) × ((bytes : List ℕ) × IsRead view name (len + 1) bytes × (length bytes ≢ len))
 IsOpeningFault view name len _ = ⊥
 
--- Holds if locking and reading a chip's file, which must have `len` bytes, may fail with this fault. File fault 1 is
--- also possible if the file is missing now (it existed when it was locked), or isn't known (`IsKnownFile`).
+-- Holds if locking and reading a chip's file, which must have `len` bytes, may fail with this fault.
 abbrev pub IsLockingFault : View → Text → ℕ → Fault → Type 0
 IsLockingFault view name len (end.File file.Read of cause) =
     (of.now ≡ name) × (ReadsFile name (len + 1) None view ⊎ Happens view (Unread name))
@@ -66,8 +62,7 @@ IsSharingFault view name most (end.File file.Write of cause) = (of.now ≡ name)
 IsSharingFault view name most (end.File file.Taken of cause) = (of.now ≡ name) × Happens view (Busy name)
 IsSharingFault view name most fault = IsReadingFault view name most fault
 
--- Holds if creating or truncating the file of this name may fail with this fault. File fault 4: the file exists but
--- must be new, or may be a journal, which `Disk` never truncates.
+-- Holds if creating or truncating the file of this name may fail with this fault.
 abbrev pub IsMaking : View → Text → Fault → Type 0
 IsMaking view name (end.Refused refusal) = refusal ≡ Memory
 IsMaking view name (end.File file.Write of cause) = (of.now ≡ name) × Happens view (Unmade name)

@@ -3,18 +3,16 @@ use Rattle.std.specs.Prelude.{ℕ, Bool, List, [], ◌∷◌, ◌++◌, ◌||◌
 use Rattle.nor_console.specs.declared.layout_words.Place.{Place}
 use Rattle.nor_console.specs.declared.layout_words.Place.TheVariants as place
 
--- true for the tab, the vertical tab, the form feed, the carriage return and the space
 abbrev pub is_separator : ℕ → Bool
 is_separator byte =
     nat_eq byte 9 || (nat_eq byte 11 || (nat_eq byte 12 || (nat_eq byte 13 || nat_eq byte 32)))
 
--- what precedes the next byte, if `before` precedes this one
 abbrev pub place_after : (before : Place) → (byte : ℕ) → Place
 place_after place.Start byte =
     if nat_eq byte 10 then place.Start else if is_separator byte then place.Start else place.Word
 place_after _ byte = if nat_eq byte 10 then place.Start else if is_separator byte then place.Blank else place.Word
 
--- what a byte becomes: nothing if it is a blank; a space and itself if it begins a later word of its line; else itself
+-- the bytes that replace `byte`: none for a blank, a space and `byte` if it begins a later word of a line, else `byte`
 abbrev pub kept_in_words : (before : Place) → (byte : ℕ) → List ℕ
 kept_in_words place.Blank byte =
     if nat_eq byte 10 then byte ∷ [] else if is_separator byte then [] else 32 ∷ byte ∷ []

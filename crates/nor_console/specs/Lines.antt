@@ -2,7 +2,6 @@
 use Rattle.std.specs.Prelude.{ℕ, List, [], ◌∷◌, ◌++◌, codes, slice_index}
 use Rattle.nor_request.specs.Texts.{hex_digits}
 
--- the pieces, joined in order, and then a line feed
 unfoldable pub line : List (List ℕ) → List ℕ
 line [] = codes "\n"
 line (piece ∷ pieces) = piece ++ line pieces

@@ -1,4 +1,3 @@
--- The lines that are printed for the result of a run.
 use Rattle.std.specs.Prelude.{◌≡◌, ℕ, ⊤, List, Option, Result, Ok, Err}
 use Rattle.std.specs.Io.KnownBytes.{Appends}
 use Rattle.clap.specs.Words.{kind_of}
@@ -9,17 +8,17 @@ use Rattle.nor_console.specs.declared.answers.Answer.{Answer}
 use Rattle.nor_console.specs.declared.messages.Fault.{Fault}
 use Rattle.nor_console.specs.declared.messages.Fault.TheVariants as end
 
--- Holds if a text with `IsText` was appended to the contents of a writer, as far as the contents are known.
+-- Holds if a text for which `IsText` holds was appended to the contents of a writer, as far as they are known.
 abbrev pub Prints : (List ℕ → Type 0) → (old new : Option (List ℕ)) → Type 0
 Prints IsText old new = (text : List ℕ) × IsText text × Appends old new text
 
--- Holds for an answer and for a request for help.
+-- Holds if a run has an answer, or if its arguments ask for the help.
 abbrev pub IsAnswered : Result Answer Fault → Type 0
 IsAnswered (Ok found) = ⊤
 IsAnswered (Err (end.Usage (usage.Words error) reason)) = kind_of error ≡ kind.DisplayHelp
 IsAnswered (Err fault) = ⊥
 
--- Holds for a request for the version, which only programs for hardware print.
+-- Holds if the fault is a request for the version, which only programs for hardware print.
 abbrev pub AsksForVersion : Fault → Type 0
 AsksForVersion (end.Usage (usage.Words error) reason) = kind_of error ≡ kind.DisplayVersion
 AsksForVersion fault = ⊥

@@ -39,7 +39,6 @@ abbrev pub ReportsVerified : Report → Answer → Type 0
 ReportsVerified report (answer.Verified returned) = returned ≡ report
 ReportsVerified report _ = ⊥
 
--- Holds if the job called `wp_status`, which kept its promises.
 pub record HasReported (reports : Protection → Answer → Type 0) (named : Option ChipName) (old new : BusState)
     (outcome : Result Answer Refusal) : Type 0 where
   pub result : Result Protection Refusal
@@ -48,7 +47,7 @@ pub record HasReported (reports : Protection → Answer → Type 0) (named : Opt
   pub modelled : IsModelled old → ProtectionModelled named old result
   pub returned : AnswersCall reports result outcome
 
--- Holds if the job called `read_out`, which kept its promises. `empty` and `filled` are the vault before and after.
+-- Holds if the job called `read_out`, which obeyed its contract. `empty` and `filled` are the vault before and after.
 pub record HasReadInto (named : Option ChipName) (ranges : Option (List Span)) (old new : BusState)
     (empty filled : VaultState) (outcome : Result Answer Refusal) : Type 0 where
   pub result : Result Report Refusal
@@ -67,7 +66,6 @@ pub record HasReadOut (named : Option ChipName) (file : Text) (ranges : Option (
   pub read : HasReadInto named ranges old new empty filled outcome
   pub holds : is_lawful after ≡ true → (filled.telling ≡ true) × (after.seen file ≡ Some filled.bytes)
 
--- Holds if the job called `verify`, which kept its promises.
 pub record HasVerified (named : Option ChipName) (ranges : Option (List Span)) (image : List ℕ)
     (old new : BusState) (outcome : Result Answer Refusal) : Type 0 where
   pub result : Result Report Refusal

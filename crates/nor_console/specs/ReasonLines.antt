@@ -1,4 +1,4 @@
--- The lines that say what is wrong, byte by byte. Each is printed before the numbered line of a fault.
+-- The lines that say what is wrong, byte by byte; each is printed before the numbered line of a fault.
 use Rattle.std.specs.Prelude.{ℕ, List, [], ◌∷◌, codes, if◌then◌else◌}
 use Rattle.std.specs.List.{concat}
 use Rattle.std.specs.Str.{bytes_eq}
@@ -22,7 +22,7 @@ flaw_text flaw.Key = codes "unknown key"
 flaw_text flaw.Value = codes "invalid value"
 flaw_text flaw.Twice = codes "repeated key"
 
--- the end of the reason: what to give instead of a setting of `-p` with this flaw, or no bytes
+-- the end of a reason: what to give instead of a setting of `-p` with this flaw, or no bytes
 abbrev pub choices_for : (setting : Text) → Flaw → List ℕ
 choices_for setting flaw.Key =
     codes "; the keys are emulate, image, status, stop, trace, unique, busy and power"

@@ -47,20 +47,17 @@ request_for change named ranges = record {
   verify = change.verify;
 }
 
--- a size above that of any chip, so that a region of a flash descriptor or FMAP outside the chip is refused only if it
--- is included
 abbrev pub any_size : ℕ
 any_size = 4294967295
 
--- Holds if the text is a layout of this form with these regions. The form `Words` allows other blanks than single
--- spaces. Regions of an FMAP or a descriptor may lie outside the image and the chip.
+-- Holds if `text` is a layout of this form with these regions. Those of an FMAP or descriptor may lie outside the chip.
 abbrev pub HasLayout : LayoutForm → (text : List ℕ) → List Region → Type 0
 HasLayout form.Lines text regions = IsLayout text regions
 HasLayout form.Words text regions = IsLayout (in_words place.Start text) regions
 HasLayout form.Fmap text regions = fmap_says any_size text ≡ Ok regions
 HasLayout form.Descriptor text regions = descriptor_says any_size text ≡ Ok regions
 
--- Holds if `names` are regions of the layout `text`, and `ranges` contain exactly their addresses.
+-- Holds if `names` are regions of the layout `text`, and `ranges` contain exactly the addresses of these regions.
 pub record AreIncluded (form : LayoutForm) (text names : List ℕ) (ranges : List Span) : Type 0 where
   pub regions : List Region
   pub layout : HasLayout form text regions
@@ -83,7 +80,6 @@ pub record AreOfLayout (view : View) (shown : Option (List ℕ)) (regions : Regi
   pub read : IsLayoutText view shown regions.layout text
   pub included : AreIncluded regions.form text regions.names.now ranges
 
--- Holds if `ranges` are those of the named regions, or `None` (the whole chip) without regions.
 abbrev pub AreRangesOf : View → (shown : Option (List ℕ)) → Option Regions → Option (List Span) → Type 0
 AreRangesOf view shown None ranges = ranges ≡ None
 AreRangesOf view shown (Some regions) None = ⊥
@@ -106,7 +102,7 @@ IsUnparsed text layout.Memory = AsksMemory text
 IsUnparsed text layout.NoRegion = ⊥
 IsUnparsed text fault = IsNoLayout text fault
 
--- Holds if parsing the text as a layout of this form may fail with this fault. `Words` needs memory of its own.
+-- Holds if parsing `text` as a layout of this form may fail with this fault.
 abbrev pub LacksLayout : LayoutForm → (text : List ℕ) → Fault → Type 0
 LacksLayout form.Lines text (end.Layout fault) = IsUnparsed text fault
 LacksLayout form.Words text (end.Layout fault) =

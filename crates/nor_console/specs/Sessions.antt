@@ -1,4 +1,4 @@
--- Sessions and backups whose journal is written into a file: the call's promises, the answer, and the file.
+-- Sessions and backups with their journal in a file: the result of the call, and the file.
 use Rattle.std.specs.Prelude.{◌≡◌, ℕ, true, List, Option, None, Result}
 use Rattle.nor_model.specs.Bus.{BusState}
 use Rattle.nor_files.specs.Files.{FilesState, IsKnownFile, View, is_lawful}
@@ -23,7 +23,7 @@ abbrev pub ReportsDone : Report → Answer → Type 0
 ReportsDone report (answer.Done returned) = returned ≡ report
 ReportsDone report _ = ⊥
 
--- Holds if the job called `session`, which kept its promises. `vault` and `vault'` are its vault before and after.
+-- Holds if the job called `session`, which obeyed its contract. `vault` and `vault'` are its vault before and after.
 pub record HasRunSession (request : Request) (image : List ℕ) (old new : BusState) (vault vault' : VaultState)
     (outcome : Result Answer Refusal) : Type 0 where
   pub result : Result Report Refusal
@@ -33,16 +33,15 @@ pub record HasRunSession (request : Request) (image : List ℕ) (old new : BusSt
   pub modelled : IsModelled old → SessionModelled request image old new vault vault' result
   pub returned : AnswersCall ReportsDone result outcome
 
--- Holds if the call made an announcement for which `Was` holds, or sent no modifying command. If it succeeded, `Was`
--- also holds for the numbers of its report.
+-- Holds if the call made an announcement for which `Was` holds, or sent no modifying command.
 pub record HasAnnounced (Was : Announcement → Type 0) (old new : BusState)
     (outcome : Result Answer Refusal) : Type 0 where
   pub result : Result Report Refusal
   pub announced : Announces Was old new result
   pub returned : AnswersCall ReportsDone result outcome
 
--- Holds if a session was run with its journal in a file that was missing before, if it was known (`IsKnownFile`). If
--- the files obey their contract, the file has exactly the vault's bytes, and a sealed vault is durable.
+-- Holds if a session ran with its journal in `file`, which was missing before or not known (`IsKnownFile`). If the
+-- files obey their contract, the file then has exactly the vault's bytes, and they are durable if the vault is sealed.
 pub record HasRunInFile (request : Request) (image : List ℕ) (file : Text) (before : View) (after : FilesState)
     (old new : BusState) (outcome : Result Answer Refusal) : Type 0 where
   pub missing : IsKnownFile file before → before.seen file ≡ None
@@ -52,9 +51,6 @@ pub record HasRunInFile (request : Request) (image : List ℕ) (file : Text) (be
   pub kept_in : is_lawful after.view ≡ true → IsKeptFile file vault' after
   pub ran : HasRunSession request image old new vault vault' outcome
 
--- ---- backups
-
--- Holds if the job called `backup`, which kept its promises. `vault` and `vault'` are its vault before and after.
 pub record HasBackedUp (named : Option ChipName) (old new : BusState) (vault vault' : VaultState)
     (outcome : Result Answer Refusal) : Type 0 where
   pub result : Result Report Refusal
@@ -63,7 +59,6 @@ pub record HasBackedUp (named : Option ChipName) (old new : BusState) (vault vau
   pub modelled : IsModelled old → BackupModelled named old new vault' result
   pub returned : AnswersCall ReportsReadOut result outcome
 
--- Holds if a backup was made with its journal in a file, as in `HasRunInFile`.
 pub record HasBackedUpInFile (named : Option ChipName) (file : Text) (before : View) (after : FilesState)
     (old new : BusState) (outcome : Result Answer Refusal) : Type 0 where
   pub missing : IsKnownFile file before → before.seen file ≡ None

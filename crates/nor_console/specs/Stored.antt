@@ -7,12 +7,11 @@ use Rattle.nor_files.specs.Files.Failure.{Unwritten}
 use Rattle.nor_journal.specs.Vault.{VaultState}
 use Rattle.nor_args.specs.Text.{Text}
 
--- Holds if a call on these files may have this failure. No call changes the `nature`, so failures stay possible.
+-- Holds if a call on these files may fail in this way.
 abbrev pub Happens : View → Failure → Type 0
 Happens view failure = view.nature.fails failure ≡ true
 
--- Holds if `bytes` are the first `most` bytes of the named file, or all if it has fewer. Nothing is claimed if the file
--- isn't known (`IsKnownFile`).
+-- Holds if `bytes` are the first `most` bytes of the named file (or all, if it has fewer), or if the file isn't known.
 abbrev pub IsRead : View → Text → ℕ → List ℕ → Type 0
 IsRead view name most bytes = ReadsFile name most (Some bytes) view
 
@@ -20,8 +19,8 @@ abbrev pub IsFileFound : View → Option (Bor Text) → ℕ → Option (List ℕ
 IsFileFound view None len found = found ≡ None
 IsFileFound view (Some name) len found = ReadsFile name.now (len + 1) found view
 
--- Holds if `bytes` are the whole content of the named file, which has `len` bytes, or `missing` without a file. If the
--- file isn't known (`IsKnownFile`), either is possible.
+-- Holds if `bytes` are the `len` bytes of the named file, or `missing` if no file is named or the file is missing. If
+-- the file isn't known (`IsKnownFile`), either is possible.
 pub record AreOfFile (view : View) (name : Option (Bor Text)) (len : ℕ) (missing bytes : List ℕ) : Type 0 where
   pub found : Option (List ℕ)
   pub is_found : IsFileFound view name len found
@@ -33,7 +32,7 @@ abbrev pub Has : Option (Bor Text) → List ℕ → FilesState → Type 0
 Has None bytes files = ⊤
 Has (Some name) bytes files = is_lawful files.view ≡ true → IsDurable name.now (Some bytes) files
 
--- Holds for the result of writing `bytes` into the file `name`; `failed` is this name if writing failed.
+-- Holds if `bytes` were durably written to the file `name`, or if writing failed and `failed` is this name.
 abbrev pub ArePut : Option (Bor Text) → List ℕ → Option (Bor Text) → FilesState → Type 0
 ArePut name bytes None files = Has name bytes files
 ArePut name bytes (Some failed) files = (name ≡ Some failed) × Happens files.view (Unwritten failed.now)
@@ -42,7 +41,6 @@ abbrev pub IsReportedOf : (name failed : Option (Bor Text)) → View → Type 0
 IsReportedOf name None view = ⊤
 IsReportedOf name (Some failed) view = (name ≡ Some failed) × Happens view (Unwritten failed.now)
 
--- Holds if no other name is given, or if it is apart from `name`.
 abbrev pub IsNot : Nature → Option (Bor Text) → Text → Type 0
 IsNot nature None name = ⊤
 IsNot nature (Some other) name = AreApart nature other.now name
@@ -59,7 +57,7 @@ abbrev pub LeavesNoMoreOf : Option (Bor Text) → (old new : FilesState) → Typ
 LeavesNoMoreOf None old new = ⊤
 LeavesNoMoreOf (Some name) old new = LeavesNoMore name.now old new
 
--- Holds if no file is named, or if the file is missing or isn't known (`IsKnownFile`).
+-- Holds if no file is named, or if the named file is missing or isn't known (`IsKnownFile`).
 abbrev pub IsMissing : Option (Bor Text) → View → Type 0
 IsMissing None view = ⊤
 IsMissing (Some name) view = IsKnownFile name.now view → view.seen name.now ≡ None
@@ -70,7 +68,7 @@ abbrev pub MakesNothing : Option (Bor Text) → (old new : FilesState) → Type 
 MakesNothing None old new = ⊤
 MakesNothing (Some name) old new = IsKnownFile name.now old.view → LeavesOrEmpty name.now old new
 
--- Holds if the file has exactly the bytes of a faithful vault, durably if the vault is sealed.
+-- Holds if the file has exactly the bytes of a faithful vault, and if they are durable when the vault is sealed.
 pub record IsKeptFile (name : Text) (vault : VaultState) (files : FilesState) : Type 0 where
   pub telling : vault.telling ≡ true
   pub seen : files.view.seen name ≡ Some vault.bytes

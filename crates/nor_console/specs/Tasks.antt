@@ -20,7 +20,6 @@ made_by (task.Read file regions) = Some file
 made_by (task.Change change) = journal_of change.journal_use
 made_by _ = None
 
--- the file of the layout, or `None` without regions and for a layout on the chip
 abbrev pub layout_of : Option Regions → Option (Bor Text)
 layout_of None = None
 layout_of (Some regions) = regions.layout

@@ -5,7 +5,6 @@ use nor_probe::Found;
 use nor_read::Protection;
 use nor_session::{Refusal, Rehearsal, Report};
 
-/// The result of a call to the engine: an answer or an error.
 pub type Outcome = Result<Answer, Refusal>;
 
 /// The answer of a job that succeeded.
@@ -22,9 +21,7 @@ pub enum Answer {
     Verified(Report),
     /// The report on a change or a restore.
     Done(Report),
-    /// The result of a rehearsal: whether its session was stopped, and the number of restores.
     Rehearsed(Rehearsal),
-    /// The chip's protected range, if the datasheets define one, and whether its status is locked.
     Protection(Protection),
     /// The ranges of the chip that can be protected, as an iterator.
     Ranges(Offered),

@@ -1,4 +1,5 @@
-//! Calls to the engine that read, compare, change or back up a chip, and the files that they write.
+//! Calls to the engine that read, compare, change or back up a chip, and the files that they write. A given `named`
+//! is the name that the chip must have.
 ghost use Rattle.std.specs.Prelude.{◌≡◌, IfErr, IfOk, OnErr, false, option_copied, replicate, true};
 ghost use Rattle.nor_files.specs.Calls.{BorrowsNone};
 ghost use Rattle.nor_files.specs.Files.{OthersStay, is_lawful};
@@ -19,8 +20,7 @@ use nor_read::{read_out, verify, wp_status};
 use nor_session::{Announcement, Request, backup, session_announced};
 use std::alloc::{AllocError, Global};
 
-/// Returns the chip's protected range, if the datasheets define one, and whether its status is locked, or an error of
-/// `wp_status`. If `named` is given, the chip must have this name.
+/// Returns the chip's protected range and whether its status is locked, or an error of `wp_status`.
 pub fn report_protection<B: Bus>(bus: &mut B, named: Option<ChipName>) -> Outcome
     ensures { HasReported ReportsProtection named (B.state bus.old) (B.state bus.new) result }
 {
@@ -28,7 +28,7 @@ pub fn report_protection<B: Bus>(bus: &mut B, named: Option<ChipName>) -> Outcom
     Ok(Answer::Protection(protection))
 }
 
-/// Returns the ranges that can be protected, or an error of `wp_status`. The chip must have the name `named`, if given.
+/// Returns the ranges that can be protected, or an error of `wp_status`.
 pub fn list_ranges<B: Bus>(bus: &mut B, named: Option<ChipName>) -> Outcome
     ensures { HasReported ListsRanges named (B.state bus.old) (B.state bus.new) result }
 {
@@ -36,11 +36,9 @@ pub fn list_ranges<B: Bus>(bus: &mut B, named: Option<ChipName>) -> Outcome
     Ok(Answer::Ranges(offered(protection.size)))
 }
 
-/// Reads the chip into the file `file`, which is created or truncated (`empty`) before the first transaction. The file
-/// gets FFh at addresses that aren't included; `None` includes all.
-///
-/// The outer error is a fault of `empty`. After the inner error, one of `read_out`, the file may hold a prefix of the
-/// copy.
+/// Reads the chip into `file`, which `empty` creates or truncates before the first transaction. Addresses that aren't
+/// included get FFh. The outer error is a fault of `empty`. After an inner error, which is one of `read_out`, the file
+/// may hold a prefix of the copy. If `included` is `None`, every address is included.
 pub fn read_to_file<'a, R: Store, B: Bus>(
     rt: &mut R,
     bus: &mut B,
@@ -77,7 +75,7 @@ fn read_into<B: Bus, V: Vault>(
 }
 
 /// Compares the chip with an image at the included addresses, or at every address if `included` is `None`. Returns an
-/// error of `verify`, such as 14 if a byte differs. If `named` is given, the chip must have this name.
+/// error of `verify`, such as 14 if a byte differs.
 pub fn verify_image<B: Bus>(
     bus: &mut B,
     named: Option<ChipName>,
@@ -90,17 +88,15 @@ pub fn verify_image<B: Bus>(
     Ok(Answer::Verified(report))
 }
 
-/// Returns `size` bytes of FFh, or `AllocError` if memory runs out.
 pub fn erased(alloc: Global, size: u32) -> Result<Vec<u8>, AllocError>
     ensures { IfOk result (λ bytes. bytes.items ≡ replicate size 255) }
 {
     vec![in alloc; 0xFF; size as usize]
 }
 
-/// Runs the session that `request` asks for, with its journal in the file `file`, which must not exist (`make`).
-/// `announce` must accept every announcement.
-///
-/// The outer error is a fault of `make`, before the first transaction; the inner error is one of `session_announced`.
+/// Runs the session that `request` asks for, with its journal in `file`, which `make` creates before the first
+/// transaction. `announce` must accept every announcement. The outer error is a fault of `make`, the inner error one of
+/// `session_announced`.
 pub fn session_in_file<'a, R: Store, B: Bus, F: FnOnce(Announcement) + Drop>(
     rt: &mut R,
     bus: &mut B,
@@ -146,11 +142,8 @@ fn run_session<B: Bus, V: Vault, F: FnOnce(Announcement) + Drop>(
     Ok(Answer::Done(report))
 }
 
-/// Saves the whole chip in a journal in the file `file`, which must not exist (`make`). If `named` is given, the chip
-/// must have this name.
-///
-/// The outer error is a fault of `make`, before the first transaction. After the inner error, one of `backup`, the file
-/// may hold a prefix of the journal.
+/// Saves the whole chip in a journal in `file`, which `make` creates before the first transaction. The outer error is a
+/// fault of `make`. After an inner error, which is one of `backup`, the file may hold a prefix of the journal.
 pub fn backup_in_file<'a, R: Store, B: Bus>(
     rt: &mut R,
     bus: &mut B,

@@ -8,7 +8,6 @@ use crate::roles::Role;
 use std::io::ErrorKind;
 use std::{fmt, io};
 
-// The system's number of an input/output error, which has no `ErrorKind` of its own.
 const EIO: i32 = 5;
 
 /// The system's reason why a call on a file failed.
@@ -24,16 +23,13 @@ pub enum SystemReason {
     Full,
     /// Something else uses the file: EBUSY, or ETXTBSY for a program that is running.
     Busy,
-    /// The links of the name form a loop, or there are too many of them.
     Loop,
     LongName,
-    /// The disk reported an error: EIO.
     InputOutput,
     Other,
 }
 
 impl SystemReason {
-    /// Returns the reason of this error of a call that reads a file.
     pub fn of_reading(error: &io::Error) -> SystemReason {
         match error.kind() {
             ErrorKind::NotFound => SystemReason::Missing,
@@ -50,8 +46,7 @@ impl SystemReason {
         }
     }
 
-    /// Returns the reason of this error of a call that creates or writes a file. If something isn't found, it is the
-    /// directory, since the call creates the file.
+    /// Returns the reason of an error of a call that creates or writes a file: `NotFound` means a missing directory.
     pub fn of_making(error: &io::Error) -> SystemReason {
         match SystemReason::of_reading(error) {
             SystemReason::Missing => SystemReason::NoDirectory,
@@ -79,21 +74,18 @@ impl SystemReason {
     }
 }
 
-/// Why a file fault occurred, as far as the program knows. Contracts claim nothing about it.
+/// Why a file fault occurred, as far as the program knows.
 #[derive(Clone, Copy)]
 pub enum Cause {
-    /// Nothing more is known than the fault says.
     Unknown,
     System(SystemReason),
     /// The file exists, but can't be opened for writing, or can't be locked.
     Unwritable,
-    /// A read of the file might never end, because it is a FIFO or a terminal, for example.
+    /// A read of the file might never end, because the file is, for example, a FIFO or a terminal.
     Endless,
-    /// The file is a layout of more than 16 MiB.
     LongLayout,
-    /// The file has another number of bytes than the number that is needed.
     Length { wanted: u32, found: usize },
-    /// The file has more bytes than the given number, which is the length that it must have.
+    /// The file has more than this number of bytes, which is the length that it must have.
     TooLong(u32),
     /// The file of a new journal exists already.
     Exists,
@@ -101,7 +93,6 @@ pub enum Cause {
     Journal,
     /// The file already has this role.
     Role(Role),
-    /// Another process has locked the file.
     Locked,
     /// Another program removed the file or replaced it, after this run locked it.
     Replaced,
@@ -109,7 +100,7 @@ pub enum Cause {
     Printed,
 }
 
-/// The line with the cause of a file fault, with its line feed, or no text if nothing is known but the fault.
+/// The line with the cause of a file fault, with its line feed, or no text if the cause is unknown.
 #[derive(Drop)]
 pub struct CauseLine<'a> {
     pub fault: FileFault,

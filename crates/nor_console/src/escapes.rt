@@ -3,8 +3,7 @@
 use nor_args::is_hidden;
 use std::fmt;
 
-/// A name whose hidden characters (`is_hidden`) are printed as `\xNN` for each byte of their UTF-8. The printed name
-/// then has no line feed or escape sequence, and is shown in the order of its characters.
+/// A name in which each byte of the UTF-8 of a hidden character (`is_hidden`) is printed as `\xNN`.
 #[derive(Drop)]
 pub struct Escaped<'a>(pub &'a str);
 

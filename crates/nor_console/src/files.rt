@@ -21,19 +21,16 @@ use nor_session::Refusal;
 use std::io;
 use std::io::{BufWriter, ErrorKind};
 
-/// The greatest number of bytes read from an image: one more than the largest chip has, so that a longer image is
-/// detected.
+/// The most bytes read from an image: one more than the largest chip has, so that a longer image is detected.
 pub const MOST_IMAGE_BYTES: u64 = 16_777_217;
 
-/// The greatest number of bytes read from a journal: one more than the longest journal has, so that a longer file is
-/// detected.
+/// The most bytes read from a journal: one more than the longest journal has, so that a longer file is detected.
 pub const MOST_JOURNAL_BYTES: u64 = 16_793_662;
 
 /// The greatest length of a layout file, in bytes.
 pub const MOST_LAYOUT_BYTES: u64 = 16_777_216;
 
-/// Reads at most `most` bytes of a file. Returns file fault 1 if that fails or the file is missing, and error 18 if
-/// memory runs out.
+/// Reads up to `most` bytes of a file. Returns file fault 1 (missing or unreadable) or error 18 (out of memory).
 #[tactic(auto, using(crate::proofs::FileFaults::unread_reading))]
 pub fn read_file<'a, R: Store>(rt: &R, name: &'a str, most: u64) -> Result<Vec<u8>, Fault<'a>>
     ensures ok { IfOk result (λ bytes. IsRead ((R.state rt.now).view) name.now most bytes.items) }
@@ -57,14 +54,12 @@ pub fn reading(error: io::Error, name: &str) -> Fault<'_>
     }
 }
 
-/// Returns file fault 1 with this name and no known cause. `FileFault::Read` lists the reasons.
 pub fn unread(name: &str) -> Fault<'_>
     ensures { result ≡ Faults.File FileFaults.Read name.entry Causes.Unknown }
 {
     unread_by(name, Cause::Unknown)
 }
 
-/// Returns file fault 1 with this name and this cause.
 pub fn unread_by(name: &str, cause: Cause) -> Fault<'_>
     ensures { result ≡ Faults.File FileFaults.Read name.entry cause }
 {
@@ -72,8 +67,7 @@ pub fn unread_by(name: &str, cause: Cause) -> Fault<'_>
     Fault::File { fault, name, cause }
 }
 
-/// Creates or truncates the file `name`, and returns a vault that writes to it. A `Disk` (the real files) truncates no
-/// journal: that is file fault 4. `making` lists the other faults.
+/// Creates or truncates the file `name`, and returns a vault that writes to it. `making` lists the faults.
 pub fn empty<'a, R: Store>(rt: &mut R, name: &'a str) -> Result<R::Filed, Fault<'a>>
     ensures nature { (R.state rt.new).view.nature ≡ (R.state rt.old).view.nature }
     ensures fresh { IfOk result (λ vault. IsFresh (R.Filed.state vault)) }
@@ -89,8 +83,7 @@ pub fn empty<'a, R: Store>(rt: &mut R, name: &'a str) -> Result<R::Filed, Fault<
     }
 }
 
-/// Creates the file `name`, and returns a vault that writes to it. A `Disk` (the real files) leaves a file that exists
-/// as it is: that is file fault 4. `making` lists the other faults.
+/// Creates the file `name`, which must not exist, and returns a vault that writes to it. `making` lists the faults.
 pub fn make<'a, R: Store>(rt: &mut R, name: &'a str) -> Result<R::Filed, Fault<'a>>
     ensures nature { (R.state rt.new).view.nature ≡ (R.state rt.old).view.nature }
     ensures fresh { IfOk result (λ vault. IsFresh (R.Filed.state vault)) }
@@ -110,8 +103,8 @@ pub fn make<'a, R: Store>(rt: &mut R, name: &'a str) -> Result<R::Filed, Fault<'
     }
 }
 
-/// Creates or truncates the file `name`, as `empty` does, and returns a buffered writer to it. Error 18 is possible
-/// after the file was created or truncated.
+/// Creates the file `name` or opens it to be truncated (`Store::log_in`), and returns a buffered writer to it. `making`
+/// lists the faults. Error 18 is possible even after the file was created or truncated.
 pub fn create_log<'a, R: Store>(rt: &mut R, name: &'a str) -> Result<BufWriter<R::Log>, Fault<'a>>
     ensures nature { (R.state rt.new).view.nature ≡ (R.state rt.old).view.nature }
     ensures others { is_lawful (R.state rt.old).view ≡ true
@@ -125,12 +118,9 @@ pub fn create_log<'a, R: Store>(rt: &mut R, name: &'a str) -> Result<BufWriter<R
     BufWriter::new(rt.alloc(), file).map_err(|_| Fault::Refused(Refusal::Memory))
 }
 
-/// Returns the fault of a file that can't be created or truncated:
-///
-/// - file fault 4, with the cause `there`, if the file exists and must be new, or is a journal (`Disk` truncates none)
-/// - file fault 5 if another process has locked the file
-/// - error 18 if memory ran out
-/// - file fault 2 for any other reason
+/// Returns the fault of a file that can't be created or truncated: error 18 if memory ran out, file fault 5 if another
+/// process has locked the file, file fault 4 with the cause `there` if the file must be new but exists, or if it is a
+/// journal (which `Disk` never truncates), and otherwise file fault 2.
 pub fn making(fault: CreateFault, name: &str, there: Cause) -> Fault<'_>
     ensures { (view : View) → IsCreateFault view.nature name.now fault → IsMaking view name.now result }
 {
@@ -145,7 +135,6 @@ pub fn making(fault: CreateFault, name: &str, there: Cause) -> Fault<'_>
     }
 }
 
-/// Returns file fault 4 with this name and this cause.
 pub fn exists(name: &str, cause: Cause) -> Fault<'_>
     ensures { result ≡ Faults.File FileFaults.Exists name.entry cause }
 {
@@ -153,7 +142,6 @@ pub fn exists(name: &str, cause: Cause) -> Fault<'_>
     Fault::File { fault, name, cause }
 }
 
-/// Returns file fault 5 with this name and this cause: the file is in use.
 pub fn taken_by(name: &str, cause: Cause) -> Fault<'_>
     ensures { result ≡ Faults.File FileFaults.Taken name.entry cause }
 {
@@ -161,14 +149,12 @@ pub fn taken_by(name: &str, cause: Cause) -> Fault<'_>
     Fault::File { fault, name, cause }
 }
 
-/// Returns file fault 2 with this name and no known cause. `FileFault::Write` lists the reasons.
 pub fn unmade(name: &str) -> Fault<'_>
     ensures { result ≡ Faults.File FileFaults.Write name.entry Causes.Unknown }
 {
     unmade_by(name, Cause::Unknown)
 }
 
-/// Returns file fault 2 with this name and this cause.
 pub fn unmade_by(name: &str, cause: Cause) -> Fault<'_>
     ensures { result ≡ Faults.File FileFaults.Write name.entry cause }
 {
@@ -183,15 +169,11 @@ pub fn lost_output() -> Fault<'static>
     unmade("standard output")
 }
 
-/// Locks the file `journal`, if the file system has locks, so that other runs can read it but not change it. Returns
-/// the file's first `MOST_JOURNAL_BYTES` bytes or all, which may be no journal.
+/// Locks the file `journal` against changes by other runs, if the file system has locks, and returns up to
+/// `MOST_JOURNAL_BYTES` bytes of it, which may be no journal.
 ///
-/// Returns one of these faults:
-///
-/// - file fault 1 if the file is missing or can't be read
-/// - file fault 2 if the file can't be locked
-/// - file fault 5 if another process has locked the file to change it
-/// - error 18 if memory runs out
+/// Returns file fault 1 if the file is missing or can't be read, file fault 2 if it can't be locked, file fault 5 if
+/// another process has locked it to change it, or error 18 if memory runs out.
 pub fn read_journal<'a, R: Store>(rt: &mut R, journal: &'a str) -> Result<Vec<u8>, Fault<'a>>
     ensures same { AreUntouched (R.state rt.old) (R.state rt.new) }
     ensures ok { IfOk result (λ bytes. IsRead (R.state rt.old).view journal.now 16793662 bytes.items) }
@@ -207,12 +189,9 @@ pub fn read_journal<'a, R: Store>(rt: &mut R, journal: &'a str) -> Result<Vec<u8
     }
 }
 
-/// Returns the fault of a file that can't be opened or locked:
-///
-/// - error 18 if memory ran out
-/// - file fault 1 if the file can't be looked up, opened or read
-/// - file fault 2 if a file or link of this name exists, but can't be overwritten or locked
-/// - file fault 5 if another process has locked the file
+/// Returns the fault of a file that can't be opened or locked: error 18 if memory ran out, file fault 1 if the file
+/// can't be looked up, opened or read, file fault 5 if another process has locked it, or file fault 2 if it exists but
+/// can't be overwritten or locked.
 pub fn unheld(fault: LockFault, name: &str) -> Fault<'_>
     ensures { IsNotLocked fault name.now result }
 {

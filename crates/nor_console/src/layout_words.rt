@@ -1,11 +1,10 @@
-//! Layout texts with blanks that flashrom takes and nor_layout doesn't.
+//! Layout texts with blanks that flashrom accepts and `nor_layout` doesn't.
 ghost use Rattle.std.specs.Prelude.{◌≡◌, ◌++◌, IfOk};
 ghost use Rattle.nor_console.specs.LayoutWords.{in_words, is_separator, kept_in_words, place_after};
 ghost use Rattle.nor_console.specs.declared.layout_words.Place.TheVariants as place;
 
 use std::alloc::{AllocError, Global};
 
-// What precedes a byte in its line.
 #[derive(Clone, Copy)]
 enum Place {
     Start,
@@ -13,8 +12,8 @@ enum Place {
     Blank,
 }
 
-/// Returns a text with one space between the words of each line. Words end at tabs (also vertical), form feeds,
-/// carriage returns and spaces. Fails if memory runs out.
+/// Returns `text` with one space between the words of each line, and no other blanks. Blanks are spaces, tabs (also
+/// vertical), form feeds and carriage returns. Fails if memory runs out.
 pub fn in_words(alloc: Global, text: &[u8]) -> Result<Vec<u8>, AllocError>
     ensures { IfOk result (λ words. words.items ≡ in_words place.Start text.now) }
 {

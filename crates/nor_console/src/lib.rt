@@ -1,20 +1,9 @@
 //! Prints the results and faults of jobs, handles the jobs' files, and makes their calls to the engine. flashnor and
 //! flashnor-serprog print alike because both use this crate.
 //!
-//! - `answers.rt`: the result of a job
-//! - `calls.rt`: calls to the engine, with the files that they write
-//! - `messages.rt`: the faults that end a run with exit status 1
-//! - `reasons.rt`: the lines that say what is wrong
-//! - `causes.rt`: why a file fault occurred
-//! - `escapes.rt`: names with hidden characters escaped
-//! - `printing.rt`: prints answers, help and faults
-//! - `files.rt`: reads, locks and creates the files of a job, and makes the faults of files
-//! - `requests.rt`: the request of a change, and its included addresses
-//! - `layout_words.rt`: layouts with blanks that flashrom takes
-//! - `roles.rt`: the files that a task names, and the check that two names refer to two files
-//! - `streams.rt`: keeps the descriptors 0, 1 and 2 open, and prints by lines
-//!
-//! `specs/AnswerLines.antt`, `specs/FaultLines.antt` and `specs/ReasonLines.antt` define each printed line.
+//! `answers.rt` has the results of jobs and `messages.rt` the faults, `calls.rt` the calls to the engine, and
+//! `files.rt` the files. `specs/AnswerLines.antt`, `specs/FaultLines.antt`, `specs/ReasonLines.antt` and
+//! `specs/Causes.antt` define the printed lines.
 #![tactic(auto)]
 
 mod answers;

@@ -16,14 +16,14 @@ use std::{fmt, io};
 /// A failure of a file. Its number is part of the message.
 #[derive(Clone, Copy)]
 pub enum FileFault {
-    /// The file is missing, can't be looked up or read, or is a layout of more than 16 MiB. Also: a read of a chip's
-    /// file might never end.
+    /// The file is missing, can't be looked up or read, is a layout of more than 16 MiB, or is a chip's file of which a
+    /// read might never end.
     Read = 1,
-    /// The file can't be created, read before it is truncated, truncated, locked, written or synced, or its directory
-    /// can't be synced. A sealed journal was removed or replaced, or its length changed. Standard output can't be
-    /// written.
+    /// The file can't be created, locked, written or (after it was read) truncated; the file or its directory can't be
+    /// synced; a file of the chip or a sealed journal was removed or replaced, or its length changed; or standard
+    /// output can't be written.
     Write,
-    /// The file with the chip's bytes has another length than the chip, or the status file doesn't have two bytes.
+    /// The chip's image or a region's file has a wrong length, or the status file doesn't have two bytes.
     Length,
     /// The file of a new journal already exists, or a file that would be truncated is a journal.
     Exists,
@@ -34,7 +34,6 @@ pub enum FileFault {
 impl FileFault {
     ghost use Rattle.nor_console.specs.Messages.{file_number};
 
-    /// Returns the number of this file fault, which its message contains.
     pub fn number(self) -> u8
         ensures { result ≡ file_number self }
     {
@@ -42,8 +41,8 @@ impl FileFault {
     }
 }
 
-/// The fault that ends a run with exit status 1. A request for help or the version is a fault here, too, but is printed
-/// to standard output, with exit status 0 if that succeeds.
+/// The fault that ends a run with exit status 1, or a request for help or the version. The requested text is printed to
+/// standard output, with exit status 0 if that succeeds.
 #[derive(Drop)]
 pub enum Fault<'a> {
     /// A usage fault and its reason, or a request for the help or the version.
@@ -54,7 +53,7 @@ pub enum Fault<'a> {
     /// The arguments are not UTF-8. This is printed as usage fault 1, as if the parser had rejected them.
     NoText,
     Layout(LayoutFault),
-    /// An FMAP or a flash descriptor that is missing or can't be used. Its text is only the numbered line.
+    /// An FMAP or a flash descriptor that is missing or can't be used. The fault's text is only the numbered line.
     Map(MapFault),
     /// Layout fault 8: the first of the given names that is not the name of a region.
     NoRegion {
@@ -65,7 +64,7 @@ pub enum Fault<'a> {
         name: &'a str,
         cause: Cause,
     },
-    /// The file is shorter than a journal and doesn't begin as one. It is reported as error 15, journal fault 1.
+    /// The file is shorter than a journal and doesn't begin as one. This is reported as error 15, journal fault 1.
     NoJournal,
     /// An error of the engine, returned by a call or detected by the program itself.
     Refused(Refusal),
@@ -87,7 +86,6 @@ impl Fault<'_> {
         }
     }
 
-    /// Returns usage fault 10: memory ran out.
     pub fn out_of_memory() -> Fault<'static>
         ensures { result ≡ Faults.Usage Usage.Memory Reasons.Unsaid }
     {
@@ -119,10 +117,9 @@ impl From<AllocError> for Fault<'_> {
     }
 }
 
-/// What is printed for a fault.
 #[derive(Clone, Copy)]
 pub enum Wording {
-    /// The line with the fault's number. Scripts rely on it, so nothing else is printed.
+    /// The line with the fault's number (`NumberedLine`), on which scripts rely.
     Numbered,
     /// The lines for the user that say what is wrong and why, if there are any, and then the numbered line.
     Explained,
@@ -162,7 +159,7 @@ impl fmt::Display for Explanation<'_> {
     }
 }
 
-/// The line with the cause of a file fault, with its line feed, or no text for any other fault.
+/// The line with the cause of a file fault, with its line feed, or no text for an unknown cause or any other fault.
 #[derive(Drop)]
 pub struct FaultCause<'a>(pub &'a Fault<'a>);
 
@@ -180,8 +177,7 @@ impl fmt::Display for FaultCause<'_> {
     }
 }
 
-/// The line with the number of a fault, without its line feed. For usage fault 1 the argument parser's text precedes
-/// it.
+/// The line with the number of a fault, after the argument parser's text for usage fault 1, without its line feed.
 #[derive(Drop)]
 pub struct NumberedLine<'a>(pub &'a Fault<'a>);
 

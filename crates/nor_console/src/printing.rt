@@ -250,8 +250,7 @@ impl fmt::Display for Digits {
     }
 }
 
-/// Prints the line that says what is wrong, if there is one, and then the numbered line. Returns true if no write to
-/// `errors` failed.
+/// Prints the `Explanation` of a fault and the numbered line. Returns true if no write to `errors` failed.
 pub fn print_fault<W: Write>(errors: &mut W, fault: &Fault<'_>) -> bool
     ensures { IsTrue result → IfSome (with_newline (text_of fault.now))
         (Appends (W.contents errors.old) (W.contents errors.new)) }

@@ -1,5 +1,4 @@
-//! The lines that say what is wrong, such as `error: the option -p is missing`. If such a line is printed, it precedes
-//! the numbered line of its fault.
+//! The lines that say what is wrong, such as `error: the option -p is missing`.
 ghost use Rattle.std.specs.Prelude.{◌≡◌, Some};
 ghost use Rattle.nor_console.specs.ReasonLines.{choices_for, flaw_text, line_fault_text};
 
@@ -144,11 +143,9 @@ fn text_of_line(fault: LineFault) -> &'static str
     }
 }
 
-/// The line for a file that doesn't begin as a journal.
 pub const NO_JOURNAL: &str = "error: the file is no journal, or is damaged\n";
 
-/// The line that says what may be wrong with an invalid journal (never sealed, cut off, damaged, or no journal), or no
-/// text for any other error.
+/// The line that says what may be wrong with an invalid journal, or no text for any other error.
 #[derive(Drop)]
 pub struct JournalLine<'a>(pub &'a Refusal);
 

@@ -45,15 +45,11 @@ pub fn read_included<'a, R: Store>(
     }
 }
 
-/// Reads the layout of these regions from its file or, without one, from `shown`, the bytes that the chip returned. A
-/// region of an FMAP or flash descriptor outside the chip is refused only if it is included.
+/// Reads the layout of these regions from its file or, without one, from `shown`, the bytes that the chip returned.
 ///
-/// Returns one of these faults:
-///
-/// - file fault 1 if the file is missing, can't be read, or has more than 16 MiB
-/// - usage fault 7 if the layout has no file, and `shown` is `None` or has more than 16 MiB
-/// - a layout fault or a map fault if the layout is wrong, or if memory runs out while it is parsed
-/// - error 18 if memory runs out while the file is read
+/// Returns file fault 1 if the file is missing, can't be read or has more than 16 MiB; usage fault 7 if the layout has
+/// no file, and `shown` is `None` or has more than 16 MiB; a layout fault or a map fault if the layout is wrong, or
+/// memory runs out while it is parsed; or error 18 if memory runs out while the file is read.
 pub fn read_layout<'a, R: Store>(
     rt: &R,
     regions: Regions<'a>,
@@ -97,7 +93,7 @@ fn shown_layout<'b>(shown: Option<&'b [u8]>) -> Result<&'b [u8], Fault<'static>>
     }
 }
 
-// A size above that of any chip, because boards with two chips have a table with the regions of both.
+// A size above that of any chip: the flash descriptor or FMAP of a board with two chips has the regions of both.
 const ANY_SIZE: u32 = u32::MAX;
 
 #[tactic(auto, using(crate::proofs::Included::is_unparsed))]
@@ -164,8 +160,7 @@ fn is_named(regions: &[Region], name: &str) -> bool
         .any(|region| region.name.as_slice() == name.as_bytes())
 }
 
-/// Returns the request of `change`, for a chip with the name `named` (or any), and with the bytes that may change (or
-/// all).
+/// Returns the request of `change` for a chip with the name `named` (or any) and the addresses `included` (or all).
 pub fn request_for(
     change: &Change<'_>,
     named: Option<ChipName>,

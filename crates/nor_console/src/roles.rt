@@ -1,5 +1,4 @@
-//! The files that a task names, and the checks of these names: two names must not refer to one file, and the program
-//! must not print to a named file.
+//! The files that a task names, and the checks that two names refer to two files and that nothing is printed to a file.
 ghost use Rattle.std.specs.Prelude.{◌≡◌, IfErr, IfOk, OnOk, IsSomeAnd, true};
 ghost use Rattle.nor_files.specs.Files.Failure.{Printed};
 ghost use Rattle.nor_console.specs.Roles.{FailsApart, FailsUnprinted, IsUnseenFile, IsUnseenStream};
@@ -14,17 +13,14 @@ use crate::messages::Fault;
 use nor_args::{Change, JournalUse, Regions, Task, Wanted};
 use nor_files::{Store, Stream};
 
-/// The purpose for which a job uses a file. If two roles share a file although they need different files, the fault
-/// names the file of the later role in this order.
+/// The purpose of a file of a job. The fault for one file in two roles contains the name given for the later role.
 #[derive(Clone, Copy)]
 pub enum Role {
     /// The image of the emulated chip.
     Image,
     /// The file with the status bits of the emulated chip.
     Status,
-    /// The file that receives the transactions.
     Trace,
-    /// The layout that names the regions.
     Layout,
     /// The image to write, or to compare with the chip.
     Wanted,
@@ -33,14 +29,12 @@ pub enum Role {
     Journal,
 }
 
-/// The files that a task names, by their roles.
 #[derive(Clone, Copy)]
 pub struct Named<'a> {
     /// The file of the layout that names the regions; `None` also if the layout is read from the chip.
     pub layout: Option<&'a str>,
     pub wanted: Option<&'a str>,
     pub output: Option<&'a str>,
-    /// The file of the journal that a change writes, or from which a restore reads.
     pub journal: Option<&'a str>,
 }
 
@@ -106,10 +100,8 @@ pub fn journal_of<'a>(change: &Change<'a>) -> Option<&'a str>
     }
 }
 
-/// Checks that two names, if both are given, don't refer to the same file.
-///
-/// Returns file fault 5 with the name `later` if both names refer to one file, or file fault 1 with the name that can't
-/// be looked up.
+/// Checks that two names, if both are given, refer to different files. Returns file fault 5 with the name `later` if
+/// they don't, or file fault 1 with the name that can't be looked up.
 pub fn apart<'a, R: Store>(
     rt: &R,
     earlier: Option<&'a str>,
@@ -121,7 +113,7 @@ pub fn apart<'a, R: Store>(
     apart_as(rt, earlier, later, Cause::Unknown)
 }
 
-/// Checks the two names as `apart` does. File fault 5 has this cause.
+/// Checks the two names as `apart` does. A file fault 5 gets this cause.
 pub fn apart_as<'a, R: Store>(
     rt: &R,
     earlier: Option<&'a str>,
@@ -141,7 +133,6 @@ pub fn apart_as<'a, R: Store>(
     }
 }
 
-// Returns why a name can't be looked up: the system's reason, if a second look-up fails, too.
 fn unseen_cause<R: Store>(rt: &R, name: &str) -> Cause {
     match rt.look_up_error(name) {
         Some(error) => Cause::System(SystemReason::of_reading(&error)),
@@ -149,9 +140,8 @@ fn unseen_cause<R: Store>(rt: &R, name: &str) -> Cause {
     }
 }
 
-/// Checks that the file `name`, if a name is given, isn't a regular file to which the program prints.
-///
-/// Returns file fault 5 if the program prints to this file, or file fault 1 if the name can't be looked up.
+/// Checks that the program doesn't print to the file `name`, if it is given and a regular file. Returns file fault 5 if
+/// the program does, or file fault 1 if the name can't be looked up.
 pub fn unprinted<'a, R: Store>(rt: &R, name: Option<&'a str>) -> Result<(), Fault<'a>>
     ensures { IfErr result (FailsUnprinted (R.state rt.now).view.nature name.entry) }
 {
@@ -164,9 +154,8 @@ pub fn unprinted<'a, R: Store>(rt: &R, name: Option<&'a str>) -> Result<(), Faul
     Ok(())
 }
 
-/// Returns whether a name is given and is that of a regular file to which `stream` prints.
-///
-/// Returns file fault 1 if the name can't be looked up.
+/// Returns whether a name is given and is that of a regular file to which `stream` prints, or file fault 1 if the name
+/// can't be looked up.
 pub fn is_printed<'a, R: Store>(
     rt: &R,
     stream: Stream,
@@ -185,9 +174,7 @@ pub fn is_printed<'a, R: Store>(
     }
 }
 
-/// Checks that standard output and standard error can be looked up, so that they can be compared with files.
-///
-/// Returns file fault 1 with the name of a stream that can't be looked up.
+/// Looks up standard output and standard error. Returns file fault 1 with the name of one that can't be looked up.
 pub fn found_streams<R: Store>(rt: &R) -> Result<(), Fault<'static>>
     ensures { IfErr result (IsUnseenStream (R.state rt.now).view.nature) }
 {
@@ -197,11 +184,9 @@ pub fn found_streams<R: Store>(rt: &R) -> Result<(), Fault<'static>>
     }
 }
 
-/// Looks up the file `name`, if a name is given. Call this function before the run opens other files. If the look-up
-/// fails on a `Disk`, a later read of this name is file fault 1, even if the name refers to a file by then, unless a
-/// call such as `Store::hold` opened that file.
-///
-/// Returns error 18 if memory runs out.
+/// Looks up the file `name`, if given. Call this before the run opens other files. Returns error 18 if memory runs out.
+/// If the look-up fails on a `Disk`, a later `read_file` of this name returns file fault 1, even if the file exists by
+/// then, unless a call such as `Store::hold` opened that file.
 pub fn look_ahead<'a, R: Store>(rt: &R, name: Option<&'a str>) -> Result<(), Fault<'a>>
     ensures err { IfErr result (λ fault. fault ≡ Faults.Refused Refusals.Memory) }
 {

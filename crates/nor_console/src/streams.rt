@@ -19,10 +19,9 @@ pub struct Streams<F> {
     _errors: F,
 }
 
-/// Opens a directory three times, so that the descriptors 0, 1 and 2 are in use. Call this before any file is opened.
-///
-/// If a descriptor was closed, printing to it then fails. Without this call the next opened file would get this
-/// descriptor, and printed lines would overwrite its first bytes. Fails if the directory can't be opened.
+/// Opens a directory three times, so that the descriptors 0, 1 and 2 are in use. Call this before any file is opened:
+/// otherwise the file could get a closed descriptor, and printed lines would overwrite its bytes. Fails if the
+/// directory can't be opened.
 pub fn keep_streams<R: Files>(files: &R) -> io::Result<Streams<R::File>> {
     Ok(Streams {
         _input: fs::open(files, DIRECTORY)?,
@@ -31,8 +30,8 @@ pub fn keep_streams<R: Files>(files: &R) -> io::Result<Streams<R::File>> {
     })
 }
 
-/// Returns a writer that sends each line in one write, so that it isn't mixed with lines of other programs. If memory
-/// is lacking, a line is sent in pieces.
+/// Returns a writer that sends each line of up to `LINE_BYTES` bytes in one write, so that it isn't mixed with lines of
+/// other programs. If memory is lacking, lines are sent in pieces.
 pub fn by_line<W: Write + Copy + Drop>(alloc: Global, stream: W) -> LineWriter<W> {
     match LineWriter::with_capacity(alloc, LINE_BYTES, stream) {
         Ok(writer) => writer,

@@ -24,7 +24,6 @@ pub record HasFound (named : Option ChipName) (old new : BusState) (chip : Found
   pub always : ProbeAlways named old new (Ok chip)
   pub honest : old.honest ≡ true → ProbeHonest named old new (Ok chip)
 
--- The promises of a probe whose fault is reported as the error `refusal`.
 pub record HasFailed (named : Option ChipName) (old new : BusState) (refusal : Refusal) : Type 0 where
   pub fault : ProbeFault
   pub is : refusal ≡ of_probe fault

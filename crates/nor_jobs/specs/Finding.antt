@@ -18,7 +18,7 @@ abbrev pub IsProbed : Result Found ProbeFault → Result Found Refusal → Type 
 IsProbed (Ok found) result = result ≡ Ok found
 IsProbed (Err fault) result = result ≡ Err (of_probe fault)
 
--- Holds after an identification with this result, if its call of `probe` kept all promises.
+-- Holds if an identification with this result called `probe`, which obeyed its contract.
 pub record HasIdentified (named : Option ChipName) (old new : BusState) (result : Result Found Refusal) : Type 0 where
   pub probed : Result Found ProbeFault
   pub always : ProbeAlways named old new probed
@@ -40,7 +40,6 @@ pub record HasLookedUp (reports : Found → Answer → Type 0) (named : Option C
   pub identified : HasIdentified named old new result
   pub returned : AnswersCall reports result outcome
 
--- Holds if the identification (from `old` to `new`) returned an error, and this error is the fault of the run.
 abbrev pub FailsToFind : Option ChipName → (old new : BusState) → Fault → Type 0
 FailsToFind named old new fault =
     (refusal : Refusal) × HasIdentified named old new (Err refusal) × (fault ≡ end.Refused refusal)

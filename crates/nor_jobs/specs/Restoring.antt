@@ -30,13 +30,12 @@ abbrev pub choice_of : (quick : Bool) → Choice
 choice_of true = differing
 choice_of false = every_saved
 
--- The main promise of `restore` (if `quick`) or of `rewrite` for a chip that the journal can restore: it still can at
--- every exit, and a success has restored the chip.
+-- Holds if the journal can still restore each chip that it could restore before, and a success has restored this chip.
 abbrev pub RestoresBy : (quick : Bool) → Journal → (old new : BusState) → Result Report Refusal → Type 0
 RestoresBy true journal old new result = RestoresOriginal journal old new result
 RestoresBy false journal old new result = RewritesOriginal journal old new result
 
--- Holds after a restore that kept all promises of `restore` (if `quick`) or of `rewrite`.
+-- Holds if a restore obeyed the contract of `restore` (if `quick`) or of `rewrite`.
 pub record HasRunRestore (quick : Bool) (journal : Journal) (old new : BusState)
     (outcome : Result Answer Refusal) : Type 0 where
   pub result : Result Report Refusal
@@ -47,14 +46,13 @@ pub record HasRunRestore (quick : Bool) (journal : Journal) (old new : BusState)
   pub thorough : quick ≡ false → OnOk result (ErasesFirst (is_saved journal) old new)
   pub returned : AnswersCall ReportsDone result outcome
 
--- Holds if a restore was run, after an identification if a name is given.
 pub record HasRunNamed (quick : Bool) (named : Option ChipName) (journal : Journal) (old new : BusState)
     (outcome : Result Answer Refusal) : Type 0 where
   pub found : BusState
   pub first : IsNamedFirst named old found
   pub ran : HasRunRestore quick journal found new outcome
 
--- Holds after a restore, or after a check of the name that failed and ended the job.
+-- Holds if a restore was run, or if a check of the name failed and ended the job.
 abbrev pub HasRestoredNamed : (quick : Bool) → Option ChipName → Journal → (old new : BusState) → Result Answer Refusal
     → Type 0
 HasRestoredNamed quick named journal old new outcome = HasRunNamed quick named journal old new outcome

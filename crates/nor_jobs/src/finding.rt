@@ -32,7 +32,6 @@ pub fn find<B: Bus>(bus: &mut B, named: Option<ChipName>) -> Result<Found, Refus
     Ok(probe(bus, named)?)
 }
 
-/// Identifies the chip before a further call to the engine. An error of `find` is the fault of the run.
 pub fn find_first<'a, B: Bus>(bus: &mut B, named: Option<ChipName>) -> Result<Found, Fault<'a>>
     ensures ok { IfOk result (λ found. HasIdentified named (B.state bus.old) (B.state bus.new) (Ok found)) }
     ensures err { IfErr result (FailsToFind named (B.state bus.old) (B.state bus.new)) }

@@ -1,10 +1,5 @@
 //! Code that `flashnor` and `flashnor-serprog` share, over any bus: it reads the files of a job, and makes the calls
 //! that identify or restore a chip. `nor_console` has the other calls and files.
-//!
-//! - `arguments.rt`: the arguments that follow the program's name
-//! - `sources.rt`: the layout, image or journal of a job
-//! - `finding.rt`: identifies the chip
-//! - `restoring.rt`: restores from a journal
 #![tactic(auto)]
 
 mod arguments;

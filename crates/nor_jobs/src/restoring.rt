@@ -10,8 +10,8 @@ use nor_model::Bus;
 use nor_probe::ChipName;
 use nor_session::{Announcement, Refusal, restore_announced, rewrite_announced};
 
-/// Returns the journal that `bytes` encode, or error 15 with their first fault. The error is `NoJournal` if they are
-/// shorter than a journal and don't begin as one.
+/// Returns the journal that `bytes` encode, or error 15 with the first fault of `bytes`. The error is `NoJournal` if
+/// `bytes` are shorter than a journal and don't begin as one.
 pub fn journal_in<'a, 'b>(bytes: &'b [u8]) -> Result<Journal<'b>, Fault<'a>>
     ensures ok { IfOk result (λ journal. IsContent journal × (bytes.now ≡ text journal)) }
     ensures err { IfErr result (IsNoJournal bytes.now) }
@@ -23,7 +23,6 @@ pub fn journal_in<'a, 'b>(bytes: &'b [u8]) -> Result<Journal<'b>, Fault<'a>>
     }
 }
 
-// Returns whether `bytes` begin with the first eight bytes of a journal, or are a prefix of these.
 fn begins_as_journal(bytes: &[u8]) -> bool {
     let start = match bytes.get(..MAGIC.len()) {
         Some(start) => start,
@@ -33,10 +32,8 @@ fn begins_as_journal(bytes: &[u8]) -> bool {
 }
 
 /// Restores the chip from a journal: with `quick`, only the saved sectors that differ (`restore`), otherwise every
-/// saved sector without reading it first (`rewrite`). If a name is given, the chip must have it.
-///
-/// `announce` receives the numbers of touched sectors and erases before the first change, and must accept them. Returns
-/// an error of the identification (1, 2, 3, 12 or 13), before anything else was sent, or one of the restore.
+/// saved sector without reading it first (`rewrite`). If `named` is given, checks the name first. Returns an error of
+/// this check (1, 2, 3, 12 or 13) or of the restore. `announce` must accept every announcement.
 pub fn restore_named<B: Bus, F: FnOnce(Announcement) + Drop>(
     bus: &mut B,
     named: Option<ChipName>,

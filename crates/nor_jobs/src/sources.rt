@@ -11,7 +11,6 @@ use nor_files::Store;
 use nor_layout::Ranges;
 use std::alloc::{AllocError, Global};
 
-/// The contents of the files that a job reads.
 #[derive(Drop)]
 pub struct Sources {
     /// The addresses of the included regions, or `None` if the job isn't limited to regions.
@@ -20,9 +19,8 @@ pub struct Sources {
     pub bytes: Vec<u8>,
 }
 
-/// Reads the files that a task needs: the layout, then the image or the journal, without checking that it is a journal.
-/// A journal is locked against runs that would change it. Returns the faults of `read_included`, `read_file` and
-/// `read_journal`.
+/// Reads the layout and the image or journal that a task needs. A journal is locked against runs that would change it,
+/// but its format isn't checked. Returns the faults of `read_included`, `read_file` and `read_journal`.
 pub fn read_sources<'a, R: Store>(rt: &mut R, task: &Task<'a>) -> Result<Sources, Fault<'a>>
     ensures same { AreUntouched (R.state rt.old) (R.state rt.new) }
     ensures ok { IfOk result (λ sources.
@@ -66,8 +64,8 @@ fn read_for_change<'a, R: Store>(rt: &R, change: &Change<'a>) -> Result<Sources,
     Ok(Sources { included, bytes })
 }
 
-/// Reads the image that a change writes, and one byte more than the largest chip has, so that a longer image is
-/// detected. Returns no bytes without an image, and the faults of `read_file`.
+/// Reads the image that a change writes, up to `MOST_IMAGE_BYTES`. Returns no bytes if the change writes no image.
+/// Returns the faults of `read_file`.
 pub fn read_image<'a, R: Store>(rt: &R, wanted: Wanted<'a>) -> Result<Vec<u8>, Fault<'a>>
     ensures ok { IfOk result (λ bytes. IsImage (R.state rt.now).view wanted.entry bytes.items) }
     ensures err { IfErr result (FailsImage (R.state rt.now).view wanted.entry) }
@@ -78,8 +76,7 @@ pub fn read_image<'a, R: Store>(rt: &R, wanted: Wanted<'a>) -> Result<Vec<u8>, F
     }
 }
 
-/// Returns the bytes that a change of a chip of `size` bytes asks for: FFh for an erase, otherwise `bytes`, those of
-/// its image. Fails only for an erase, if memory runs out.
+/// Returns the bytes of a change: `size` bytes of FFh for an erase, else `bytes`. Only an erase can run out of memory.
 pub fn asked_bytes(
     alloc: Global,
     wanted: Wanted<'_>,

@@ -1,4 +1,4 @@
-//! Files with the name `-`, which a program for hardware refuses: in other programs `-` is standard input or output.
+//! Files with the name `-`, which a program for hardware refuses; many programs read standard input for this name.
 ghost use Rattle.std.specs.Prelude.{◌≡◌, option_map};
 ghost use Rattle.nor_args.specs.Faults.{dashed, file_choices, first_given, has_dash, is_dash, lists_dash};
 ghost use Rattle.nor_args.specs.Faults.{passes_test};

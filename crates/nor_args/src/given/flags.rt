@@ -1,4 +1,4 @@
-//! Whether a flag is set. A flag is an option that takes no value.
+//! Whether a flag, which is an option without a value, is set.
 ghost use Rattle.std.specs.Prelude.{◌≡◌};
 ghost use Rattle.clap.specs.Words.{found_of, rows_of};
 ghost use Rattle.nor_args.specs.Given.{is_set_in};

@@ -8,7 +8,6 @@ use crate::job::LayoutForm;
 impl<'a> Given<'a> {
     ghost use Rattle.nor_args.specs.Given.{texts_of};
 
-    // Returns `None` if there is no layout, or if it is read from the chip.
     pub(super) fn layout_file(&self) -> Option<&'a str>
         ensures { option_map (λ file. file.now) result ≡ layout_file (texts_of self.now) }
     {

@@ -1,4 +1,4 @@
-//! What a program for hardware takes in further forms: regions in several options, and further names of a chip.
+//! The values of all `-i` as one text, and the chip that `-c` names in upper or lower case.
 ghost use Rattle.std.specs.Prelude.{◌≡◌, IfOk, codes, option_map, string_bytes};
 ghost use Rattle.clap.specs.Words.{found_of, rows_of};
 ghost use Rattle.nor_args.specs.Given.{joined_in, text_in};

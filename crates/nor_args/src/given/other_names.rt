@@ -4,7 +4,6 @@ ghost use Rattle.nor_args.specs.OtherNames.{is_among, other_named, other_names, 
 
 use nor_probe::ChipName;
 
-// The rows whose ID chips with other names have, too.
 const ROWS: [ChipName; 8] = [
     ChipName::W25Q32FV,
     ChipName::W25Q64FV,
@@ -30,8 +29,8 @@ fn other_named(text: &str) -> Option<ChipName>
     ROWS.iter().find(|row| is_name_of(**row, text)).copied()
 }
 
-// Returns whether a chip with the name `text` has the ID of this row. Sources: Winbond datasheets of these chips,
-// Manufacturer and Device Identification; the names with a point are those of flashrom 1.3.0 (`flashrom -L`).
+// Returns whether `text` is another name of a chip with the ID of `row`. Sources: Winbond datasheets of these chips,
+// Manufacturer and Device Identification; names with a point or a slash are those of flashrom 1.3.0 (`flashrom -L`).
 fn is_name_of(row: ChipName, text: &str) -> bool
     ensures { result ≡ is_among (other_names row) text.now }
 {

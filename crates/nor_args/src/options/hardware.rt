@@ -1,4 +1,4 @@
-//! The options that only programs for hardware have, such as flashnor-serprog.
+//! The options of programs for hardware (such as flashnor-serprog) that flashnor doesn't have.
 ghost use Rattle.std.specs.Prelude.{◌≡◌, IfOk, map};
 ghost use Rattle.nor_args.specs.Options.{IsOption, by_name, chosen, hardware_form, long_form, own_rules};
 ghost use Rattle.nor_args.specs.Options.{repeated_names};
@@ -7,7 +7,6 @@ use crate::options::Choice;
 use clap::{Arg, ArgAction};
 use std::alloc::{AllocError, Global};
 
-// The options that only programs for hardware have, except `-R`, in the order of the help.
 static HARDWARE_CHOICES: [Choice; 16] = [
     Choice {
         letter: None,
@@ -114,7 +113,6 @@ pub(super) fn hardware_choices() -> &'static [Choice; 16]
 }
 
 impl Choice {
-    // Returns the help of this option in a program for hardware, which has more layouts than flashnor.
     fn hardware_help(&self) -> &'static str {
         if self.name == "include" {
             "The regions to include, separated by commas; with a layout"
@@ -123,7 +121,7 @@ impl Choice {
         }
     }
 
-    // `-V` and `-i` may be repeated, as in flashrom.
+    // `-V` and `-i` may be repeated, and `--image` means `-i`, as in flashrom.
     pub(super) fn hardware_option<'a>(&self, alloc: Global) -> Result<Arg<'a>, AllocError>
         ensures { IfOk result (IsOption (hardware_form (chosen self.now))) }
     {
@@ -136,7 +134,6 @@ impl Choice {
         }
     }
 
-    // The second long name is `--image`, as in flashrom.
     fn repeated_names<'a>(&self, alloc: Global) -> Result<Arg<'a>, AllocError>
         ensures { IfOk result (IsOption (repeated_names (chosen self.now))) }
     {

@@ -26,7 +26,6 @@ loop-character-preserved g c =
           ),
     )
 
--- The claim is only for a plain formatter, which formats as `{}` does.
 pub returns-clause-writes : goal.returns-clause-writes
 returns-clause-writes g c = λ plain _.
     let so_far = c.loop-character.invariant.1 plain in
