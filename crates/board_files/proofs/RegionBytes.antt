@@ -1,4 +1,3 @@
--- Lemmas about the bytes of regions that are replaced one after the other.
 use Rattle.std.proofs.Common.{◌+◌, ◌<◌, ℕ, List, [], ◌∷◌, ◌++◌, get_or, length, refl, subst, sym, take}
 use Rattle.std.proofs.lemmas.List.{take_more}
 use Rattle.nor_files.specs.Files.{View}

@@ -1,4 +1,3 @@
--- Lemmas about the entries of `-i`, which are read one after the other.
 use Rattle.std.proofs.Common.{◌≡◌, ◌∙◌, ◌+◌, ◌<◌, ℕ, List, [], ◌∷◌, ◌++◌, None, Option, Some, ap, arith, get_or, length}
 use Rattle.std.proofs.Common.{lit<, map, refl, sym, take}
 use Rattle.std.specs.Prelude.{option_map, false, Result, Ok, Err, if◌then◌else◌}

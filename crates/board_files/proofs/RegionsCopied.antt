@@ -1,4 +1,3 @@
--- Lemmas about the files of regions that are written one after the other.
 use Rattle.std.proofs.Common.{◌≡◌, ◌+◌, ◌<◌, ◌≤◌, ◌∙◌, ◌&&◌, ℕ, Bool, true, false, List, [], ◌∷◌, None, Some, All}
 use Rattle.std.proofs.Common.{ap, arith, get_or, inl, inr, length, nat_le, refl, subst, sym, take, if◌then◌else◌}
 use Rattle.std.specs.Borrow.{Bor}
@@ -82,8 +81,6 @@ all_copied out (x ∷ xs) bytes index old new long same keeps read copied = (
   read_kept out 16777217 bytes old new same keeps read,
   subst (All (IsCopied bytes new.view)) (take_all index (x ∷ xs) long) copied,
 )
-
--- ---- faults
 
 none_if : {X : Type 0} (test : Bool) (x : X) → None ≡ (if test then Some x else None) → test ≡ false
 none_if true x is = cc

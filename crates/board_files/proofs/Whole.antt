@@ -1,4 +1,4 @@
--- Lemmas on the image in a journal, and on its encoding, sector by sector.
+-- Lemmas on the image in a journal and on the encoding of the journal, which grow sector by sector.
 use Rattle.std.proofs.Common.{◌≡◌, ◌+◌, ◌<◌, ◌≤◌, ◌∙◌, ◌++◌, ℕ, List, [], ◌∷◌, None, Some, add-one, ap, arith, length, refl, sym, take}
 use Rattle.std.specs.Prelude.{slice_get}
 use Rattle.std.proofs.lemmas.List.{append-nil, append_assoc, take_all, take_more}

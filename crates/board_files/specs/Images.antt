@@ -1,4 +1,4 @@
--- The image in a journal that saves the whole chip, and the journal of such a chip for any other device of its type.
+-- The image in a journal that saves the whole chip, and this journal without its unique ID, for any other device.
 use Rattle.std.specs.Prelude.{◌≡◌, ◌<◌, ◌/◌, ◌⊎◌, ◌++◌, ℕ, zero, suc, Bool, true, false, List, [], Option, None, Some, codes}
 use Rattle.std.specs.Prelude.{length, nat_eq, unwrap_or}
 use Rattle.std.specs.Borrow.{Bor}
@@ -21,7 +21,7 @@ unfoldable pub first_sectors : Content → (n : ℕ) → List ℕ
 first_sectors journal zero = []
 first_sectors journal (suc n) = first_sectors journal n ++ unwrap_or (saved_in journal.saved n) []
 
--- the bytes that the journal saves, one sector after the other
+-- The bytes of the saved sectors in the order of their addresses, without gaps for sectors that aren't saved.
 abbrev pub saved_image : Content → List ℕ
 saved_image journal = first_sectors journal (journal.size / 4096)
 
@@ -32,7 +32,7 @@ pub record IsImageIn (journal : Content) (image : List ℕ) : Type 0 where
   pub whole : IsWhole journal
   pub bytes : image ≡ saved_image journal
 
--- Holds for the fault of a journal, in the file of this name, that lacks a sector of its chip.
+-- Holds if the journal doesn't save some sector of its chip, and `fault` has `name` and the number of saved sectors.
 pub record IsNotWholeIn (journal : Content) (name : Bor Text) (fault : NotWhole) : Type 0 where
   pub named : fault.name ≡ name
   pub saved : fault.saved ≡ length journal.saved
@@ -45,7 +45,7 @@ FailsWhole journal name (early.Fault fault) = fault ≡ end.Refused Memory
 FailsWhole journal name (early.NotWhole fault) = IsNotWholeIn journal name fault
 FailsWhole journal name _ = ⊥
 
--- true if the bytes begin as a journal of any format does
+-- True if `bytes` begin with `NORUNDO`, as a journal of any format does.
 abbrev pub begins_as_journal : List ℕ → Bool
 begins_as_journal bytes = starts_with nat_eq bytes (codes "NORUNDO")
 
@@ -55,7 +55,7 @@ pub record IsUnpackedImage (bytes image : List ℕ) : Type 0 where
   pub read : bytes ≡ text journal
   pub is : IsImageIn journal image
 
--- Holds if `image` is `bytes` or, for a journal, the image in it.
+-- Holds if `image` is `bytes` or, if `journal` is true, the image in the journal that `bytes` encode.
 abbrev pub IsUnpackedBy : (journal : Bool) → (bytes image : List ℕ) → Type 0
 IsUnpackedBy false bytes image = image ≡ bytes
 IsUnpackedBy true bytes image = IsUnpackedImage bytes image
@@ -71,21 +71,17 @@ abbrev pub FailsAsJournal : (bytes : List ℕ) → EarlyEnd → Type 0
 FailsAsJournal bytes (early.Fault fault) = IsNoJournal bytes fault
 FailsAsJournal bytes _ = ⊥
 
--- Holds if `bytes` are no journal (error 15), or a journal that has no image.
 abbrev pub FailsToUnpack : (bytes : List ℕ) → (name : Bor Text) → EarlyEnd → Type 0
 FailsToUnpack bytes name fault = FailsAsJournal bytes fault ⊎ FailsInJournal bytes name fault
 
--- ---- another header
-
--- the journal with this unique ID (None: in format 1, which has none) and these status bytes
 abbrev pub with_unique_and_status : (unique : Option (List ℕ)) → (status : List ℕ) → Content → Content
 with_unique_and_status unique status journal = record journal { unique = unique; status = status }
 
--- the journal in format 1, which has no unique ID, so that a restore accepts any chip with its ID and size
+-- The journal without its unique ID (format 1), from which a restore accepts any chip with the journal's ID and size.
 abbrev pub without_unique : Content → Content
 without_unique journal = record journal { unique = None }
 
--- Holds if `new` is the whole journal `old` without the unique ID.
+-- Holds if `old` is a journal that saves the whole chip, and `new` is this journal without its unique ID.
 pub record IsForAnyDevice (old new : List ℕ) : Type 0 where
   pub journal : Content
   pub sound : IsContent journal
@@ -93,8 +89,7 @@ pub record IsForAnyDevice (old new : List ℕ) : Type 0 where
   pub whole : IsWhole journal
   pub encoded : new ≡ text (without_unique journal)
 
--- Holds if `new` are the bytes that a job uses: the image in `old` for `-v`, the journal without its unique ID for a
--- replaced chip, and otherwise `old`.
+-- Holds if a job uses `new` in place of `old`, the bytes of its file. `replaced` is true with `--replaced-chip`.
 abbrev pub AreAdapted : (replaced : Bool) → Task → (old new : List ℕ) → Type 0
 AreAdapted replaced (task.Verify file regions) old new = IsUnpacked old new
 AreAdapted true (task.Restore journal) old new = IsForAnyDevice old new
@@ -105,9 +100,7 @@ FailsToAdapt replaced (task.Verify file regions) bytes fault = FailsToUnpack byt
 FailsToAdapt true (task.Restore journal) bytes fault = FailsToUnpack bytes journal fault
 FailsToAdapt replaced _ bytes fault = ⊥
 
--- ---- extracting
-
--- Holds if `name` is a sealed journal of a whole chip, whose image the file `image` has (if files obey their contract).
+-- Holds for files that obey their contract if `name` is a sealed journal of a whole chip, and `image` has its image.
 pub record IsExtracted (before : View) (name : Text) (after : View) (image : Text) : Type 0 where
   pub journal : Content
   pub sealed : IsSealed before name journal
@@ -115,7 +108,7 @@ pub record IsExtracted (before : View) (name : Text) (after : View) (image : Tex
   pub is : IsImageIn journal bytes
   pub written : is_lawful after ≡ true → after.seen image ≡ Some bytes
 
--- Holds after `--check-journal` succeeded, and wrote the image if a file is named.
+-- Holds if `name` is a sealed journal and, if `image` names a file, this file has the image in it (`IsExtracted`).
 abbrev pub HasDescribed : (before : View) → (name : Text) → (after : View) → (image : Option (Bor Text)) → Type 0
 HasDescribed before name after None = IsSealedIn before name
 HasDescribed before name after (Some image) = IsExtracted before name after image.now

@@ -16,8 +16,7 @@ are_blank bytes = list_all (λ byte. nat_eq byte 255) bytes
 abbrev pub is_blank : SavedSector → Bool
 is_blank sector = are_blank sector.bytes
 
--- Holds for the first address of the first saved sector and the last address of the last one, or `None` without a saved
--- sector.
+-- Holds for the first and the last address in `saved` if its sectors ascend, or for `None` if `saved` is empty.
 abbrev pub AreEnds : List SavedSector → Option (ℕ × ℕ) → Type 0
 AreEnds saved None = saved ≡ []
 AreEnds saved (Some ends) =
@@ -33,7 +32,7 @@ pub record Describes (journal : Content) (described : Description) : Type 0 wher
   pub ends : AreEnds journal.saved described.ends
   pub blank : described.blank ≡ count_by is_blank journal.saved
 
--- Holds if a read of this file returns the encoding of `journal`, which is then sealed and undamaged.
+-- Holds if a read of the file returns the encoding of `journal`, so the journal is sealed and undamaged.
 pub record IsSealed (view : View) (name : Text) (journal : Content) : Type 0 where
   pub sound : IsContent journal
   pub read : IsRead view name 16793662 (text journal)

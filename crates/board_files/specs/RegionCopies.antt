@@ -22,13 +22,12 @@ use Rattle.board_files.specs.declared.region_files.RegionFile.{RegionFile}
 abbrev pub part_at : Span → List ℕ → List ℕ
 part_at span bytes = take (span.last + 1 - span.first) (drop span.first bytes)
 
--- Holds if the region lies in `bytes`, and its file has its bytes (if the files obey their contract).
+-- Holds if the region lies in `bytes`, and (if files obey their contract) its file has the bytes at its addresses.
 pub record IsCopied (bytes : List ℕ) (view : View) (region : RegionFile) : Type 0 where
   pub inside : region.span.last < length bytes
   pub same : is_lawful view ≡ true → view.seen region.file.now ≡ Some (part_at region.span bytes)
 
--- Holds if each region's file has the bytes that the file `out` has at the region's addresses, if the files obey their
--- contract.
+-- Holds if the file of each region has the bytes at the region's addresses in the file `out` (`IsCopied`).
 abbrev pub AreCopiedFrom : (out : Text) → List RegionFile → View → Type 0
 AreCopiedFrom out [] view = ⊤
 AreCopiedFrom out (first ∷ rest) view = (bytes : List ℕ) × IsRead view out 16777217 bytes
@@ -45,19 +44,16 @@ AreCopiedBy _ _ files view = ⊤
 abbrev pub AreCopied : Operation → List RegionFile → View → Type 0
 AreCopied operation files view = AreCopiedBy operation.is_backup operation.task files view
 
--- Holds if the file of a read is as it was, if the files obey their contract. Claims nothing for another task.
+-- Holds if the output of a read is unchanged, provided that files obey their contract. Claims nothing for another task.
 abbrev pub KeepsOutput : Task → (old new : FilesState) → Type 0
 KeepsOutput (task.Read out regions) old new = is_lawful old.view ≡ true → KeepsFile out.now old new
 KeepsOutput _ old new = ⊤
-
--- ---- faults
 
 abbrev pub part_if_inside : Span → List ℕ → Option (List ℕ)
 part_if_inside span bytes = if nat_le span.first (span.last + 1) && nat_le (span.last + 1) (length bytes)
     then Some (part_at span bytes) else None
 
--- Holds for file fault 2 of a file that could not be written. If the files obey their contract, the file has a prefix
--- of `bytes`.
+-- Holds for file fault 2 of the file `name`, which has a prefix of `bytes` if files obey their contract.
 pub record IsWrittenPartly (name : Bor Text) (bytes : List ℕ) (after : View) (fault : Fault) : Type 0 where
   pub is : IsUnmadeFault name.now fault
   pub has : is_lawful after ≡ true → (kept : ℕ) × (after.seen name.now ≡ Some (take kept bytes))
@@ -65,7 +61,7 @@ pub record IsWrittenPartly (name : Bor Text) (bytes : List ℕ) (after : View) (
 abbrev pub FailsToWrite : Bor Text → (bytes : List ℕ) → (before after : View) → Fault → Type 0
 FailsToWrite name bytes before after fault = IsMaking before name.now fault ⊎ IsWrittenPartly name bytes after fault
 
--- Holds for file fault 1 of the file `out`, if its bytes end before the end of the region.
+-- Holds for file fault 1 of the file `out`, whose bytes end before the end of the region.
 pub record EndsInRegion (out : Bor Text) (region : RegionFile) (bytes : List ℕ) (fault : Fault) : Type 0 where
   pub is : fault ≡ end.File file.Read out causes.Unknown
   pub ends : region.span.first ≤ region.span.last + 1 → length bytes < region.span.last + 1

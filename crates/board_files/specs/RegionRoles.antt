@@ -26,8 +26,6 @@ use Rattle.board_files.specs.declared.region_files.RegionFile.{RegionFile}
 use Rattle.board_files.specs.declared.early_ends.EarlyEnd.{EarlyEnd}
 use Rattle.board_files.specs.declared.early_ends.EarlyEnd.TheVariants as early
 
--- ---- names
-
 abbrev pub is_erase : Wanted → Bool
 is_erase wanted.Erase = true
 is_erase _ = false
@@ -45,8 +43,6 @@ FailsNames job files wrong.Erased = (erases job ≡ true) × (¬ files ≡ [])
 FailsNames job files (wrong.Unnamed name) =
     Any (λ region. (region.name ≡ name) × (region.file.now ≡ [])) files
 FailsNames job files _ = ⊥
-
--- ---- roles
 
 abbrev pub IsApartFromLayout : Nature → (output layout : Option (Bor Text)) → Bor Text → Type 0
 IsApartFromLayout nature None layout of = ⊤
@@ -68,7 +64,7 @@ abbrev pub AreDistinctIf : Nature → (output : Option (Bor Text)) → List Regi
 AreDistinctIf nature None files = ⊤
 AreDistinctIf nature (Some output) files = AllPairs (AreTwoFiles nature) files
 
--- Holds if each region's file has one role, and a read writes each region to another file.
+-- Holds if the file of each region has one role (`HasOneRole`), and a read writes each region to a file of its own.
 pub record HaveFileRoles (nature : Nature) (device : Bor Text) (job : Task) (log : Option (Bor Text))
     (files : List RegionFile) : Type 0 where
   pub each : All (λ region. HasOneRole nature device log (named_by job) region.file) files
@@ -84,13 +80,11 @@ FailsFileRole nature device log named of fault = FailsApart nature (Some device)
     ⊎ (FailsApart nature log (Some of) fault
     ⊎ (FailsApart nature named.journal (Some of) fault ⊎ FailsWrittenRole nature named.output named.layout of fault))
 
--- Holds if `R` holds for some element and a later one.
+-- Holds if `R` holds for some element of `xs` and some later element.
 abbrev pub AnyPair : {X : Type 0} → (X → X → Type 0) → List X → Type 0
 AnyPair {X} R xs = (i : ℕ) × (j : ℕ) × (any : X) × (i < j) × (j < length xs)
     × R (slice_index_or xs i any) (slice_index_or xs j any)
 
--- Holds if comparing the files of two regions may fail with this fault: file fault 5 with the name of the later file,
--- or file fault 1 if a name can't be looked up.
 abbrev pub FailsDistinct : Nature → List RegionFile → Fault → Type 0
 FailsDistinct nature files fault =
     AnyPair (λ earlier later. FailsApart nature (Some earlier.file) (Some later.file) fault) files
@@ -104,15 +98,11 @@ FailsRegionRoles nature device job log files fault =
     Any (λ region. FailsFileRole nature device log (named_by job) region.file fault) files
     ⊎ FailsDistinctIf nature (named_by job).output files fault
 
--- ---- the output
-
--- Holds if the fault is that the regions' bytes can't be read back from the output, because it is a FIFO or a device.
+-- Holds for the fault that `files` can't be copied from the output, because reading the output may fail.
 abbrev pub IsNotReadBack : Nature → (output : Option (Bor Text)) → List RegionFile → RegionFault → Type 0
 IsNotReadBack nature (Some output) files (wrong.NotReadBack name) =
     (name ≡ output) × (¬ files ≡ []) × (nature.fails (Unread output.now) ≡ true)
 IsNotReadBack nature output files _ = ⊥
-
--- ---- journals
 
 abbrev pub is_magic : List ℕ → Bool
 is_magic start = bytes_eq start (magic (Some [])) || bytes_eq start (magic None)
@@ -130,8 +120,6 @@ FailsOldFile view name fault =
 abbrev pub FailsOldFiles : View → Task → List RegionFile → Fault → Type 0
 FailsOldFiles view (task.Read output regions) files fault = Any (λ region. FailsOldFile view region.file fault) files
 FailsOldFiles view _ files fault = ⊥
-
--- ---- all checks
 
 abbrev pub FailsRegionFiles : View → Bor Text → Task → (log : Option (Bor Text)) → List RegionFile → EarlyEnd → Type 0
 FailsRegionFiles view device job log files (early.Region fault) =

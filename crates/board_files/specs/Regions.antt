@@ -20,8 +20,6 @@ use Rattle.board_files.specs.declared.region_files.RegionFile.{RegionFile}
 use Rattle.board_files.specs.declared.early_ends.EarlyEnd.{EarlyEnd}
 use Rattle.board_files.specs.declared.early_ends.EarlyEnd.TheVariants as early
 
--- ---- the value of `-i`
-
 abbrev pub regions_of : Task → Option Regions
 regions_of (task.Read file regions) = regions
 regions_of (task.Verify file regions) = regions
@@ -31,15 +29,13 @@ regions_of _ = None
 abbrev pub entries_of : Text → List Text
 entries_of = slice_split (λ byte. byte == 44)
 
--- the name of the region: the bytes before the first colon of an entry, or all of them
+-- The name of a region in an entry of `-i`: the bytes before the first colon, or all bytes if it has none.
 abbrev pub name_in : Text → Text
 name_in = before_first (λ byte. byte == 58)
 
--- the name and the file of an entry, before and after its first colon, or `None` if it has no colon
 abbrev pub pair_in : Text → Option (Text × Text)
 pair_in entry = option_map (λ at. (take at entry, drop (at + 1) entry)) (position (λ byte. byte == 58) entry)
 
--- the names of the regions, separated by commas, without the files
 abbrev pub names_in : Text → Text
 names_in text = join_by (λ name. name) (44 ∷ []) (map name_in (entries_of text))
 
@@ -49,16 +45,14 @@ files_in text = filter_map pair_in (entries_of text)
 abbrev pub with_names : Bor Text → Regions → Regions
 with_names names regions = record { layout = regions.layout; form = regions.form; names = names }
 
--- ---- the addresses of the regions
-
--- Holds if `span` has the addresses of this region. `shown` has the bytes of a layout on the chip.
+-- Holds if `span` has the addresses of the region `name`. `shown` holds the bytes of a layout on the chip.
 abbrev pub IsSpanOf : View → (shown : Option (List ℕ)) → Regions → Bor Text → Span → Type 0
 IsSpanOf view shown regions name span = AreRangesOf view shown (Some (with_names name regions)) (Some (span ∷ []))
 
 abbrev pub named_file : RegionFile → Text × Text
 named_file region = (region.name.now, region.file.now)
 
--- Holds if `files` are the entries of `-i` that have a file, in order, each with the addresses of its region.
+-- Holds if `files` lists the regions of `-i` that have a file, in this order, each with its addresses.
 pub record AreFilesOf (view : View) (shown : Option (List ℕ)) (regions : Regions) (files : List RegionFile)
     : Type 0 where
   pub entries : map named_file files ≡ files_in regions.names.now
@@ -82,10 +76,7 @@ abbrev pub FailsToFindFiles : View → (shown : Option (List ℕ)) → Regions �
 FailsToFindFiles view shown regions fault =
     (fault ≡ end.Refused Memory) ⊎ ((name : Bor Text) × FailsToFindSpan view shown regions name fault)
 
--- ---- the bytes of the regions
-
--- Holds if `new` is `old` with the bytes at the region's addresses replaced by its file, which is as long as the
--- region.
+-- Holds if `new` is `old`, but has the bytes of the region's file at the region's addresses.
 pub record IsReplaced (view : View) (region : RegionFile) (old new : List ℕ) : Type 0 where
   pub content : List ℕ
   pub read : IsRead view region.file.now 16777217 content

@@ -29,10 +29,7 @@ use Rattle.board_files.specs.declared.region_files.RegionFile.{RegionFile}
 use Rattle.board_files.specs.declared.early_ends.EarlyEnd.{EarlyEnd}
 use Rattle.board_files.specs.declared.early_ends.EarlyEnd.TheVariants as early
 
--- ---- roles
-
--- Holds if the device, the output and the journal are apart from all other files of the job. (No task has an output
--- together with a journal or an image.)
+-- Holds if the device and the files in `named_by job` are apart, except that the layout and the image may be one file.
 pub record HaveOneRole (nature : Nature) (device : Bor Text) (job : Task) : Type 0 where
   pub device_layout : AreTwo nature (Some device) (named_by job).layout
   pub device_wanted : AreTwo nature (Some device) (named_by job).wanted
@@ -53,8 +50,6 @@ FailsFiles nature job fault = FailsApart nature (named_by job).layout (named_by 
     ⊎ (FailsApart nature (named_by job).layout (named_by job).journal fault
     ⊎ FailsApart nature (named_by job).wanted (named_by job).journal fault)
 
--- Holds if a check of the roles may fail with this fault. The checks compare the job's files with each other, with the
--- device and with what the program prints to.
 abbrev pub FailsRoles : Nature → Bor Text → Task → Fault → Type 0
 FailsRoles nature device job fault = FailsDevice nature device job fault
     ⊎ (FailsFiles nature job fault
@@ -74,20 +69,17 @@ FailsLogRole nature device job log fault = FailsApart nature (Some device) log f
     ⊎ (FailsApart nature (named_by job).output log fault
     ⊎ (FailsApart nature (named_by job).journal log fault ⊎ FailsUnprinted nature log fault))))
 
--- ---- sources
-
 abbrev pub IsThere : View → JournalUse → Fault → Type 0
 IsThere view (uses.Journal name) (end.File file.Exists of cause) = (of.now ≡ name.now) × Happens view (There name.now)
 IsThere view _ fault = ⊥
 
--- Holds for the fault of a change whose journal exists already, or of a restore whose journal is invalid.
+-- Holds for file fault 4 of a change whose journal exists already, or for the fault of a restore's invalid journal.
 abbrev pub FailsCheck : View → Task → Fault → Type 0
 FailsCheck view (task.Change change) fault = IsThere view change.journal_use fault
 FailsCheck view (task.Restore journal) fault = IsInvalid view journal.now fault
 FailsCheck view _ fault = ⊥
 
--- Holds if `bytes` were read from the job's image or journal: at most one byte more than the longest journal has or,
--- for a write, than the largest chip. A comparison may use a journal in place of an image.
+-- Holds if `bytes` were read from the job's image or journal, or are empty because the job has neither.
 abbrev pub AreBytes : View → Task → List ℕ → Type 0
 AreBytes view (task.Verify file regions) bytes = IsRead view file.now 16793662 bytes
 AreBytes view (task.Change change) bytes = IsImage view change.wanted bytes
@@ -104,14 +96,12 @@ abbrev pub AreReplacedIn : View → (image : Option (Bor Text)) → List RegionF
 AreReplacedIn view None files old new = new ≡ old
 AreReplacedIn view (Some image) files old new = AreReplaced view files old new
 
--- Holds if `whole` has the bytes of the image or journal, adapted to the job.
 pub record AreUsed (view : View) (replaced : Bool) (job : Task) (whole : List ℕ) : Type 0 where
   pub found : List ℕ
   pub read : AreBytes view job found
   pub adapted : AreAdapted replaced job found whole
 
--- Holds if `bytes` are those that the job uses: the adapted bytes, in which each region with a file has the bytes of
--- this file. `is_replaced` is true with `--replaced-chip`.
+-- Holds if `bytes` are those of `AreUsed`, but an image has the bytes of each region's file at the region's addresses.
 pub record ArePreparedBytes (view : View) (is_replaced : Bool) (job : Task) (files : List RegionFile)
     (bytes : List ℕ) : Type 0 where
   pub whole : List ℕ
@@ -136,8 +126,6 @@ abbrev pub FailsToPrepare : View → (replaced : Bool) → Task → List RegionF
 FailsToPrepare view replaced job files fault = FailsToReadOrCheck view job fault
     ⊎ (FailsToUse view replaced job fault ⊎ FailsToReplaceIn view replaced (named_by job).wanted job files fault)
 
--- ---- regions
-
 abbrev pub ArePlainNames : Option Regions → Text → Type 0
 ArePlainNames None names = ⊤
 ArePlainNames (Some regions) names = names ≡ names_in regions.names.now
@@ -145,8 +133,7 @@ ArePlainNames (Some regions) names = names ≡ names_in regions.names.now
 abbrev pub named_regions : Bor Text → Task → Option Regions
 named_regions names job = option_map (with_names names) (regions_of job)
 
--- Holds for the addresses of the job's regions and for the regions with a file. `shown` has the bytes of a layout on
--- the chip.
+-- Holds if `ranges` has the addresses of the job's regions, and `files` lists the regions that have a file.
 pub record AreJobRegions (view : View) (shown : Option (List ℕ)) (job : Task) (files : List RegionFile)
     (ranges : Option (List Span)) : Type 0 where
   pub names : Bor Text
@@ -154,19 +141,17 @@ pub record AreJobRegions (view : View) (shown : Option (List ℕ)) (job : Task) 
   pub included : AreRangesOf view shown (named_regions names job) ranges
   pub files_in : AreFilesIn view shown (regions_of job) files
 
--- ---- the image that a bus may expect
-
 abbrev pub writes_image : Wanted → Bool
 writes_image (wanted.Write image) = true
 writes_image _ = false
 
--- true if the job ends with a comparison of the chip with an image: for `-v`, and for `-w` without `-n` and `-N`
+-- True if the job ends with a comparison of the chip with an image: for `-v`, and for `-w` without `-n` and `-N`.
 abbrev pub ends_with_image : Operation → Task → Bool
 ends_with_image operation (task.Verify file regions) = true
 ends_with_image operation (task.Change change) = is_compared operation change && writes_image change.wanted
 ends_with_image operation _ = false
 
--- Holds if the bus expects no image, or expects the image with which the job ends.
+-- Holds if the bus expects no image, or if it expects `bytes` and the job ends with a comparison with this image.
 abbrev pub MayExpectImage : Operation → (bytes : List ℕ) → Option (List ℕ) → Type 0
 MayExpectImage operation bytes None = ⊤
 MayExpectImage operation bytes (Some image) = (ends_with_image operation operation.task ≡ true) × (image ≡ bytes)

@@ -1,4 +1,3 @@
--- What a task changes, and whether it is compared.
 use Rattle.std.specs.Prelude.{◌&&◌, Bool, true, false}
 use Rattle.nor_args.specs.declared.job.Change.{Change}
 use Rattle.nor_args.specs.declared.job.Operation.{Operation}
@@ -9,6 +8,6 @@ abbrev pub changes_bytes : Wanted → Bool
 changes_bytes (wanted.Range start len) = false
 changes_bytes _ = true
 
--- true if the whole chip is compared after a change: for a write or an erase without `-n` and `-N`
+-- True if the whole chip is compared after a change: after a write or an erase without `-n` and `-N`.
 abbrev pub is_compared : Operation → Change → Bool
 is_compared operation change = changes_bytes change.wanted && (change.verify && operation.verifies_all)

@@ -7,16 +7,13 @@ use crate::region_faults::RegionFault;
 use nor_console::Fault;
 use std::fmt;
 
-/// The reason why a run ends before its job uses a chip, except the faults of its programmer.
+/// The reason why a run ends before its job starts, except the faults of its programmer.
 #[derive(Drop)]
 pub enum EarlyEnd<'a> {
-    /// A fault that `flashnor` reports too.
     Fault(Fault<'a>),
-    /// A region of `-i` that has a file of its own, or this file, can't be used.
     Region(RegionFault<'a>),
-    /// The journal doesn't save the whole chip.
     NotWhole(NotWhole<'a>),
-    /// Layout fault 8: this name of `-i` is none of the `known` regions.
+    /// Layout fault 8: no region in `known` has this name, which `-i` contains.
     NoRegion { name: &'a str, known: NamesLine<'a> },
 }
 

@@ -6,7 +6,7 @@ use nor_console::{Fault, SystemReason, lost_output, print_fault};
 use std::io;
 use std::io::Write;
 
-/// Prints a fault, and returns the exit status, which is 1.
+/// Prints `fault` and returns exit status 1.
 pub fn end_badly<E: Write>(errors: &mut E, fault: &Fault<'_>) -> u8
     ensures { result ≡ 1 }
 {
@@ -14,8 +14,7 @@ pub fn end_badly<E: Write>(errors: &mut E, fault: &Fault<'_>) -> u8
     1
 }
 
-/// Returns exit status 0 if printing to standard output succeeded. Otherwise prints file fault 2, with the system's
-/// reason if there is one of its own, and returns 1.
+/// Returns exit status 0 if `printed` is `Ok`. Otherwise prints file fault 2 and its advice, if any, and returns 1.
 pub fn status_of<E: Write>(printed: io::Result<()>, errors: &mut E) -> u8
     ensures few { result ≤ 1 }
     ensures printed { result ≡ 0 → IsOk printed }

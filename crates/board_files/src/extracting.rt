@@ -15,10 +15,9 @@ use nor_jobs::journal_in;
 use std::io;
 use std::io::Write;
 
-/// Writes the image in the journal `name` into the file `image`, which is created or truncated, without a sync. Prints
-/// the description of the journal to `output`, or the reason for a failure to `errors`. Returns exit status 0 if the
-/// journal is valid and saves the whole chip, and everything was written and printed. In the real file system, a file
-/// `image` that is a journal stays as it is.
+/// Extracts the image in the journal `name` into the file `image`, which is created or truncated, but not synced.
+/// Prints the description of the journal to `output` and returns exit status 0. If the journal is invalid or lacks a
+/// sector, a file can't be used, memory runs out or printing fails, prints the fault to `errors` and returns 1.
 pub fn extract_image<R: Store, O: Write, E: Write>(
     files: &mut R,
     name: &str,

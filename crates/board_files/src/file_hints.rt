@@ -6,7 +6,7 @@ use nor_journal::JournalFault;
 use nor_session::Refusal;
 use std::io::Write;
 
-/// Prints the line that follows the line of a fault, if the fault has such a line.
+/// Prints the advice that follows the line of a file fault or of error 15, if there is any.
 pub fn print_hint<E: Write>(errors: &mut E, fault: &Fault<'_>) {
     if let Some(text) = hint_for(fault) {
         let _ = writeln!(errors, "{text}");

@@ -1,4 +1,4 @@
-//! The image in a journal that saves the whole chip: for `--extract-image`, and for `-v` of a backup.
+//! The image in a journal that saves the whole chip.
 ghost use Rattle.std.specs.Prelude.{◌≡◌, ◌≤◌, ◌/◌, IfErr, IfOk, OnOk};
 ghost use Rattle.board_files.specs.Images.{FailsToUnpack, FailsWhole, IsImageIn, IsNotWholeIn, IsUnpacked, IsWhole};
 ghost use Rattle.board_files.specs.Images.{begins_as_journal, saved_image};
@@ -12,7 +12,7 @@ use nor_session::Refusal;
 use std::alloc::{AllocError, Global};
 use std::fmt;
 
-/// The fault of a journal that doesn't save every sector of its chip.
+/// Backup fault 1: the journal in the file `name` saves only `saved` of the `sectors` sectors of its chip.
 #[derive(Clone, Copy, Drop)]
 pub struct NotWhole<'a> {
     pub name: &'a str,
@@ -36,7 +36,7 @@ impl fmt::Display for NotWhole<'_> {
     }
 }
 
-/// Checks that the journal in the file of this name saves every sector of its chip. Returns `NotWhole` if it doesn't.
+/// Checks that `journal` saves every sector of its chip. Otherwise returns `NotWhole` with `name`, the journal's file.
 pub fn check_whole<'a>(name: &'a str, journal: &Journal<'_>) -> Result<(), NotWhole<'a>>
     ensures ok { OnOk result (IsWhole journal.now) }
     ensures err { IfErr result (IsNotWholeIn journal.now name.entry) }
@@ -63,8 +63,7 @@ pub fn sectors_of(journal: &Journal<'_>) -> u32
     journal.size() / SECTOR_LEN
 }
 
-/// Returns the image in the journal in the file of this name. Returns `NotWhole` if a sector isn't saved, or error 18
-/// if memory runs out.
+/// Returns the image in `journal`, `NotWhole` if a sector isn't saved, or error 18 if memory runs out.
 pub fn whole_image<'a>(
     alloc: Global,
     name: &'a str,
@@ -92,8 +91,8 @@ fn join_sectors(alloc: Global, journal: &Journal<'_>) -> Result<Vec<u8>, AllocEr
     Ok(image)
 }
 
-/// Returns `bytes`, read from the file of this name, or the image in them if they begin as a journal. For a journal,
-/// returns error 15 if it is invalid, `NotWhole` if a sector isn't saved, and error 18 if memory runs out.
+/// Returns `bytes`, read from the file `name`, or the image in them if they begin as a journal. Returns error 15 if
+/// this journal is invalid, or a fault of `whole_image`.
 pub fn unpacked<'a>(alloc: Global, name: &'a str, bytes: Vec<u8>) -> Result<Vec<u8>, EarlyEnd<'a>>
     ensures ok { IfOk result (λ image. IsUnpacked bytes.items image.items) }
     ensures err { IfErr result (FailsToUnpack bytes.items name.entry) }

@@ -9,23 +9,22 @@ use nor_console::{include_regions, read_layout};
 use nor_files::Store;
 use nor_layout::{Ranges, Region};
 
-/// The named region that has the greatest address, and this address.
+/// The region of `-i` with the greatest address, and this address (`end`).
 #[derive(Clone, Copy, Drop)]
 pub struct Farthest<'a> {
     pub name: &'a str,
     pub end: u32,
 }
 
-/// The addresses of the named regions, and the region among them that has the greatest address. Both are `None` if no
-/// regions are given.
+/// The addresses of the regions of `-i`, and the farthest of these regions. Both are `None` if no regions are given.
 #[derive(Drop)]
 pub struct Included<'a> {
     pub ranges: Option<Ranges>,
     pub farthest: Option<Farthest<'a>>,
 }
 
-/// Returns the addresses of the named regions. `shown` has the bytes of a layout on the chip. Returns the faults of
-/// `read_layout`, and `NoRegion`, which lists the regions of the layout, for a name that is none of them.
+/// Returns the addresses of the named regions. `shown` holds the bytes of a layout on the chip. Returns a fault of
+/// `read_layout`, or `NoRegion` for a name that no region of the layout has.
 pub fn find_included<'a, R: Store>(
     rt: &R,
     regions: Option<Regions<'a>>,

@@ -17,26 +17,25 @@ use nor_probe::{ChipName, part_for};
 use std::io::Write;
 use std::{fmt, io};
 
-/// The contents of a sealed and undamaged journal.
+/// A summary of a sealed and undamaged journal.
 #[derive(Drop)]
 pub struct Description {
-    /// The three bytes of the chip's ID.
     pub id: [u8; 3],
     /// The chip's size in bytes.
     pub size: u32,
-    /// The eight bytes of the chip's unique ID, or `None` for a journal of format 1.
+    /// The chip's unique ID, or `None` for a journal of format 1.
     pub unique: Option<[u8; 8]>,
     /// Status 1 and status 2.
     pub status: [u8; 2],
     pub saved: usize,
-    /// The first and the last of the saved addresses, or `None` if no sector is saved.
+    /// The first and the last saved address, or `None` if no sector is saved.
     pub ends: Option<(u64, u64)>,
     /// The number of saved sectors that hold only FFh.
     pub blank: usize,
 }
 
-/// Prints the description of the journal in the named file to `output`, or the reason why there is none to `errors`.
-/// Returns exit status 0 if the journal is sealed and undamaged, and everything was printed. Changes no file.
+/// Prints the description of the journal `name` to `output`, or the fault of this file to `errors`. Returns exit status
+/// 0 if the journal is sealed and undamaged and everything was printed, otherwise 1.
 pub fn check_journal<R: Store, O: Write, E: Write>(
     files: &mut R,
     name: &str,
@@ -72,7 +71,6 @@ fn describe<'a, R: Store>(files: &mut R, name: &'a str) -> Result<Description, F
     }
 }
 
-/// Returns the description of the journal.
 pub fn description_of(journal: &Journal<'_>) -> Description
     ensures { Describes journal.now result }
 {
@@ -136,7 +134,6 @@ pub fn advice(fault: JournalFault) -> &'static str {
     }
 }
 
-/// Prints the description of the journal in the file of this name.
 pub fn print_description<W: Write>(
     output: &mut W,
     name: &str,
@@ -229,7 +226,7 @@ impl fmt::Display for UniqueId {
 #[derive(Clone, Copy, Drop)]
 pub struct StatusBits(pub [u8; 2]);
 
-// The bits of status 1, from bit 0 on (datasheets of W25Q64FV and W25Q128FV, section 7.1).
+// The names of the bits from bit 0 on (datasheets of W25Q64FV and W25Q128FV, section 7.1).
 const STATUS1: [&str; 8] = ["BUSY", "WEL", "BP0", "BP1", "BP2", "TB", "SEC", "SRP0"];
 
 const STATUS2: [&str; 8] = ["SRP1", "QE", "reserved", "LB1", "LB2", "LB3", "CMP", "SUS"];

@@ -8,7 +8,7 @@ use nor_maps::MapFault;
 use std::fmt;
 use std::str::from_utf8;
 
-/// The lines of a map fault. They number the entries of a flash descriptor from 0, and the areas of an FMAP from 1.
+/// The lines for a fault of a flash descriptor, whose entries count from 0, or of an FMAP, whose areas count from 1.
 #[derive(Clone, Copy, Drop)]
 pub struct MapLines {
     fault: MapFault,
@@ -17,7 +17,6 @@ pub struct MapLines {
 }
 
 impl MapLines {
-    /// Returns the lines of this fault of the layout to which a task is limited.
     pub fn new(fault: MapFault, task: &Task<'_>) -> MapLines {
         let (table, place) = match regions_of(task) {
             Some(Regions { layout, form, .. }) => (table_of(form), place_of(layout)),
@@ -82,7 +81,7 @@ fn text_of_region(fault: RegionFault) -> &'static str {
     }
 }
 
-/// The line with the names of a layout's regions, as far as a few lines of a terminal can hold them.
+/// The line with the names of a layout's regions. If it would be long, it has the first names and counts the others.
 #[derive(Drop)]
 pub struct NamesLine<'a> {
     /// The name of the file with the layout, or `None` if the layout is on the chip.
@@ -90,7 +89,7 @@ pub struct NamesLine<'a> {
     pub layout: Layout,
 }
 
-// After this number of bytes, only the number of the further regions is printed.
+// The number of bytes after which `NamesLine` prints only how many more regions there are.
 const MOST_NAMES: usize = 200;
 
 impl fmt::Display for NamesLine<'_> {

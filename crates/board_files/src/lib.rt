@@ -1,5 +1,5 @@
-//! The files of a job on a chip, which are checked and read before the chip is used: images, journals, and regions with
-//! files of their own. No bus is used.
+//! The files of a job on a chip: images, journals with their sums files, and the files of regions. This crate checks,
+//! reads, describes and writes these files, and uses no bus.
 #![tactic(auto)]
 
 mod early_ends;

@@ -1,15 +1,13 @@
 //! Names of files in commands that you may copy.
 use std::fmt;
 
-/// The name of a file as one argument for every POSIX shell: unchanged if it has only ASCII letters, digits and
-/// `./_-+,=`, otherwise in single quotes. A name that begins with `-` gets the prefix `./`, because a command would
-/// take it for an option.
+/// The name of a file as one argument of a POSIX shell: in single quotes if it is empty or has other characters than
+/// ASCII letters, digits and `./_-+,=`. A name that begins with `-` gets the prefix `./`, so it isn't an option.
 #[derive(Clone, Copy, Drop)]
 pub struct Quoted<'a>(&'a str);
 
 impl<'a> Quoted<'a> {
-    /// Returns the name as an argument, or `None` if a terminal doesn't show its characters as they are, so it can't be
-    /// copied.
+    /// Returns the argument, or `None` if `name` can't be copied, because it has a control or directional character.
     pub fn new(name: &'a str) -> Option<Quoted<'a>> {
         if name.chars().all(|character| is_printed(character)) {
             Some(Quoted(name))
@@ -42,7 +40,7 @@ fn is_plain(byte: u8) -> bool {
     byte.is_ascii_alphanumeric() || matches!(byte, b'.' | b'/' | b'_' | b'-' | b'+' | b',' | b'=')
 }
 
-// Unicode Standard Annex 9, Explicit Directional Embeddings, Overrides and Isolates.
+// The directional characters begin or end an embedding, override or isolate (Unicode Standard Annex 9).
 fn is_printed(character: char) -> bool {
     let is_directional = matches!(character, '\u{202a}'..='\u{202e}' | '\u{2066}'..='\u{2069}');
     !character.is_control() && !is_directional

@@ -16,22 +16,20 @@ use nor_journal::Vault;
 use nor_layout::Span;
 use std::io::ErrorKind;
 
-/// Returns whether the operation is a read that isn't a backup, the only one that writes the files of regions.
+/// Returns true for a read that isn't a backup. No other operation writes the files of regions.
 pub fn reads_out(operation: &Operation<'_>) -> bool
     ensures { result ≡ reads_out operation.now.is_backup operation.now.task }
 {
     matches!(operation.task, Task::Read { .. }) && !operation.is_backup
 }
 
-/// Writes the file of each region after a read that succeeded: it is created or truncated, and gets the bytes that the
-/// file of the read has at the region's addresses. Does nothing for other jobs.
-///
-/// Before each file is written, it is compared again with the log, with the file of the read and with the files of
-/// earlier regions: its name may be a link to one of these, which did not exist until the run created it.
-///
-/// Returns file fault 5 for a file that has a second role by now, file fault 1 for a name that can't be looked up, and
-/// a fault of `empty` or file fault 2 for a file that can't be written. Returns a fault of `read_file` for the file of
-/// the read, or file fault 1 if it ends before the end of a region.
+/// Copies the bytes of each region from the output of a successful read to the region's file, which is created or
+/// truncated. Does nothing for a backup or another task. Just before a file is written, it is compared again with the
+/// log, the output and the files of earlier regions, because its name may be a link to a file that this run created.
+/// Returns:
+/// - file fault 5 if a file of a region has a second role by now, or file fault 1 if a name can't be looked up
+/// - a fault of `read_file` for the output, or file fault 1 if the output ends before the end of a region
+/// - a fault of `write_file`
 pub fn write_region_files<'a, R: Store>(
     rt: &mut R,
     operation: &Operation<'a>,
@@ -88,9 +86,8 @@ fn part_in(bytes: &[u8], span: Span) -> Option<&[u8]>
     Some(&bytes[first..end])
 }
 
-/// Creates or truncates the file of this name, and writes these bytes into it, without a sync.
-///
-/// Returns the faults of `empty`, or file fault 2 if the file can't be written.
+/// Creates or truncates the file `name` and writes `bytes`, without a sync. Returns a fault of `empty`, or file fault 2
+/// if the file can't be written.
 pub fn write_file<'a, R: Store>(rt: &mut R, name: &'a str, bytes: &[u8]) -> Result<(), Fault<'a>>
     ensures nature { (R.state rt.new).view.nature ≡ (R.state rt.old).view.nature }
     ensures others { is_lawful (R.state rt.old).view ≡ true
@@ -115,8 +112,8 @@ fn unwritten_cause<R: Store>(rt: &R) -> Cause {
     }
 }
 
-/// Returns the system's reason why the last journal or output of the run can't be written. Returns `None` if all writes
-/// and syncs succeeded, or if the file was removed or replaced meanwhile.
+/// Returns the reason for the last failed write or sync of the vault that was returned last to `files`. Returns `None`
+/// if none failed, or if the vault's file was removed or replaced or has another length (`NotFound`).
 pub fn unwritten_by<R: Store>(files: &R) -> Option<SystemReason> {
     let error = files.vault_error()?;
     match error.kind() {

@@ -4,7 +4,7 @@ use nor_args::UsageFault;
 use nor_console::{Escaped, FileFault};
 use std::fmt;
 
-/// A fault of a region that has a file of its own, or of its file.
+/// A fault that concerns regions with files of their own (`-i NAME:FILE`).
 #[derive(Clone, Copy, Drop)]
 pub enum RegionFault<'a> {
     /// Usage fault 7: an erase has a region with a file.
@@ -13,13 +13,11 @@ pub enum RegionFault<'a> {
     Unnamed {
         region: &'a str,
     },
-    /// File fault 1: the output of a read is a FIFO or a device, and a region has a file, which is copied from the
-    /// output.
+    /// File fault 1: the output of a read, from which the files of regions are copied, is a FIFO or a character device.
     NotReadBack {
         output: &'a str,
     },
-    /// File fault 3: the file has another length than its region. `found` is the number of bytes that were read, at
-    /// most one more than the largest chip has.
+    /// File fault 3: the file has `found` bytes (at most 16,777,217 are counted), but its region has `wanted`.
     Length {
         file: &'a str,
         found: usize,
@@ -32,7 +30,6 @@ pub enum RegionFault<'a> {
     },
 }
 
-// For a usage fault, a line that says what is wrong precedes the numbered line. For a file fault, it follows.
 impl fmt::Display for RegionFault<'_> {
     fn fmt<W: fmt::Write>(&self, f: &mut fmt::Formatter<W>) -> fmt::Result {
         match *self {

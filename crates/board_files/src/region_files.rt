@@ -17,7 +17,7 @@ use nor_layout::Span;
 use nor_session::Refusal;
 use std::alloc::{AllocError, Global};
 
-/// A region of `-i` that has a file of its own.
+/// A region of `-i` that has a file of its own (`NAME:FILE`).
 #[derive(Clone, Copy, Drop)]
 pub struct RegionFile<'a> {
     pub name: &'a str,
@@ -25,7 +25,7 @@ pub struct RegionFile<'a> {
     pub span: Span,
 }
 
-/// Returns the regions to which a task is limited, or `None` for the whole chip.
+/// Returns the regions to which a task is limited, or `None` if it has no such limit.
 pub fn regions_of<'a>(task: &Task<'a>) -> Option<Regions<'a>>
     ensures { result ≡ regions_of task.now }
 {
@@ -89,10 +89,8 @@ fn pair_in(entry: &str) -> Option<(&str, &str)>
     entry.split_once(':')
 }
 
-/// Returns the regions of a task that have a file of their own, in the order of `-i`. `shown` has the bytes of the
-/// task's layout, if the layout is on the chip.
-///
-/// Returns the faults of `read_included` for each of these regions, or error 18 if memory runs out.
+/// Returns the regions of a task that have a file, in the order of `-i`. `shown` holds the bytes of a layout on the
+/// chip. Returns a fault of `read_included` for one of these regions, or error 18 if memory runs out.
 pub fn find_region_files<'a, R: Store>(
     rt: &R,
     task: &Task<'a>,
@@ -153,11 +151,9 @@ fn find_span<'a, R: Store>(
     }
 }
 
-/// Replaces the bytes of each region in `bytes`, those of the file `image`, by the bytes of the region's file. If
-/// regions overlap, the later file replaces the bytes of the earlier one.
-///
-/// Returns file fault 3 for a file that hasn't exactly the length of its region, and for an image that ends before the
-/// end of a region. Also returns the faults of `read_file`.
+/// Replaces the bytes at each region's addresses in `bytes`, read from the file `image`, by those of the region's file.
+/// If regions overlap, the later file wins. Returns file fault 3 if the length of a file isn't that of its region, or
+/// if the image ends before the end of a region. Also returns the faults of `read_file`.
 pub fn replace_regions<'a, R: Store>(
     rt: &R,
     image: &'a str,

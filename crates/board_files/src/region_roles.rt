@@ -17,8 +17,9 @@ use nor_console::{Cause, Fault, Named, apart, exists, named_by, reading, unprint
 use nor_files::Store;
 use nor_journal::{FIRST_MAGIC, MAGIC};
 
-/// Checks the files of regions: their names and roles, that the output of a read can be read back to fill them, and
-/// that none that will be truncated is a journal. Returns the first fault of these checks.
+/// Checks the files of regions. Returns the first of these faults: `Erased` or `Unnamed`; file fault 5 if a file has a
+/// second role, or file fault 1 if a name can't be looked up; for a read, `NotReadBack`, file fault 4 if a file begins
+/// as a journal, or file fault 1 or error 18 if a file can't be read.
 pub fn check_region_files<'a, R: Store>(
     rt: &R,
     device: &'a str,
@@ -114,8 +115,7 @@ fn are_distinct<'a, R: Store>(rt: &R, files: &[RegionFile<'a>]) -> Result<(), Fa
     Ok(())
 }
 
-/// Checks that `file` is apart from the files of the `earlier` regions. Returns file fault 5 with the name `file`, or
-/// file fault 1 with the name that can't be looked up.
+/// Checks that `file` is apart from the file of each of the `earlier` regions. Returns a fault of `apart`.
 pub fn is_apart_from<'a, R: Store>(
     rt: &R,
     earlier: &[RegionFile<'a>],
@@ -164,7 +164,7 @@ fn are_no_journals<'a, R: Store>(
     Ok(())
 }
 
-// A FIFO or a device isn't read: it holds no journal, and a read might wait.
+// A FIFO or a character device isn't read, because a read of it may block.
 fn is_no_journal<'a, R: Store>(rt: &R, name: &'a str) -> Result<(), Fault<'a>>
     ensures { IfErr result (FailsOldFile (R.state rt.now).view name.entry) }
 {

@@ -1,4 +1,4 @@
-//! Journals with another header: for another device of the same type (`--replaced-chip`), or with other status bytes.
+//! Journals that are encoded again, without their unique ID (`--replaced-chip`) or with other status bytes.
 ghost use Rattle.std.specs.Prelude.{◌≡◌, ◌++◌, IfErr, IfOk, OnOk};
 ghost use Rattle.nor_journal.specs.Text.{end_mark, head, record_text, text};
 ghost use Rattle.sha2.specs.Sha256.{sha256};
@@ -16,11 +16,9 @@ use sha2::{Digest, Sha256};
 use std::alloc::{AllocError, Global};
 use std::io::Write;
 
-/// Returns what the task uses in place of `bytes`, those of its file: the image in a journal for `-v`, the journal
-/// without its unique ID for a restore on a replaced chip, otherwise `bytes`.
-///
-/// Returns error 15 if the bytes should be a journal and are none, `NotWhole` if a sector isn't saved, or error 18 if
-/// memory runs out.
+/// Returns the bytes that the task uses in place of `bytes`, the contents of its file: for `-v` those of `unpacked`,
+/// for a restore if `is_replaced` the journal without its unique ID, otherwise `bytes`. In the first two cases, returns
+/// error 15 for an invalid journal, `NotWhole` if the journal lacks a sector, or error 18 if memory runs out.
 pub fn adapted<'a>(
     alloc: Global,
     task: &Task<'a>,
@@ -37,7 +35,7 @@ pub fn adapted<'a>(
     }
 }
 
-/// Prints what `--replaced-chip` does, if it is given.
+/// Prints what `--replaced-chip` does, if the operation has this option.
 pub fn print_replaced<E: Write>(errors: &mut E, operation: &Operation<'_>) {
     if operation.is_replaced_chip {
         let _ = writeln!(errors, "{REPLACES}");
@@ -47,7 +45,7 @@ pub fn print_replaced<E: Write>(errors: &mut E, operation: &Operation<'_>) {
 const REPLACES: &str =
     "The backup replaces all that this chip holds, whatever the chip's unique ID is (--replaced-chip).";
 
-// Format 1 has no unique ID. A session's journal is refused, since it says nothing about the other sectors of the chip.
+// Encodes the journal in format 1, without its unique ID, if the journal saves every sector of its chip.
 fn for_any_device<'a>(alloc: Global, name: &'a str, bytes: &[u8]) -> Result<Vec<u8>, EarlyEnd<'a>>
     ensures ok { IfOk result (λ new. IsForAnyDevice bytes.now new.items) }
     ensures err { IfErr result (FailsToUnpack bytes.now name.entry) }
@@ -60,8 +58,7 @@ fn for_any_device<'a>(alloc: Global, name: &'a str, bytes: &[u8]) -> Result<Vec<
     }
 }
 
-/// Returns the encoding of `journal` with these status bytes, status 1 first. All else is as in `journal`. Returns an
-/// error if memory runs out.
+/// Returns the encoding of `journal` with this status (status 1 first) in place of its own. Fails if memory runs out.
 pub fn encode_with_status(
     alloc: Global,
     journal: &Journal<'_>,

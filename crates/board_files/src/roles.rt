@@ -6,11 +6,9 @@ use nor_args::{Operation, Task};
 use nor_console::{Fault, Named, apart, named_by, unprinted};
 use nor_files::Store;
 
-/// Checks that the device, the output and the journal have no second role, and that the program prints neither to the
-/// output nor to the journal. A layout and an image, which a job only reads, may be the same file.
-///
-/// Returns file fault 5 with the name of that file, or of the later of two roles: device, layout, image to write or
-/// compare, output, journal. Returns file fault 1 if a name can't be looked up.
+/// Checks that the device and the files of the task (`named_by`) are apart, except that layout and image may be one
+/// file, and that the program doesn't print to the output or the journal. Returns file fault 5 with the name of the
+/// file that has a second role, or file fault 1 if a name can't be looked up.
 pub fn have_one_role<'a, R: Store>(
     rt: &R,
     device: &'a str,
@@ -37,8 +35,8 @@ pub fn have_one_role<'a, R: Store>(
     unprinted(rt, journal)
 }
 
-/// Checks that the log is neither the device nor a file of the job nor a file to which the program prints. Returns file
-/// fault 5 with the name of the log, or file fault 1 with a name that can't be looked up.
+/// Checks that the log is apart from the device and the job's files, and that the program doesn't print to it. Returns
+/// file fault 5 with the name of the log, or file fault 1 if a name can't be looked up.
 pub fn has_own_log<'a, R: Store>(
     rt: &R,
     device: &'a str,

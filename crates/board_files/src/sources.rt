@@ -1,4 +1,4 @@
-//! The files that a job needs, which are read and checked before the programmer is used.
+//! The image or the journal of a job, which is read and checked before the job starts.
 ghost use Rattle.std.specs.Prelude.{◌≡◌, IfErr, IfOk, option_map};
 ghost use Rattle.nor_files.specs.Files.{AreUntouched};
 ghost use Rattle.board_files.specs.Sources.{AreBytes, ArePreparedBytes, FailsCheck, FailsToPrepare};
@@ -16,11 +16,9 @@ use nor_files::Store;
 use nor_jobs::{Sources, journal_in, read_image};
 use nor_layout::Ranges;
 
-/// Returns a copy of the image of `-v`, or of `-w` without `-n` and `-N`. Returns `None` for any other job, or if
-/// memory runs out.
-///
-/// The bus reads data that equals this image only once. If `-w` misreads a sector as equal and skips it, the comparison
-/// at the end detects this, unless it misreads the sector in the same way.
+/// Returns a copy of the image of `-v`, or of `-w` without `-n` and `-N`, for a bus that reads only those sectors twice
+/// that differ from this image. Returns `None` for any other job, or if memory runs out. If `-w` misreads a sector as
+/// equal and skips it, the comparison at the end detects this, unless it misreads the sector in the same way.
 pub fn image_of(sources: &Sources, operation: &Operation<'_>) -> Option<Vec<u8>>
     ensures { MayExpectImage operation.now sources.now.bytes.items (option_map (λ image. image.items) result) }
 {
@@ -43,11 +41,10 @@ fn ends_with_image(operation: &Operation<'_>) -> bool
     }
 }
 
-/// Reads the image or the journal of a task, checks it, adapts it (`adapted`), and replaces the bytes of `regions` in
-/// an image. `included` has the addresses of the regions, and `is_replaced` is true with `--replaced-chip`.
-///
-/// Returns the faults of `read_file` and `read_journal`, error 15 for an invalid journal, file fault 4 if the journal
-/// of a change already exists, or a fault of `adapted` or `replace_regions`.
+/// Reads and checks the image or the journal of a task, adapts it (`adapted`), and replaces the bytes of `regions` in
+/// an image. `included` has the addresses of all regions, and `is_replaced` is true with `--replaced-chip`. Returns a
+/// fault of `read_file`, `read_journal`, `adapted` or `replace_regions`, error 15 for an invalid journal of a restore,
+/// or file fault 4 if the journal of a change already exists.
 pub fn prepare_sources<'a, R: Store>(
     rt: &mut R,
     task: &Task<'a>,
@@ -71,7 +68,7 @@ pub fn prepare_sources<'a, R: Store>(
     Ok(sources)
 }
 
-// A comparison may use a journal in place of an image, and the longest journal is longer than the largest chip.
+// For `-v`, the limit is `MOST_JOURNAL_BYTES`: the file may be a journal, which can be longer than the largest chip.
 fn read_bytes<'a, R: Store>(rt: &mut R, task: &Task<'a>) -> Result<Vec<u8>, Fault<'a>>
     ensures same { AreUntouched (R.state rt.old) (R.state rt.new) }
     ensures ok { IfOk result (λ bytes. AreBytes (R.state rt.old).view task.now bytes.items) }

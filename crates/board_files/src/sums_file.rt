@@ -1,5 +1,4 @@
-//! The file with the sums of the sectors before a session (in the encoding of `nor_sums`), named as the session's
-//! journal with `.sectors` appended.
+//! The sums file `JOURNAL.sectors`: checksums (`nor_sums`) of the chip's sectors before the session with this journal.
 
 use crate::file_hints::print_hint;
 use crate::tasks::changes_bytes;
@@ -14,14 +13,14 @@ use std::io::Write;
 
 const SUFFIX: &str = ".sectors";
 
-/// Returns the name of the file with the sums beside the journal of this name, or an error if memory runs out.
+/// Returns the name of the sums file of this journal, or an error if memory runs out.
 pub fn sums_name(alloc: Global, journal: &str) -> Result<String, AllocError> {
     let mut name = String::from_str(alloc, journal)?;
     name.push_str(SUFFIX)?;
     Ok(name)
 }
 
-/// Returns the name of the journal of a write or an erase, or `None` if the operation is another one or has no journal.
+/// Returns the name of the journal of a write or an erase, or `None` without a journal or for another operation.
 pub fn noting_journal<'a>(operation: &Operation<'a>) -> Option<&'a str> {
     match &operation.task {
         Task::Change(
@@ -35,9 +34,8 @@ pub fn noting_journal<'a>(operation: &Operation<'a>) -> Option<&'a str> {
     }
 }
 
-/// Checks that there is no file with the sums beside the new journal of a write or an erase. If there is, prints file
-/// fault 4 and returns false. Without a check, returns true if the journal exists, because its own fault is printed
-/// later, or if memory runs out.
+/// Returns false and prints file fault 4 if a write or an erase has a new journal whose sums file exists already.
+/// Otherwise returns true, even if the journal exists too (its own fault is printed later), or if memory runs out.
 pub fn is_new<R: Store, E: Write>(files: &R, operation: &Operation<'_>, errors: &mut E) -> bool {
     let Some(journal) = noting_journal(operation) else {
         return true;
@@ -54,25 +52,24 @@ pub fn is_new<R: Store, E: Write>(files: &R, operation: &Operation<'_>, errors: 
     false
 }
 
-/// The contents of the file beside a restore's journal, or why there are none.
+/// The contents of the sums file of a restore's journal, or the reason why they aren't used.
 #[derive(Drop)]
 pub enum Before {
-    /// No comparison is made: the job isn't a restore, it isn't compared (`-N`), or its journal saves all sectors.
+    /// The job isn't a restore without `-N`, or its journal is invalid or saves all sectors.
     Unneeded,
-    /// The file is missing, and the journal saves no sector, as after a session of `--wp-range`. Even so, a disturbed
-    /// status write may have changed a sector.
+    /// The file is missing, and the journal saves no sector, as after a session of `--wp-range`.
     Unwritten,
     /// The file is missing, and the journal saves a sector.
     Missing,
     /// The file can't be read, has other contents than a session writes, or memory ran out.
     Damaged,
-    /// The file was written for another journal.
+    /// The file was written for another journal: its ID, its unique ID or its sum of a saved sector differs.
     Other,
-    /// The sums before the session of the sectors that the journal doesn't save.
+    /// The sums of the sectors that the journal doesn't save, from before the session.
     Known(Sums),
 }
 
-/// Reads the file beside the journal of a restore that is compared. `bytes` are those of the journal.
+/// Reads the sums file of a restore's journal. `bytes` are the bytes of this journal.
 pub fn read_before<R: Store>(files: &R, operation: &Operation<'_>, bytes: &[u8]) -> Before {
     match &operation.task {
         Task::Restore { journal } if operation.verifies_all => match Journal::read(bytes) {
@@ -114,7 +111,7 @@ fn before_of(sheet: Sheet, journal: &Journal<'_>) -> Before {
     Before::Known(sums)
 }
 
-/// The line of a restore that lacks the sums for its comparison. `journal` is the name of its journal.
+/// The line that a restore prints if it lacks the sums. `journal` is the name of its journal, and `why` the reason.
 #[derive(Clone, Copy, Drop)]
 pub struct UnknownLine<'a> {
     pub journal: &'a str,
@@ -133,7 +130,7 @@ impl fmt::Display for UnknownLine<'_> {
 }
 
 impl Before {
-    /// Returns why there are no sums, or `None` if there are, or if none are needed.
+    /// Returns why the sums are lacking, or `None` if they are known or not needed.
     pub fn why_unknown(&self) -> Option<&'static str> {
         match self {
             Before::Missing => Some("is missing"),

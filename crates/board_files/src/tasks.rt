@@ -4,7 +4,7 @@ ghost use Rattle.board_files.specs.Tasks.{changes_bytes, is_compared};
 
 use nor_args::{Change, JournalUse, Operation, Task, Wanted};
 
-/// Returns whether the whole chip is compared after this change: a write or an erase without `-n` and `-N`.
+/// Returns whether the whole chip is compared after this change: after a write or an erase without `-n` and `-N`.
 pub fn is_compared(operation: &Operation<'_>, change: &Change<'_>) -> bool
     ensures { result ≡ is_compared operation.now change.now }
 {
@@ -16,7 +16,7 @@ pub fn is_session(task: &Task<'_>) -> bool {
     matches!(task, Task::Change(_))
 }
 
-/// Returns the name of the session's journal, or `None` for another task or a session without a journal.
+/// Returns the name of the session's journal, or `None` for a rehearsal or another task.
 pub fn journal_of<'a>(task: &Task<'a>) -> Option<&'a str> {
     match task {
         Task::Change(

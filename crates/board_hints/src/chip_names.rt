@@ -34,7 +34,6 @@ impl fmt::Display for Connected {
     }
 }
 
-/// An ID as six hexadecimal digits.
 #[derive(Clone, Copy, Drop)]
 pub struct Hex(pub [u8; 3]);
 

@@ -12,16 +12,16 @@ use nor_session::Refusal;
 use std::fmt;
 use std::io::Write;
 
+/// The facts about a chip and a job that the line after a fault may need.
 #[derive(Clone, Copy, Drop)]
 pub struct Known<'a> {
     pub saved: Option<Saved>,
     pub replies: Replies,
-    /// Whether the chip's SFDP says that its pages have fewer than 256 bytes.
+    /// True if the chip's SFDP says that its pages have fewer than 256 bytes.
     pub has_small_pages: bool,
     pub left: Left<'a>,
-    /// Why the last write or sync of the journal or the output failed, if one failed and the reason is known.
+    /// The reason why the last write or sync of the journal or the output failed, if this is known.
     pub unwritten: Option<SystemReason>,
-    /// The included region that has the greatest address.
     pub farthest: Option<Farthest<'a>>,
 }
 
@@ -81,12 +81,10 @@ pub fn print_operation_hint<E: Write>(
     }
 }
 
-// Returns whether the operation is `-r`. It truncates an existing file, unless the file is a journal.
 fn reads(operation: &Operation<'_>) -> bool {
     matches!(operation.task, Task::Read { .. }) && !operation.is_backup
 }
 
-// Prints the line that names the file with the layout of the task, if the layout is in a file.
 fn print_file<E: Write>(errors: &mut E, task: &Task<'_>) {
     if let Some(
         Regions {
@@ -99,7 +97,6 @@ fn print_file<E: Write>(errors: &mut E, task: &Task<'_>) {
     }
 }
 
-// If the region with the greatest address and the chip's size are known, prints where this region ends, and the size.
 fn print_outside<E: Write>(errors: &mut E, farthest: Option<Farthest<'_>>, size: Option<u32>) {
     if let (Some(Farthest { name, end }), Some(size)) = (farthest, size) {
         let name = Escaped(name);
@@ -179,10 +176,9 @@ fn found_and_expected<'a>(
     }
 }
 
-// Bits 2 to 6 of status 1, which protect sectors on nearly every chip.
 const PROTECTION: u8 = 0x7C;
 
-// Returns two parts of the line after error 14: before and after the command that restores the chip.
+// Returns the parts of the line after error 14 that precede and follow the command that restores the chip.
 fn advice_on_difference(task: &Task<'_>) -> [&'static str; 2] {
     match task {
         Task::Restore { .. } => [".", IF_AGAIN],
@@ -207,14 +203,11 @@ const IF_AGAIN: &str =
     " If error 14 occurs again, disconnect all power from the chip, and restore with --quick, then from a backup \
     without --quick: its erases may be others.";
 
-// Returns the advice after error 17 for a chip with the status `found`.
-//
-// - Chip without a row: write an image. No advice if bits 2 to 5 of status 1 differ, because they may protect sectors.
-// - SRP0 differs, but not SRP1: set or clear SRP0 as in the journal.
-// - SRP1 differs, but not SRP0, and both are clear in the journal: disconnect the chip from power, which clears SRP1.
+// Returns the advice after error 17 for a chip with the status `found`:
+// - The chip has no row, and bits 2 to 5 of status 1 differ: nothing, because these bits may protect sectors.
+// - The chip has a row, and SRP0 differs, but not SRP1: set or clear SRP0 as in the journal.
+// - The chip has a row, SRP1 differs, but not SRP0, and the journal has both clear: disconnect the chip from power.
 // - Otherwise: write an image.
-//
-// Other bits may also differ, because a restore writes or keeps them.
 fn lock_advice(saved: &Saved, found: [u8; 2]) -> &'static str {
     if part_for(true, saved.id).is_none() {
         return match (saved.status[0] ^ found[0]) & 0x3C {
@@ -247,7 +240,7 @@ enum Line<'a> {
     Unknown {
         id: [u8; 3],
     },
-    // Before the first transaction of the job, the device replied to 9Fh, but has neither status 1 nor SFDP.
+    // The check before the job found a device that has an ID (9Fh), but neither status 1 nor SFDP.
     NoStatus,
     Uneven {
         id: [u8; 3],

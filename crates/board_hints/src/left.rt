@@ -7,7 +7,6 @@ use std::fmt;
 /// The state in which a job that failed left the chip. It is displayed as at most two sentences, each after a space.
 #[derive(Clone, Copy, Drop)]
 pub enum Left<'a> {
-    /// The job changes no chip.
     Reading,
     /// A session that sent no modifying command.
     Unchanged,

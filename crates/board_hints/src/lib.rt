@@ -1,5 +1,4 @@
-//! The line that follows the line of a fault of a job on a chip: what to do, or what was found and expected. The job may
-//! use any bus.
+//! The line that follows the line of a fault of a job: what to do, or what was found and expected.
 #![tactic(auto)]
 
 mod chip_names;

@@ -1,5 +1,4 @@
--- Lemmas on the journal with the board bits of a chip: that it is a journal, the restore from it, and the errors if
--- there is none.
+-- Lemmas on the fitted journal: that it is a journal, the restore from it, and the errors if there is none.
 use Rattle.std.proofs.Common.{◌≡◌, ℕ, Bool, List, Option, Result, inl, refl}
 use Rattle.nor_model.specs.Bus.{BusState}
 use Rattle.nor_journal.specs.Text.{Content as Journal, IsContent}

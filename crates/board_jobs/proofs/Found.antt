@@ -1,4 +1,3 @@
--- Lemmas on the faults of a job: before its call to the engine, and in the comparison after a change or restore.
 use Rattle.std.proofs.Common.{◌≡◌, ℕ, Bool, List, Option, Result, Ok, Err, IfErr, IfOk, false, inl, inr, refl, true}
 use Rattle.std.specs.Borrow.{Bor}
 use Rattle.std.specs.Prelude.{⊤}
@@ -111,8 +110,6 @@ module _ (operation : Operation) (old new : BusState) (change : Change) (ranges 
       → IsMaking view file.now fault
       → FailsToChange operation change ranges bytes (uses.Journal file) view old new fault
   start_fails image fault buffer making = inr (image, buffer, making)
-
--- ---- the comparison after a session
 
 abbrev IsAfter : JobFault → Type 0
 IsAfter (ended.NotCompared refusal) = ⊤

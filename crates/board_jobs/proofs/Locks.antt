@@ -1,4 +1,3 @@
--- Lemmas on a change of SRP0: the last replies after a read of the status registers, and the limits of a status write.
 use Rattle.std.proofs.Common.{◌≡◌, ◌∙◌, ◌<◌, ◌+◌, ◌*◌, ◌/◌, ◌%◌, ℕ, Bool, true, false, List, [], ◌∷◌, Ok, Option, ap, arith, inl, inr, refl, sym}
 use Rattle.std.specs.Prelude.{◌==◌, slice_index}
 use mathlib.Core.Bool.{beq}
@@ -28,8 +27,6 @@ use Rattle.board_jobs.specs.StatusLocks.{FailsFound, FailsLock, HasSetSrp0, IsSe
 use Rattle.board_jobs.specs.StatusLocks.{bytes_with, sets_srp0, shows_srp0}
 use Rattle.board_jobs.specs.declared.chip_faults.JobFault.TheVariants as ended
 
--- ---- reading
-
 no_poll : (out : List ℕ) → begins_with 0x35 out ≡ true → is_poll out ≡ false
 no_poll [] begins = refl
 no_poll (opcode ∷ []) begins = ap (λ (byte : ℕ). byte == 5) (eqb-true opcode 0x35 begins)
@@ -48,8 +45,6 @@ status_read old polled new waited two waits second one other = record {
   two_replied = rw (second.answered.history, second.answered.asks) refl;
   kept = other ∙ one;
 }
-
--- ---- the status write
 
 one_same : (one two code : ℕ) → one % 4 ≡ 0 → code ≡ 32 * (two % 128 / 64 % 2) + one / 4 % 32
     → 128 * (one / 128) + 4 * (code % 32) ≡ one

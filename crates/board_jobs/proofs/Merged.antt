@@ -1,5 +1,3 @@
--- Lemmas on the target of a change of regions: it has the bytes of the image in the regions, and the chip's bytes
--- elsewhere.
 use Rattle.std.proofs.Common.{◌≡◌, ◌<◌, ◌∙◌, ◌++◌, ℕ, List, None, Ok, Option, ap, arith, drop, length, refl, slice_index, take, true}
 use Rattle.std.proofs.Math.Seq.{take-append_seam}
 use Rattle.nor_journal.specs.Vault.{VaultState, new_vault}

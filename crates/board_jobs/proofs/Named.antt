@@ -1,4 +1,3 @@
--- Lemmas on the line that `--flash-name` prints, and on the lines of a job.
 use Rattle.std.proofs.Common.{ℕ, List, Option, refl}
 use Rattle.std.specs.Io.KnownBytes.{Appends}
 use Rattle.nor_probe.specs.declared.probes.Found.{Found}

@@ -1,4 +1,3 @@
--- Lemmas on reading, one after another, the sectors that a journal doesn't save.
 use Rattle.std.proofs.Common.{◌≡◌, ◌≢◌, ◌<◌, ◌≤◌, ◌+◌, ◌*◌, ◌/◌, ◌∙◌, ◌++◌, ◌∷◌, [], ℕ, List, ap, arith, false, inl, inr, length, refl}
 use Rattle.std.proofs.Common.{replicate, slice_index, subst, sym, true}
 use Rattle.std.specs.List.{All}
@@ -29,8 +28,7 @@ names_other opcode at other differs (first ∷ x ∷ []) is = refl
 names_other opcode at other differs (first ∷ x ∷ y ∷ []) is = refl
 names_other opcode at other differs (first ∷ x ∷ y ∷ z ∷ rest) is = grind (arith, nat_tests)
 
--- Holds if each sector below `to` that the journal doesn't save was read after `old`, and no other transaction was
--- made. `bytes` has the last reply for each of these sectors, and FFh in saved sectors.
+-- Holds if the sectors below `to` that the journal doesn't save were read, and `bytes` has the last replies.
 pub record HasReadUp (journal : Journal) (to : ℕ) (bytes : List ℕ) (old new : BusState) : Type 0 where
   pub reads : ℕ
   pub few : reads ≤ to

@@ -1,4 +1,3 @@
--- Lemmas that join the steps of a restore, with or without the comparison after it.
 use Rattle.std.proofs.Common.{◌≡◌, ℕ, Bool, List, None, Result, IfErr, IfOk, inl}
 use Rattle.std.proofs.lemmas.Result.{IfOk-weaker, MatchResult-weaker}
 use Rattle.nor_model.specs.Bus.{BusState}

@@ -36,8 +36,8 @@ use Rattle.board_jobs.specs.Sends.{KeepsSent, SendsChange, SendsJournalled, Send
 use Rattle.board_jobs.proofs.SentFitted.{job_restore_fails, of_journal, reads_on, restored_sends, same_keeps_sent}
 use Rattle.board_jobs.proofs.SentFitted.{sends_after, sends_before}
 
--- If the journal of a session is not sealed, the session sends no modifying command. If it is sealed and the files obey
--- their contract, what is sent fits the journal.
+-- If the journal of a session is not sealed, the session sends no modifying command. If the journal is sealed and files
+-- obey their contract, what is sent fits the journal.
 module _ (request : Request) (image : List ℕ) (file : Text) (before : View) (after : FilesState)
     (old found new : BusState) (outcome : Result Answer Refusal)
     (ran : HasRunInFile request image file before after found new outcome) (same : KeepsSent old found) where
@@ -220,8 +220,6 @@ task_fails_sends operation (task.Restore journal) ranges bytes view after old ne
 task_fails_sends operation job ranges bytes view after old new (ended.Fault fault) fails =
     fails_sends operation.named job bytes view after old new fault fails
 task_fails_sends operation job ranges bytes view after old new _ fails = absurd fails
-
--- ---- the end of a job
 
 module _ (operation : Operation) (ranges : Option (List Span)) (bytes : List ℕ) (before : View) (after : FilesState)
     (old new : BusState) where

@@ -1,4 +1,3 @@
--- Lemmas on what a restore sends to the chip: it fits the journal, or the journal with other board bits (`IsFitted`).
 use Rattle.std.proofs.Common.{◌≡◌, ◌⊎◌, ◌∙◌, ℕ, Bool, List, Option, None, Some, Result, Ok, Err, ap, false, inl, inr, refl, subst, true}
 use Rattle.nor_model.specs.Bus.{BusState}
 use Rattle.nor_journal.specs.Text.{Content as Journal, IsContent, text}
@@ -71,7 +70,7 @@ named_sends quick named journal old new outcome (inl does) =
 named_sends quick None journal old new outcome (inr failed) = absurd failed.1
 named_sends quick (Some name) journal old new outcome (inr failed) = inl failed.1.always.only_reads.sent
 
--- Holds if no modifying command was sent, or if what was sent fits the journal with its own or other board bits.
+-- Holds if no modifying command was sent, or if what was sent fits a journal `fitted` (`IsFitted`).
 abbrev pub SendsFitting : Journal → (old new : BusState) → Type 0
 SendsFitting journal old new = KeepsSent old new
     ⊎ ((fitted : Journal) × IsFitted journal fitted × SendsSaved (IsSavedCode fitted) 1 fitted old new)

@@ -1,4 +1,3 @@
--- The fault of a backup whose file exists already.
 use Rattle.std.specs.Prelude.{◌≡◌, Some, true}
 use Rattle.nor_files.specs.Files.{View}
 use Rattle.nor_files.specs.Files.Failure.{There}
@@ -9,7 +8,7 @@ use Rattle.nor_console.specs.declared.messages.Fault.{Fault}
 use Rattle.nor_console.specs.declared.messages.Fault.TheVariants as end
 use Rattle.nor_console.specs.declared.messages.FileFault.TheVariants as file
 
--- Holds for file fault 4 of a backup if its file may exist.
+-- Holds for file fault 4 of a backup whose file may exist already.
 abbrev pub IsExistingBackup : View → Operation → Fault → Type 0
 IsExistingBackup view operation (end.File file.Exists of cause) = (operation.is_backup ≡ true)
     × ((made_by operation.task ≡ Some of) × Happens view (There of.now))

@@ -1,4 +1,3 @@
--- The lines that a run prints if its job succeeded.
 use Rattle.std.specs.Prelude.{◌≡◌, ◌++◌, ℕ, Bool, true, false, List}
 use Rattle.nor_args.specs.declared.job.Operation.{Operation}
 use Rattle.nor_console.specs.AnswerLines.{AreLines, name_line}
@@ -11,9 +10,8 @@ abbrev pub AreNameLines : Answer → List ℕ → Type 0
 AreNameLines (answer.Found found) text = text ≡ name_line found.name
 AreNameLines found text = AreLines found text
 
--- Holds if `text` is what a run prints for this answer. Without `--flash-name` (`named` is false), these are the lines
--- of the answer and then the line `further`. With `--flash-name`, it is the name of the chip that was found, or the
--- lines of any other answer.
+-- Holds if `text` is what a run prints for this answer: its lines and the line `further` or, with `--flash-name`
+-- (`named` is true), the name of the chip that was found.
 abbrev pub AreLinesBy : (named : Bool) → Further → Answer → List ℕ → Type 0
 AreLinesBy true further found text = AreNameLines found text
 AreLinesBy false further found text = (lines : List ℕ) × AreLines found lines × (text ≡ lines ++ further_line further)

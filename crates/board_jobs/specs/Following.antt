@@ -17,10 +17,7 @@ use Rattle.nor_console.specs.declared.answers.Answer.{Answer}
 use Rattle.board_jobs.specs.declared.chip_faults.JobFault.{JobFault}
 use Rattle.board_jobs.specs.declared.chip_faults.JobFault.TheVariants as ended
 
--- ---- the target
-
--- Holds if `read_out` returned `result` and kept its promises, with a new faithful vault in memory. `bytes` are the
--- vault's bytes after the call.
+-- Holds if `read_out` had this result with a new faithful vault in memory, which then held `bytes`.
 pub record HasReadToMemory (named : Option ChipName) (ranges : Option (List Span)) (old new : BusState)
     (bytes : List ℕ) (result : Result Report Refusal) : Type 0 where
   pub filled : VaultState
@@ -29,8 +26,7 @@ pub record HasReadToMemory (named : Option ChipName) (ranges : Option (List Span
   pub modelled : IsModelled old → ReadOutModelled named ranges old new (new_vault true) filled result
   pub holds : bytes ≡ filled.bytes
 
--- Holds if the whole chip was read, and `target` has the bytes of `image` at the addresses in `spans` and the chip's
--- bytes elsewhere.
+-- Holds if the whole chip was read, and `target` has the bytes of `image` in `spans` and the chip's bytes elsewhere.
 pub record IsMerged (named : Option ChipName) (spans : List Span) (image : List ℕ) (old new : BusState)
     (target : List ℕ) : Type 0 where
   pub chip : List ℕ
@@ -41,14 +37,13 @@ pub record IsMerged (named : Option ChipName) (spans : List Span) (image : List 
   pub bytes : (a : ℕ) → a < length chip
       → slice_index target a ≡ merged_byte (contains spans) (slice_index image) (slice_index chip) a
 
--- Holds if `target` is the target of a change. Without ranges, it is `image`, and nothing was sent. With ranges, the
--- whole chip was read, and `target` has the bytes of `image` in the ranges and the chip's bytes elsewhere.
+-- Holds if `target` is the target of a change: `image` without ranges, and as in `IsMerged` with ranges.
 abbrev pub IsWholeTarget : Option ChipName → (ranges : Option (List Span)) → (image : List ℕ) → (old new : BusState)
     → (target : List ℕ) → Type 0
 IsWholeTarget named None image old new target = (new ≡ old) × (target ≡ image)
 IsWholeTarget named (Some spans) image old new target = IsMerged named spans image old new target
 
--- the ranges of a change if it is compared, otherwise `None`: then the whole chip isn't read before the change
+-- The ranges of a change that is compared, or `None` for another change, before which the whole chip isn't read.
 abbrev pub ranges_if : (compared : Bool) → Option (List Span) → Option (List Span)
 ranges_if true ranges = ranges
 ranges_if false ranges = None
@@ -58,14 +53,12 @@ IsUnfit size spans image (ImageSize chip len) = (chip ≡ size) × (len ≡ leng
 IsUnfit size spans image RegionOutside = ReachesPast (Some spans) size
 IsUnfit size spans image _ = ⊥
 
--- Error 19 (the vault refused a piece) becomes error 18 (out of memory), because a vault in memory refuses a piece only
--- if memory runs out.
+-- Error 18 in place of error 19 (the vault refused a piece): a vault in memory refuses one only if memory runs out.
 abbrev pub into_memory : Refusal → Refusal
 into_memory (Output written) = Memory
 into_memory refusal = refusal
 
--- Holds for error 4 if the chip that was read has another size than the image. An earlier identification returned the
--- size of the image, so the chip was exchanged meanwhile, or the bus is faulty.
+-- Holds for error 4 if the chip that was read has another size than the image.
 pub record IsOtherRead (named : Option ChipName) (image : List ℕ) (old new : BusState)
     (refusal : Refusal) : Type 0 where
   pub bytes : List ℕ
@@ -85,10 +78,7 @@ FailsToMerge named size None image old new refusal = ⊥
 FailsToMerge named size (Some spans) image old new refusal = ((new ≡ old) × IsUnfit size spans image refusal)
     ⊎ (FailsInMemory named None old new refusal ⊎ IsOtherRead named image old new refusal)
 
--- ---- the comparison
-
--- Holds if the comparison after a session found no difference. If the session failed or isn't compared, there is no
--- comparison, and nothing was sent.
+-- Holds if the comparison after a session found no difference, or the session failed or isn't compared.
 abbrev pub IsFollowed : (session : Result Answer Refusal) → (compared : Bool) → Option ChipName → (target : List ℕ)
     → (old new : BusState) → Type 0
 IsFollowed (Ok found) true named target old new =

@@ -1,4 +1,3 @@
--- The line that follows the lines of an answer.
 use Rattle.std.specs.Prelude.{◌==◌, ◌/◌, ◌%◌, ℕ, Bool, true, false, List, [], ◌∷◌, Some, codes, slice_index, if◌then◌else◌}
 use Rattle.nor_args.specs.declared.job.Task.{Task}
 use Rattle.nor_args.specs.declared.job.Task.TheVariants as task
@@ -13,8 +12,7 @@ use Rattle.board_jobs.specs.declared.ending.Further.TheVariants as further
 abbrev pub unverified_line : List ℕ
 unverified_line = line (codes "Nothing was verified (-n)." ∷ [])
 
--- the end of the line of `--wp-status`: whether SRP0 (bit 7 of the first byte) or SRP1 (bit 0 of the second byte) is
--- set
+-- The end of the line of `--wp-status`: whether SRP0 (bit 7 of status 1) or SRP1 (bit 0 of status 2) is set.
 abbrev pub lock_words : (bytes : List ℕ) → List ℕ
 lock_words bytes = if slice_index bytes 0 / 128 == 1
     then (if slice_index bytes 1 % 2 == 1 then codes ", SRP0 and SRP1 are set" else codes ", SRP0 is set")
@@ -30,7 +28,7 @@ further_line further.Unverified = unverified_line
 further_line (further.Protected start len) = protected_line (Some (start, len))
 further_line (further.Status bytes) = status_bytes_line bytes
 
--- the line after a change: the range of `--wp-range`, or for a write or an erase with `-n`, that nothing was verified
+-- The line after a change: the range of `--wp-range`, or, with `-n`, that nothing was verified.
 abbrev pub further_of_change : Wanted → (verify : Bool) → Further
 further_of_change (wanted.Range start len) verify = further.Protected (if len == 0 then 0 else start) len
 further_of_change _ true = further.Nothing

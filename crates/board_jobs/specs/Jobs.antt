@@ -1,5 +1,4 @@
--- The effect of a job on the chip, over any bus: its call to the engine, the result of the call, and the faults before
--- and after the call.
+-- The effect of a job on the chip, over any bus, and the faults before and after its call to the engine.
 use Rattle.std.specs.Prelude.{◌≡◌, ◌&&◌, ◌⊎◌, ℕ, Bool, true, false, List, Option, Result, Ok, Err}
 use Rattle.std.specs.Prelude.{◌==◌, ◌||◌, bit_and, if◌then◌else◌, nat_eq, not, slice_index}
 use Rattle.nor_model.specs.Bus.{BusState}
@@ -35,8 +34,6 @@ use Rattle.board_jobs.specs.Restoring.{FailsRestore, HasRestored}
 use Rattle.board_jobs.specs.declared.chip_faults.JobFault.{JobFault}
 use Rattle.board_jobs.specs.declared.chip_faults.JobFault.TheVariants as ended
 
--- ---- reading
-
 -- Holds if the chip was identified, and creating or truncating this file then failed. Nothing more was sent.
 abbrev pub FailsToMake : Option ChipName → Text → View → (old new : BusState) → Fault → Type 0
 FailsToMake named file view old new fault =
@@ -58,7 +55,6 @@ pub record HasBackedUpChip (named : Option ChipName) (file : Text) (before : Vie
   pub identified : HasIdentified named old found (Ok chip)
   pub saved : HasBackedUpInFile named file before after found new outcome
 
--- Holds if a read or, if `backup` is true, a backup was performed with this outcome.
 abbrev pub HasReadBy : (backup : Bool) → Option ChipName → (file : Text) → (ranges : Option (List Span))
     → (before : View) → (after : FilesState) → (old new : BusState) → Result Answer Refusal → Type 0
 HasReadBy true named file ranges before after old new outcome = HasBackedUpChip named file before after old new outcome
@@ -69,8 +65,6 @@ abbrev pub FailsToRead : Option ChipName → Text → View → (old new : BusSta
 FailsToRead named file view old new fault =
     FailsToFind named old new fault ⊎ FailsToMake named file view old new fault
 
--- ---- chips that may be protected
-
 -- The bits of status 1 that may protect sectors on a chip with this ID and unknown block protection. They are bits 2 to
 -- 6, except bit 6 of Macronix (C2h) and ISSI (9Dh), and bit 5 of Microchip's SST26 (BFh 26h).
 abbrev pub protecting_bits : (id : List ℕ) → ℕ
@@ -78,8 +72,7 @@ protecting_bits id =
     if slice_index id 0 == 0xC2 || slice_index id 0 == 0x9D then 0x3C
     else if slice_index id 0 == 0xBF && slice_index id 1 == 0x26 then 0x5C else 0x7C
 
--- true if the chip's block protection is unknown, and a bit of its status 1 that may protect sectors is set. Protected
--- sectors would ignore erases and programs.
+-- True if the chip's block protection is unknown, and a bit of its status 1 that may protect sectors is set.
 abbrev pub may_be_protected : Found → Bool
 may_be_protected chip = not chip.scheme && not (nat_eq (bit_and chip.status1 (protecting_bits chip.id)) 0)
 
@@ -87,7 +80,7 @@ pub record IsChangeable (named : Option ChipName) (old new : BusState) (chip : F
   pub identified : HasIdentified named old new (Ok chip)
   pub unprotected : may_be_protected chip ≡ false
 
--- Holds if the chip was identified, and `may_be_protected` is true for it. `byte` is its status 1, `id` its ID.
+-- Holds if the chip that was identified may be protected. `byte` is its status 1, `id` its ID.
 pub record IsProtected (named : Option ChipName) (old new : BusState) (byte : ℕ) (id : List ℕ) : Type 0 where
   pub chip : Found
   pub identified : HasIdentified named old new (Ok chip)
@@ -95,14 +88,11 @@ pub record IsProtected (named : Option ChipName) (old new : BusState) (byte : �
   pub shown : byte ≡ chip.status1
   pub names : id ≡ chip.id
 
--- Holds if a write or an erase failed with this fault before its target was made: the identification failed, or the
--- chip may be protected (chip fault 1).
+-- Holds if a write or an erase failed before its target was made: in the identification, or with chip fault 1.
 abbrev pub FailsToAdmit : Option ChipName → (old new : BusState) → JobFault → Type 0
 FailsToAdmit named old new (ended.Fault fault) = FailsToFind named old new fault
 FailsToAdmit named old new (ended.Protected status1 id) = IsProtected named old new status1 id
 FailsToAdmit named old new _ = ⊥
-
--- ---- changes
 
 -- Holds if the chip was identified without chip fault 1, and then `image`, the target of a write or an erase, was made.
 pub record HasTarget (named : Option ChipName) (target : Wanted) (ranges : Option (List Span)) (bytes : List ℕ)
@@ -112,8 +102,7 @@ pub record HasTarget (named : Option ChipName) (target : Wanted) (ranges : Optio
   pub changeable : IsChangeable named old found chip
   pub is : IsWholeTarget named ranges (asked_bytes target chip.size bytes) found new image
 
--- Holds if `image` is what the session's buffer contains: the target of a write or an erase, or `bytes` for a change of
--- protection.
+-- Holds if `image` is the session's buffer: the target of a write or an erase, or `bytes` for a change of protection.
 abbrev pub IsBufferOf : Option ChipName → Wanted → (ranges : Option (List Span)) → (bytes : List ℕ)
     → (old new : BusState) → (image : List ℕ) → Type 0
 IsBufferOf named (wanted.Range start len) ranges bytes old new image = (new ≡ old) × (image ≡ bytes)
@@ -139,12 +128,10 @@ abbrev pub FailsToFill : Option ChipName → Wanted → (ranges : Option (List S
 FailsToFill named (wanted.Range start len) ranges bytes old new fault = ⊥
 FailsToFill named target ranges bytes old new fault = FailsToTarget named target ranges bytes old new fault
 
--- the ranges of a change if it is compared, otherwise `None`; if there are ranges, the whole chip is read before the
--- change
 abbrev pub ranges_of : Operation → Change → Option (List Span) → Option (List Span)
 ranges_of operation change ranges = ranges_if (is_compared operation change) ranges
 
--- Holds if the session's buffer was made, and the session was then run with its journal in a new file.
+-- Holds if the session's buffer was made, and then the session was run with its journal in a new file.
 pub record HasRunChange (operation : Operation) (change : Change) (ranges : Option (List Span)) (bytes : List ℕ)
     (file : Text) (before : View) (after : FilesState) (old new : BusState)
     (outcome : Result Answer Refusal) : Type 0 where
@@ -153,7 +140,7 @@ pub record HasRunChange (operation : Operation) (change : Change) (ranges : Opti
   pub buffer : IsBufferOf operation.named change.wanted (ranges_of operation change ranges) bytes old found image
   pub ran : HasRunInFile (request_for change operation.named ranges) image file before after found new outcome
 
--- Holds if the session was run with this outcome, and the comparison after it, if there was one, found no difference.
+-- Holds if the session was run with this outcome, and a comparison after it, if there was one, found no difference.
 pub record HasChangedAndCompared (operation : Operation) (change : Change) (ranges : Option (List Span))
     (bytes : List ℕ) (file : Text) (before : View) (after : FilesState) (old new : BusState)
     (outcome : Result Answer Refusal) : Type 0 where
@@ -161,7 +148,7 @@ pub record HasChangedAndCompared (operation : Operation) (change : Change) (rang
   pub session : HasRunChange operation change ranges bytes file before after old changed outcome
   pub followed : IsFollowed outcome (is_compared operation change) operation.named session.image changed new
 
--- Holds if a change was performed with its journal in a file. This program performs no rehearsal.
+-- Holds if a change was performed with its journal in a file. The program performs no rehearsal.
 abbrev pub HasChangedBy : Operation → Change → Option (List Span) → (bytes : List ℕ) → JournalUse
     → (before : View) → (after : FilesState) → (old new : BusState) → Result Answer Refusal → Type 0
 HasChangedBy operation change ranges bytes (uses.Journal file) before after old new outcome =
@@ -184,8 +171,7 @@ FailsToBeginChange operation change ranges bytes file view old new fault = (imag
     × IsBufferOf operation.named change.wanted (ranges_of operation change ranges) bytes old new image
     × IsMaking view file fault
 
--- Holds if a change failed with this fault before its session. Chip fault 1 isn't among these faults
--- (`IsRefusedAsProtected`). A rehearsal fails with usage fault 6.
+-- Holds if a change failed before its session, but not with chip fault 1. A rehearsal fails with usage fault 6.
 abbrev pub FailsToChange : Operation → Change → Option (List Span) → (bytes : List ℕ) → JournalUse → View
     → (old new : BusState) → Fault → Type 0
 FailsToChange operation change ranges bytes (uses.Rehearse stops) view old new fault =
@@ -198,8 +184,7 @@ abbrev pub has_journal_file : JournalUse → Bool
 has_journal_file (uses.Journal file) = true
 has_journal_file (uses.Rehearse stops) = false
 
--- Holds if a write or an erase was refused with chip fault 1. `byte` is the chip's status 1, `id` its ID. No file was
--- changed.
+-- Holds if a write or an erase failed with chip fault 1. `byte` is the chip's status 1, `id` its ID. No file changed.
 pub record IsRefusedAsProtected (named : Option ChipName) (target : Wanted) (kept : JournalUse) (before : View)
     (after : FilesState) (old new : BusState) (byte : ℕ) (id : List ℕ) : Type 0 where
   pub changes : changes_bytes target ≡ true
@@ -224,10 +209,7 @@ FailsChange operation change ranges bytes kept before after old new (ended.NotCo
     FailsComparison operation change ranges bytes kept before after old new refusal
 FailsChange operation change ranges bytes kept before after old new _ = ⊥
 
--- ---- tasks
-
--- Holds if the task was performed with this outcome. `ranges` are those of its regions, `bytes` those of its image or
--- journal.
+-- Holds if the task had this outcome. `ranges` are those of its regions, `bytes` those of its image or journal.
 abbrev pub DoesTask : Operation → Task → (ranges : Option (List Span)) → (bytes : List ℕ) → (before : View)
     → (after : FilesState) → (old new : BusState) → Result Answer Refusal → Type 0
 DoesTask operation task.Probe ranges bytes before after old new outcome =

@@ -1,5 +1,4 @@
--- The unsaved sectors, which the journal of a restore doesn't save: the chip's replies to the reads of these sectors
--- before and after the restore.
+-- The sectors that the journal of a restore doesn't save, and the reads of them before and after the restore.
 use Rattle.std.specs.Prelude.{◌≡◌, ◌<◌, ◌/◌, ◌*◌, ◌++◌, ℕ, Bool, true, false, List, Some, Result, Ok, Err, length}
 use Rattle.std.specs.Prelude.{slice_index}
 use Rattle.std.specs.List.{All}
@@ -24,14 +23,13 @@ pub record IsRestRead (journal : Journal) (exchange : Exchange) : Type 0 where
   pub reads : names 0x03 (4096 * sector) exchange.out ≡ true
   pub replied : exchange.reply ≡ Some bytes
 
--- Holds if `bytes` has one byte for each address below the journal's size, and FFh in each sector that the journal
--- saves.
+-- Holds if `bytes` has one byte for each address below the journal's size, with FFh in each saved sector.
 pub record AreUnsaved (journal : Journal) (bytes : List ℕ) : Type 0 where
   pub long : length bytes ≡ journal.size
   pub saved : (a : ℕ) → a < journal.size → is_saved journal (a / 4096) ≡ true → slice_index bytes a ≡ 255
 
--- Holds if each unsaved sector was read after `old`, and no other transaction was made. `bytes` has the last reply for
--- each of these sectors, and FFh in all others.
+-- Holds if each sector that the journal doesn't save was read after `old`, but nothing else was sent. `bytes` has the
+-- last reply for each of these sectors, and FFh in all others.
 pub record HasReadRest (journal : Journal) (bytes : List ℕ) (old new : BusState) : Type 0 where
   pub only_reads : OnlyReads (journal.size / 4096) old new
   pub later : List Exchange
@@ -41,23 +39,19 @@ pub record HasReadRest (journal : Journal) (bytes : List ℕ) (old new : BusStat
       → IsWholeSector (slice_index bytes) s (last_reply (names 0x03 (4096 * s)) later)
   pub unsaved : AreUnsaved journal bytes
 
--- Holds if the bus stopped while the unsaved sectors were read. No modifying command was sent, and the stopped
--- transaction is the last one.
+-- Holds if the bus stopped while the sectors that the journal doesn't save were read. No modifying command was sent.
 pub record HasStoppedInRest (journal : Journal) (old new : BusState) : Type 0 where
   pub only_reads : OnlyReads (journal.size / 4096) old new
   pub stopped : HasStopped (journal.size / 4096) old new
 
--- ---- the comparison after a restore
-
--- True if the unsaved sectors are compared after a restore with this outcome: after success and error 14. After error
--- 12 the bus is stopped, after error 13 the chip is busy and ignores reads, and before any other error no modifying
--- command was sent.
+-- True if a comparison follows a restore with this outcome: after success and error 14. After other errors the bus is
+-- stopped, the chip is busy, or no modifying command was sent.
 abbrev pub is_followed : Result Answer Refusal → Bool
 is_followed (Ok answer) = true
 is_followed (Err (Mismatch address)) = true
 is_followed (Err refusal) = false
 
--- Holds if the unsaved sectors were read again with the same bytes as before the restore (`rest`).
+-- Holds if the sectors that the journal doesn't save were read again, with the same bytes as before (`rest`).
 pub record HasKeptRest (journal : Journal) (rest : List ℕ) (old new : BusState) : Type 0 where
   pub again : List ℕ
   pub read : HasReadRest journal again old new
@@ -67,7 +61,7 @@ abbrev pub FollowsRestore : (followed : Bool) → Journal → (rest : List ℕ) 
 FollowsRestore true journal rest old new = HasKeptRest journal rest old new
 FollowsRestore false journal rest old new = new ≡ old
 
--- Holds if the unsaved sectors were read again, and the byte at `address` is the first that differs from `rest`.
+-- Holds if the sectors that aren't saved were read again, and `address` is the first at which they differ from `rest`.
 pub record HasLostRest (journal : Journal) (rest : List ℕ) (old new : BusState) (address : ℕ) : Type 0 where
   pub again : List ℕ
   pub read : HasReadRest journal again old new

@@ -18,7 +18,7 @@ use Rattle.board_jobs.specs.Rest.{FailsRest, FollowsRestore, HasReadRest, HasSto
 use Rattle.board_jobs.specs.declared.chip_faults.JobFault.{JobFault}
 use Rattle.board_jobs.specs.declared.chip_faults.JobFault.TheVariants as ended
 
--- Holds if the chip was identified, it has the journal's ID and size, and then its unsaved sectors were read as `rest`.
+-- Holds if the chip was identified with the journal's ID and size, and the unsaved sectors were read as `rest`.
 pub record HasReadBefore (named : Option ChipName) (journal : Journal) (rest : List ℕ)
     (old new : BusState) : Type 0 where
   pub chip : Found
@@ -27,8 +27,8 @@ pub record HasReadBefore (named : Option ChipName) (journal : Journal) (rest : L
   pub kind : IsOfTypeFound journal chip
   pub read : HasReadRest journal rest found new
 
--- Holds after a restore without `-N`. The sectors that the journal doesn't save were read before the restore. If the
--- restore succeeded or returned error 14, they were compared after it, without a difference.
+-- Holds after a restore without `-N`: the sectors that the journal doesn't save were read before it. If it succeeded or
+-- returned error 14, they were compared after it, without a difference.
 pub record HasRestoredAndCompared (operation : Operation) (journal : Journal) (old new : BusState)
     (outcome : Result Answer Refusal) : Type 0 where
   pub rest : List ℕ
@@ -38,8 +38,7 @@ pub record HasRestoredAndCompared (operation : Operation) (journal : Journal) (o
   pub ran : HasRestoredFitting operation.is_quick None journal found restored outcome
   pub followed : FollowsRestore (is_followed outcome) journal rest restored new
 
--- Holds after a restore from this journal. Without `-N` (`compared` is true) it includes the comparison, with `-N` only
--- the restore and the check of the name.
+-- Holds after a restore from this journal: with the comparison if `compared` is true (no `-N`), otherwise without it.
 abbrev pub HasRestoredBy : (compared : Bool) → Operation → Journal → (old new : BusState) → Result Answer Refusal
     → Type 0
 HasRestoredBy true operation journal old new outcome = HasRestoredAndCompared operation journal old new outcome
@@ -53,8 +52,7 @@ pub record HasRestored (operation : Operation) (bytes : List ℕ) (old new : Bus
   pub read : bytes ≡ text journal
   pub restored : HasRestoredBy operation.verifies_all operation journal old new outcome
 
--- Holds if reading the unsaved sectors failed with this error: 16 (the chip has another ID or size than the journal) or
--- 12 (the bus stopped).
+-- Holds for error 16 (the chip has another ID or size than the journal) or 12 (the bus stopped) before a restore.
 abbrev pub FailsRestOf : Journal → Found → (old new : BusState) → Refusal → Type 0
 FailsRestOf journal chip old new OtherChip = (new ≡ old) × (¬ IsOfTypeFound journal chip)
 FailsRestOf journal chip old new Stopped = HasStoppedInRest journal old new
@@ -82,8 +80,7 @@ pub record HasNotComparedRest (operation : Operation) (journal : Journal) (old n
   pub followed : is_followed outcome ≡ true
   pub fails : FailsRest journal rest restored new refusal
 
--- Holds if a restore without `-N` failed with this fault: before its call to the engine, or in the comparison after the
--- call.
+-- Holds if a restore without `-N` failed with this fault: before its call to the engine, or in the comparison after it.
 abbrev pub FailsCompared : Operation → Journal → (old new : BusState) → JobFault → Type 0
 FailsCompared operation journal old new (ended.Fault fault) = ((new ≡ old) × (fault ≡ end.Refused Memory))
     ⊎ FailsToReadRest operation.named journal old new fault
@@ -91,8 +88,7 @@ FailsCompared operation journal old new (ended.RestNotCompared outcome refusal) 
     HasNotComparedRest operation journal old new outcome refusal
 FailsCompared operation journal old new _ = ⊥
 
--- Holds if a restore failed with this fault, before its call to the engine or in the comparison after the call. With
--- `-N` there is no such fault, because even an error of the check of the name (`-c`) is the outcome of the call.
+-- Holds if a restore failed with this fault before or after its call to the engine. With `-N` there is no such fault.
 abbrev pub FailsBy : (compared : Bool) → Operation → Journal → (old new : BusState) → JobFault → Type 0
 FailsBy true operation journal old new fault = FailsCompared operation journal old new fault
 FailsBy false operation journal old new fault = ⊥

@@ -17,9 +17,8 @@ use Rattle.board_jobs.specs.BoardBits.{IsFitted}
 abbrev pub KeepsSent : (old new : BusState) → Type 0
 KeepsSent old new = new.sent ≡ old.sent
 
--- Holds if the file durably contains a journal that fits what was sent. Each sector that was targeted is saved, or lies
--- past the end of a chip that is saved whole. Each new status write has the saved status bits, but its protection bits
--- may have any value that this request may write (`IsWrittenCode`).
+-- Holds if the file durably contains a journal. Each newly targeted sector is saved there, or lies past the end of a
+-- chip that is saved whole. Each new status write has the saved status bits, with protection bits that `what` allows.
 pub record SendsJournalled (what : What) (file : Text) (old new : BusState) (after : FilesState) : Type 0 where
   pub bytes : List ℕ
   pub journal : IsJournal bytes
@@ -27,23 +26,21 @@ pub record SendsJournalled (what : What) (file : Text) (old new : BusState) (aft
   pub sends : SendsSaved (IsWrittenCode what journal.content) 1 journal.content old new
 
 -- Holds if a change sent no modifying command or, if the files obey their contract, only what the journal in its file
--- allows. A rehearsal sends no modifying command.
+-- allows (`SendsJournalled`).
 abbrev pub SendsChange : What → JournalUse → (old new : BusState) → FilesState → Type 0
 SendsChange what (uses.Journal file) old new after =
     KeepsSent old new ⊎ (is_lawful after.view ≡ true → SendsJournalled what file.now old new after)
 SendsChange what (uses.Rehearse stops) old new after = KeepsSent old new
 
--- Holds if `bytes` are a journal that fits what was sent. Each sector that was targeted is saved, or lies past the end
--- of a chip that is saved whole. Each new status write has the saved status bits, or these with all protection bits
--- clear. Its board bits may be others (`IsFitted`), but are the same in each status write.
+-- Holds if `bytes` are a journal. Each newly targeted sector is saved there, or lies past the end of a chip that is
+-- saved whole. Each new status write has the status bits of `fitted`, or these with all protection bits clear.
 pub record SendsRestore (bytes : List ℕ) (old new : BusState) : Type 0 where
   pub journal : IsJournal bytes
   pub fitted : Journal
   pub fits : IsFitted journal.content fitted
   pub sends : SendsSaved (IsSavedCode fitted) 1 fitted old new
 
--- Holds if a job sent only what it may send. A change or a restore may send what its journal allows, any other job no
--- modifying command.
+-- Holds if a job sent only what it may send: a change or restore what its journal allows, others no modifying command.
 abbrev pub SendsOnly : Task → (bytes : List ℕ) → (old new : BusState) → FilesState → Type 0
 SendsOnly (task.Change change) bytes old new after =
     SendsChange (what_of change.wanted) change.journal_use old new after

@@ -24,20 +24,17 @@ use Rattle.board_jobs.specs.declared.chip_faults.JobFault.{JobFault}
 use Rattle.board_jobs.specs.declared.chip_faults.JobFault.TheVariants as ended
 use Rattle.board_jobs.specs.declared.status_lock.LockChange.{LockChange}
 
--- ---- the status bytes
-
 abbrev pub shows_srp0 : (one : ℕ) → Bool
 shows_srp0 one = one / 128 == 1
 
--- status 1 in a status write: `one` with this value of SRP0, and with BUSY and WEL (bits 0 and 1) clear
+-- Status 1 in a status write: `one`, but with this value of SRP0, and with BUSY and WEL (bits 0 and 1) clear.
 abbrev pub one_with : (srp0 : Bool) → (one : ℕ) → ℕ
 one_with srp0 one = (if srp0 then 128 else 0) + one % 128 / 4 * 4
 
--- the two bytes of a status write that changes only SRP0, status 1 first, with SUS (bit 7 of status 2) clear
+-- The two bytes of a status write that changes only SRP0, status 1 first. SUS (bit 7 of status 2) is clear.
 abbrev pub bytes_with : (srp0 : Bool) → (before : List ℕ) → List ℕ
 bytes_with srp0 before = one_with srp0 (slice_index before 0) ∷ slice_index before 1 % 128 ∷ []
 
--- true if `one` and `two` are the bytes of a status write that changes only SRP0
 abbrev pub sets_srp0 : (srp0 : Bool) → (before : List ℕ) → (one two : ℕ) → Bool
 sets_srp0 srp0 before one two =
     one == one_with srp0 (slice_index before 0) && two == slice_index before 1 % 128
@@ -47,10 +44,8 @@ pub record HasOnlySrp0 (srp0 : Bool) (before after : List ℕ) : Type 0 where
   pub one : slice_index after 0 / 4 * 4 ≡ one_with srp0 (slice_index before 0)
   pub two : slice_index after 1 % 128 ≡ slice_index before 1 % 128
 
--- ---- reading and writing
-
--- Holds if the chip was polled until it was ready, status 2 was then read, and `bytes` are the status 1 of the last
--- poll and this status 2. No modifying command was sent.
+-- Holds if the chip was polled until it was ready, status 2 was then read, and `bytes` are status 1 and status 2. No
+-- modifying command was sent.
 pub record ReadsStatus (old new : BusState) (bytes : List ℕ) : Type 0 where
   pub polled : BusState
   pub waited : Waited
@@ -61,23 +56,21 @@ pub record ReadsStatus (old new : BusState) (bytes : List ℕ) : Type 0 where
   pub two_replied : last_reply (begins_with 0x35) new.history ≡ slice_index bytes 1 ∷ []
   pub kept : KeepsSent old new
 
--- Holds if one status write was sent, which changes only SRP0, but no erase and no program, and the status registers
--- were then read as `after`.
+-- Holds if one status write was sent, which changes only SRP0, and the status registers were then read as `after`.
 pub record WritesSrp0 (srp0 : Bool) (before after : List ℕ) (old new : BusState) : Type 0 where
   pub wrote : BusState
   pub within : SendsWithin (writing (sets_srp0 srp0 before) 1) old wrote
   pub exactly : SendsExactly 0 0 1 old wrote
   pub read : ReadsStatus wrote new after
 
--- Holds if SRP0 was read with this value. If it had the value before, `after` is `None`, and nothing was sent.
--- Otherwise SRP0 was written, and all other non-volatile bits were read as before.
+-- Holds if SRP0 has this value in the end. If it had the value before, nothing was sent, and `after` is `None`.
+-- Otherwise SRP0 was written, and `after` has the other non-volatile bits of `before`.
 abbrev pub IsSet : (srp0 : Bool) → (before : List ℕ) → (after : Option (List ℕ)) → (old new : BusState) → Type 0
 IsSet srp0 before None old new = (shows_srp0 (slice_index before 0) ≡ srp0) × (new ≡ old)
 IsSet srp0 before (Some after) old new =
     (shows_srp0 (slice_index before 0) ≢ srp0) × WritesSrp0 srp0 before after old new × HasOnlySrp0 srp0 before after
 
--- Holds if the chip has known block protection, SRP1 (bit 0 of status 2) was read as clear, and SRP0 has this value in
--- the end (`IsSet`).
+-- Holds if the chip has known block protection and SRP1 (bit 0 of status 2) clear, and SRP0 has this value in the end.
 pub record HasSetSrp0 (named : Option ChipName) (srp0 : Bool) (old new : BusState) (change : LockChange) : Type 0 where
   pub found : BusState
   pub read : BusState
@@ -87,8 +80,8 @@ pub record HasSetSrp0 (named : Option ChipName) (srp0 : Bool) (old new : BusStat
   pub open_to : slice_index change.before 1 % 2 ≡ 0
   pub set : IsSet srp0 change.before change.after read new
 
--- Holds if SRP1 was read as clear and SRP0 with the other value, and at most one status write was then sent, which
--- changes only SRP0. No erase and no program was sent.
+-- Holds if SRP1 was read as clear and SRP0 with the other value, and then no modifying command was sent except at most
+-- one status write that changes only SRP0.
 pub record SendsSrp0 (srp0 : Bool) (old new : BusState) : Type 0 where
   pub read : BusState
   pub before : List ℕ
@@ -102,10 +95,7 @@ pub record SendsSrp0 (srp0 : Bool) (old new : BusState) : Type 0 where
 abbrev pub SendsLock : (srp0 : Bool) → (old new : BusState) → Type 0
 SendsLock srp0 old new = KeepsSent old new ⊎ SendsSrp0 srp0 old new
 
--- ---- errors
-
--- Holds for an error after the identification: 6 (unknown block protection), 9 (SRP1 is set), 12 (the bus stopped) or
--- 13 (the chip stayed busy). Before error 6 or 9, no modifying command was sent.
+-- Holds for error 6 (unknown block protection), 9 (SRP1 is set), 12 (the bus stopped) or 13 (the chip stayed busy).
 abbrev pub FailsFound : Found → (old new : BusState) → Refusal → Type 0
 FailsFound chip old new NoProtection = (chip.scheme ≡ false) × (new ≡ old)
 FailsFound chip old new StatusLocked = (bytes : List ℕ) × ReadsStatus old new bytes × (slice_index bytes 1 % 2 ≡ 1)
@@ -119,8 +109,7 @@ pub record FailsToSet (named : Option ChipName) (old new : BusState) (refusal : 
   pub identified : HasIdentified named old found (Ok chip)
   pub fails : FailsFound chip found new refusal
 
--- Holds if the bytes `sent` were written, the status registers were then read as `after`, and a non-volatile bit
--- differs between them.
+-- Holds if the status bytes `sent` were written, and `after` was read back, which differs in a non-volatile bit.
 pub record HasNotSet (named : Option ChipName) (srp0 : Bool) (old new : BusState) (sent after : List ℕ) : Type 0 where
   pub chip : Found
   pub found : BusState
@@ -132,15 +121,12 @@ pub record HasNotSet (named : Option ChipName) (srp0 : Bool) (old new : BusState
   pub sends : sent ≡ bytes_with srp0 before
   pub differs : HasOnlySrp0 srp0 before after → ⊥
 
--- Holds if a change of SRP0 failed with this fault. `NotStored` is chip fault 3: the chip did not store the status
--- write.
+-- Holds if a change of SRP0 failed with this fault. `NotStored` is chip fault 3.
 abbrev pub FailsLock : Option ChipName → (srp0 : Bool) → (old new : BusState) → JobFault → Type 0
 FailsLock named srp0 old new (ended.Fault fault) = FailsToFind named old new fault
     ⊎ ((refusal : Refusal) × FailsToSet named old new refusal × (fault ≡ end.Refused refusal))
 FailsLock named srp0 old new (ended.NotStored sent after) = HasNotSet named srp0 old new sent after
 FailsLock named srp0 old new _ = ⊥
-
--- ---- lines
 
 abbrev pub registers_line : (label bytes : List ℕ) → List ℕ
 registers_line label bytes = line (label ∷ codes ": 0x" ∷ hex_digits 2 (slice_index bytes 0) ∷ codes " 0x"
@@ -163,8 +149,6 @@ abbrev pub lock_lines : (srp0 : Bool) → LockChange → List ℕ
 lock_lines srp0 change =
     found_line change.found ++ (registers_lines change.before change.after ++ meaning_lines srp0)
 
--- ---- the job
-
 abbrev pub EndsLock : Option ChipName → (srp0 : Bool) → (old new : BusState) → Result LockChange JobFault → Type 0
 EndsLock named srp0 old new (Ok change) = HasSetSrp0 named srp0 old new change
 EndsLock named srp0 old new (Err fault) = FailsLock named srp0 old new fault
@@ -173,8 +157,7 @@ abbrev pub HasPrintedLock : (srp0 : Bool) → Result LockChange JobFault → (ou
 HasPrintedLock srp0 (Ok change) out out' = Prints (λ text. text ≡ lock_lines srp0 change) out out'
 HasPrintedLock srp0 (Err fault) out out' = ⊥
 
--- Holds after a run of `--wp-enable` or `--wp-disable`. If the exit status is 0, SRP0 was read with this value, and the
--- lines were printed.
+-- Holds after `--wp-enable` or `--wp-disable`. With exit status 0, SRP0 has this value, and the lines were printed.
 pub record HasRunLock (named : Option ChipName) (srp0 : Bool) (old new : BusState) (out out' : Option (List ℕ))
     (status : ℕ) : Type 0 where
   pub outcome : Result LockChange JobFault

@@ -1,4 +1,3 @@
--- The sectors that a run changed by accident, according to its notes.
 use Rattle.std.specs.Prelude.{◌<◌, ℕ, ⊤, Option, Some}
 use Rattle.nor_sums.specs.Sums.{Agree, entry_of}
 use Rattle.board_progress.specs.Notes.{after_of}
@@ -6,8 +5,8 @@ use Rattle.board_progress.specs.declared.notes.Notes.{Notes}
 use Rattle.board_files.specs.declared.sums_file.Before.{Before}
 use Rattle.board_files.specs.declared.sums_file.Before.TheVariants as before
 
--- Holds if each sector whose sum before the session is known has the same sum after the restore. Claims nothing if the
--- run has no such sums or no notes.
+-- Holds if each sector whose sum before the session is known has the same sum after the restore. Claims nothing without
+-- such sums or without notes.
 abbrev pub IsAsBefore : Before → Option Notes → Type 0
 IsAsBefore (before.Known sums) (Some notes) = (s : ℕ) → s < 4096
     → Agree (entry_of sums.entries.items s) (entry_of (after_of notes).entries.items s)

@@ -24,11 +24,9 @@ pub fn check_new<'a, R: Store>(rt: &R, operation: &Operation<'a>) -> Result<(), 
     }
 }
 
-/// Identifies the chip, then creates the file and saves the chip in it as a journal. If there is no chip, no file is
-/// created. Sends no modifying command.
-///
-/// The outer error is a fault of the identification or of creating the file. The inner error is one of `backup`; the
-/// file may then contain only a prefix of the journal.
+/// Identifies the chip, then creates the file and saves the whole chip in it as a journal. The outer error is a fault
+/// of the identification (then no file is created) or of creating the file. The inner error is one of `backup`; the
+/// file may then contain only a prefix of the journal. Sends no modifying command.
 pub fn backup_chip<'a, R: Store, B: Progress>(
     rt: &mut R,
     bus: &mut B,

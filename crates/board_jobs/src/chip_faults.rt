@@ -13,21 +13,17 @@ use std::fmt;
 /// The fault with which a job ends, displayed as its line on standard error.
 #[derive(Drop)]
 pub enum JobFault<'a> {
-    /// A fault of the type that `flashnor` uses too, printed with the same line.
     Fault(Fault<'a>),
-    /// Chip fault 1, before a write or an erase. The chip's ID has no row in the table of chips, and a bit of its
-    /// status 1 that may protect sectors is set. Nothing was changed, and the journal was not created.
+    /// Chip fault 1, before a write or an erase: the chip's ID has no row in the table of chips, and a bit of its
+    /// status 1 that may protect sectors is set. Nothing was changed, and no journal was created.
     Protected { status1: u8, id: [u8; 3] },
-    /// Chip fault 3 after a change of SRP0: the status write sent the bytes `sent`, but a non-volatile bit was read
-    /// back with another value. `found` has the bytes that were read. If a `CheckedStatus` finds this first, the job
-    /// ends with error 12 instead, and the same line follows.
+    /// Chip fault 3 after a change of SRP0: the status bytes `sent` were written, but `found` was read back, which
+    /// differs in a non-volatile bit.
     NotStored { sent: [u8; 2], found: [u8; 2] },
-    /// The session succeeded, but the comparison of the whole chip after it returned this error. Error 14 is printed as
-    /// chip fault 4.
+    /// The comparison after a successful session returned this error. Error 14 is printed as chip fault 4.
     NotCompared { refusal: Refusal },
-    /// The comparison after a restore returned this error: 12 (the bus stopped) or 14 (printed as chip fault 4). It
-    /// compares the sectors that the journal doesn't save. `outcome` is the result of the restore; if it is an error,
-    /// it is printed first.
+    /// After a restore, the comparison of the sectors that the journal doesn't save returned error 12 or 14 (printed as
+    /// chip fault 4). `outcome` is the result of the restore; if it is an error, it is printed first.
     RestNotCompared { outcome: Outcome, refusal: Refusal },
 }
 
@@ -100,8 +96,7 @@ impl JobFault<'_> {
         )
     }
 
-    /// Returns the last line of the fault if the comparison after a change or restore failed with another error than
-    /// 14.
+    /// Returns a last line for the fault if the comparison after a change or restore failed with another error than 14.
     pub fn note(&self) -> Option<&'static str> {
         match self {
             JobFault::NotCompared {

@@ -1,4 +1,4 @@
-//! The end of a run that succeeded: prints the answer of its job, and returns the exit status.
+//! Prints the answer of a job that succeeded.
 ghost use Rattle.std.specs.Prelude.{◌≡◌, ◌≤◌, OnOk, Some, false};
 ghost use Rattle.std.specs.Io.KnownBytes.{Appends};
 ghost use Rattle.nor_console.specs.AnswerLines.{name_line};
@@ -47,8 +47,8 @@ fn further_of(task: &Task<'_>, status: [u8; 2]) -> Further
     }
 }
 
-/// Prints an answer, and returns the exit status: 0 only if all lines were printed. `status` has status 1 and status 2
-/// as they were last read; only the line of `--wp-status` uses them.
+/// Prints an answer, and returns the exit status: 0 only if all lines were printed. `status` has the status bytes as
+/// they were last read, for the line of `--wp-status`.
 #[tactic(auto, using(crate::proofs::Named::job_lines_printed))]
 pub fn end_well<O: Write, E: Write>(
     output: &mut O,

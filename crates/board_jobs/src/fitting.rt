@@ -17,23 +17,19 @@ use nor_session::Refusal;
 use std::alloc::Global;
 use std::fmt;
 
-/// Restores the saved sectors and the protection bits from a journal. Leaves the status bits as they are that only a
-/// board changes: QE, the reserved bit and LB1 to LB3.
+/// Restores the saved sectors and the protection bits from a journal, even if the software of the board has changed QE,
+/// the reserved bit or LB1 to LB3 since the session. These bits stay as they are in the chip.
 ///
-/// The software of a board may change these bits after the session that made the journal. The restore of the engine
-/// then returns error 17, and sends no modifying command. In this case the status is read again. If no other bits
-/// differ, prints those that differ, and restores from the same journal with these bits as in the chip. This second
-/// restore makes all checks again.
-///
-/// If one of these conditions holds, the second restore is not made, and the result stays error 17:
+/// If the restore of the engine returns error 17, reads the status, prints which of these bits differ, and restores
+/// from the fitted journal, with all checks. In these cases there is no second restore, and the result stays error 17:
 ///
 /// - SRP0 or SRP1 differs.
 /// - The journal has one of LB1 to LB3 set, and the chip has it clear. A chip can't clear such a bit.
 /// - No row has the journal's ID, so the meaning of these bits is unknown.
 /// - The journal has no unique ID, and `--replaced-chip` is not given.
 ///
-/// Returns error 18 (out of memory), 12 or 13 if the second restore can't be prepared. Other errors are those of
-/// `restore_named`.
+/// Returns error 18 (out of memory), 12 (the bus stopped) or 13 (the chip stayed busy) if the second restore can't be
+/// prepared. Other errors are those of `restore_named`.
 pub fn restore_fitting<B: Progress>(
     bus: &mut B,
     terminal: Terminal<'_>,
@@ -69,8 +65,6 @@ fn restore_saved<B: Progress>(
     })
 }
 
-// After error 17, restores from the journal with the board's bits as in the chip (`fit`). If `fit` returns an error,
-// returns this error.
 fn restore_again<B: Progress>(
     bus: &mut B,
     terminal: Terminal<'_>,
@@ -94,8 +88,7 @@ fn restore_again<B: Progress>(
     restore_saved(bus, terminal, named, &fitted, operation.is_quick)
 }
 
-// Reads the status, and returns the encoding of the journal with QE, the reserved bit and LB1 to LB3 as they were read.
-// Returns 17 (`restore_fitting` lists the conditions), 18 (out of memory), 12 or 13.
+// Reads the status, and returns the encoding of the fitted journal, or error 17, 18, 12 or 13 (see `restore_fitting`).
 fn fit<B: Progress>(
     bus: &mut B,
     is_replaced: bool,

@@ -19,12 +19,10 @@ use nor_read::read_out;
 use nor_session::{Refusal, Report};
 use std::alloc::Global;
 
-/// Returns the target of a change of a chip of `size` bytes. Without `ranges`, the target is `image`. With `ranges`,
-/// the whole chip is read into memory. The target then has the bytes of `image` at these addresses, and the chip's own
-/// bytes at all others.
-///
-/// With `ranges`, returns error 4 (`image` isn't as long as the chip), 5 (an address isn't on the chip), 18 (out of
-/// memory) or another error of `read_out`. Without `ranges`, returns no error.
+/// Returns the target of a change of a chip of `size` bytes: `image` or, with `ranges`, the bytes of `image` at these
+/// addresses and the chip's own bytes at all others. With `ranges`, reads the whole chip into memory, and returns error
+/// 4 (`image` isn't as long as the chip), 5 (an address isn't on the chip), 18 (out of memory) or another error of
+/// `read_out`.
 pub fn complete<'a, B: Progress>(
     bus: &mut B,
     named: Option<ChipName>,
@@ -85,8 +83,8 @@ fn check_size(size: u32, len: usize) -> Result<(), Refusal>
     }
 }
 
-/// Copies the chip to `chip`, a new vault in memory, with FFh at addresses that aren't included (`None` includes all).
-/// Returns error 18 (out of memory) or another error of `read_out`.
+/// Copies the bytes at the included addresses of the chip to `chip`, a new vault in memory, with FFh at all other
+/// addresses. `None` includes all addresses. Returns error 18 (out of memory) or another error of `read_out`.
 pub fn read_to_memory<B: Bus>(
     bus: &mut B,
     included: Option<&Ranges>,
@@ -119,8 +117,7 @@ fn fill_rest(target: &mut [u8], chip: &[u8], included: &Ranges)
     }
 }
 
-/// Returns the number of sectors that are read before a change: those with an included address and, if `merged` is
-/// true, first all sectors of the chip. A sector that is read twice counts twice.
+/// Returns how many sectors are read before a change: those with an included address, plus the whole chip if `merged`.
 pub fn sectors_before_change(size: usize, included: Option<&Ranges>, merged: bool) -> usize {
     let scanned = sectors_to_read(size, included);
     if merged {
@@ -132,22 +129,21 @@ pub fn sectors_before_change(size: usize, included: Option<&Ranges>, merged: boo
 
 /// Returns the number of sectors with an included address on a chip of `size` bytes (`None` includes all).
 pub fn sectors_to_read(size: usize, included: Option<&Ranges>) -> usize {
-    // A size whose number of sectors doesn't fit into a `u32` is refused before a sector is read, because no chip has
-    // it.
+    // A size of 2^32 sectors or more, which no chip has, is refused before a sector is read.
     let sectors = u32::try_from(size / SECTOR_LEN as usize).unwrap_or(0);
     (0..sectors)
         .filter(|sector| includes_in_sector(included, *sector))
         .count()
 }
 
-/// Returns the ranges of a change that is compared, or `None` for any other change.
+/// Returns the ranges of a change that is compared, or `None` for another change.
 pub fn ranges_if(compared: bool, ranges: Option<&Ranges>) -> Option<&Ranges>
     ensures { option_copied result ≡ ranges_if compared (option_copied ranges.entry) }
 {
     if compared { ranges } else { None }
 }
 
-/// If the session succeeded and the change is `compared`, compares the whole chip with the target. Returns the outcome
+/// Compares the whole chip with the target if the session succeeded and its change is `compared`. Returns the outcome
 /// of the session, or `NotCompared` with the error of the comparison.
 pub fn follow<'a, B: Progress>(
     bus: &mut B,

@@ -31,15 +31,10 @@ use nor_probe::{ChipName, Found};
 use nor_session::Refusal;
 use std::alloc::{AllocError, Global};
 
-// Performs the job that the arguments ask for. `sources` has the contents of the files that the job reads. `terminal`
-// receives the line that says what a session or restore will change.
-//
-// The inner error is that of the job's call to the engine. The outer error is a fault before this call, or a fault of
-// the comparison after a write, an erase or a restore. The clauses hold on every bus.
-//
-// If the files obey the contract of `Store`, all files stay as they were, except the file that the task creates or
-// truncates. A read, backup, write or erase identifies the chip before that, so without a chip this file stays as it
-// was, too.
+// Performs the job that the arguments ask for, on every bus. `sources` has the contents of the files that the job
+// reads. The inner error is that of the job's call to the engine. The outer error is a fault before this call, or a
+// fault of the comparison after it. A read, backup, write or erase identifies the chip before it creates or truncates
+// its file, so without a chip this file stays as it was.
 fn perform<'a, R: Store, B: Progress>(
     rt: &mut R,
     bus: &mut B,
@@ -92,8 +87,6 @@ pub fn end_job<'a, R: Store, B: Progress>(
     end_call(outcome)
 }
 
-// Returns the result of the job's call to the engine as the result of the job. An error of the call becomes a fault of
-// the job.
 fn end_call<'a>(outcome: Outcome) -> Result<Answer, JobFault<'a>>
     ensures { IsEndedAs outcome result }
 {
@@ -150,8 +143,8 @@ fn verify_chip<B: Progress>(bus: &mut B, named: Option<ChipName>, sources: Sourc
     verify_image(bus, named, &bytes, included.as_ref())
 }
 
-// Performs a change with its session. If the change is compared, compares the chip with the target after the session,
-// and the target has the chip's own bytes outside the regions of the change. Returns usage fault 6 for a rehearsal.
+// Performs a change with its session. If the change is compared, the target has the chip's own bytes outside the
+// regions, and the chip is compared with it after the session. Returns usage fault 6 for a rehearsal.
 fn change_chip<'a, R: Store, B: Progress>(
     rt: &mut R,
     bus: &mut B,

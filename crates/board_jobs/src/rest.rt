@@ -1,4 +1,4 @@
-//! The sectors that the journal of a restore doesn't save: reads them before the restore, and compares them after it.
+//! Reads the sectors that the journal of a restore doesn't save, and compares them after the restore.
 ghost use Rattle.std.specs.Prelude.{◌≡◌, ◌≤◌, ◌<◌, ◌^◌, IfErr, OnErr, OnOk, length, replicate};
 ghost use Rattle.nor_journal.specs.Saved.{is_saved};
 ghost use Rattle.board_jobs.specs.Rest.{AreUnsaved, FailsRest, HasKeptRest, HasReadRest};
@@ -17,11 +17,9 @@ use nor_session::Refusal;
 // The number of sectors in 64 KiB, the longest block that is read at once.
 const LONGEST_RUN: u32 = 16;
 
-/// Reads each sector that the journal doesn't save into `bytes`. `bytes` must have one FFh for each byte of the chip.
-/// If the bus stops, returns `Stopped`.
-///
-/// A saved sector is never read, not even ahead. After an interrupted operation, two reads of it may differ, and this
-/// would end the job.
+/// Reads each sector that the journal doesn't save into `bytes`, which must have one FFh for each byte of the chip.
+/// Returns `Stopped` if the bus stops. A saved sector isn't read, not even ahead: after an interrupted operation, two
+/// reads of it may differ, and this would end the job.
 pub fn read_rest<B: Progress>(
     bus: &mut B,
     journal: &Journal<'_>,
@@ -60,9 +58,9 @@ fn saves(journal: &Journal<'_>, sector: u32) -> bool
     journal.find(sector).is_some()
 }
 
-/// Reads the sectors that the journal doesn't save into `again`, and compares them with `rest`, their bytes before the
-/// restore. `again` must have one FFh for each byte of the chip. Returns error 14 with the first address that differs,
-/// or error 12 if the bus stopped.
+/// Reads the sectors that the journal doesn't save into `again`, which must have one FFh for each byte of the chip.
+/// Compares them with `rest`, their bytes before the restore. Returns error 14 with the first address that differs, or
+/// error 12 if the bus stopped.
 pub fn compare_rest<B: Progress>(
     bus: &mut B,
     journal: &Journal<'_>,
@@ -84,7 +82,7 @@ pub fn compare_rest<B: Progress>(
     }
 }
 
-/// Returns whether the comparison is made after a restore with this outcome: it is after success and after error 14.
+/// Returns whether the comparison is made after a restore with this outcome: after success and after error 14.
 pub fn is_followed(outcome: &Outcome) -> bool
     ensures { result ≡ is_followed outcome.now }
 {

@@ -22,17 +22,14 @@ use std::alloc::Global;
 
 /// Restores the chip from the bytes of a journal: every saved sector without reading it first or, with `--quick`, only
 /// those that differ. If `-c` is given, the chip must have that name. Status bits that the board changed may stay as
-/// they are (`restore_fitting`).
+/// they are (`restore_fitting`). Without `-N`, the sectors that the journal doesn't save are read before the restore
+/// and, if it succeeds or returns error 14, again after it, and must be the same.
 ///
-/// Without `-N`, the sectors that the journal doesn't save are read before the restore. If the restore succeeds or
-/// returns error 14, they are read again, and must be the same.
+/// The inner error is that of the restore itself. The outer error is 15 (the bytes are no journal) or, without `-N`:
 ///
-/// The inner error is that of the restore itself. The outer error is one of these faults:
-///
-/// - Error 15: the bytes are no journal.
-/// - Without `-N`, before the restore: error 18 (out of memory), an error of the identification, 16 (the chip has
-///   another ID or size than the journal) or 12 (the bus stopped).
-/// - Without `-N`, after the restore: `RestNotCompared`.
+/// - Before the restore: error 18 (out of memory), an error of the identification, 16 (the chip has another ID or size
+///   than the journal) or 12 (the bus stopped).
+/// - After the restore: `RestNotCompared`.
 pub fn restore_chip<'a, B: Progress>(
     bus: &mut B,
     terminal: Terminal<'_>,

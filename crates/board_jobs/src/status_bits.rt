@@ -8,19 +8,15 @@ pub(crate) struct StatusBits {
     /// The bits that protect sectors on at least one of these chips, or whose meaning this program doesn't know.
     pub may_protect: u8,
     pub meaning: &'static str,
-    /// The advice for a chip on which one of the bits `may_protect` is set.
     pub advice: &'static str,
 }
 
-/// Returns what the bits mean on a chip with this ID and status 1. The chip's ID must have no row in nor_probe, and its
-/// SFDP must say that sectors of 4 KiB can be erased everywhere. For the makers without a constant here, each of the
-/// bits 2 to 6 may protect sectors.
+/// Returns the meaning of bits 2 to 6 of status 1 on a chip with this ID. The ID must have no row in nor_probe, and the
+/// chip's SFDP must say that sectors of 4 KiB can be erased everywhere. The sources are the sections Status Register of
+/// the makers' datasheets, which are cited from memory.
 ///
-/// `may_protect` lacks a bit only if this bit protects nothing on every chip of the maker that has SFDP. These bits are
+/// `may_protect` lacks a bit only if this bit protects nothing on any chip of the maker that has SFDP. Such bits are
 /// QE of Macronix and ISSI, and SEC of Microchip's SST26, which says that the one-time area is locked.
-///
-/// The comment of each constant lists bits 6 to 2 of status 1, in this order, for some chips of the maker. The sources
-/// are the sections Status Register of their datasheets, from memory.
 pub(crate) fn status_bits(id: [u8; 3], status1: u8) -> StatusBits
     ensures { result.may_protect ≡ protecting_bits id }
 {
@@ -39,65 +35,63 @@ pub(crate) fn status_bits(id: [u8; 3], status1: u8) -> StatusBits
     }
 }
 
-// W25Q16JV, W25Q80DV: SEC TB BP2 BP1 BP0. (W25Q256JV: TB BP3 BP2 BP1 BP0.)
+// Bits 6 to 2 are SEC TB BP2 BP1 BP0 (W25Q16JV, W25Q80DV) or TB BP3 BP2 BP1 BP0 (W25Q256JV).
 const WINBOND: StatusBits = StatusBits {
     may_protect: 0x7C,
     meaning: "On Winbond's chips its bits 2 to 6 (BP0 to BP2, TB, SEC) protect sectors.",
     advice: CLEAR,
 };
 
-// GD25Q64C, GD25Q128E: BP4 BP3 BP2 BP1 BP0.
+// Bits 6 to 2 are BP4 BP3 BP2 BP1 BP0 (GD25Q64C, GD25Q128E).
 const GIGADEVICE: StatusBits = StatusBits {
     may_protect: 0x7C,
     meaning: "On GigaDevice's chips its bits 2 to 6 (BP0 to BP4) protect sectors.",
     advice: CLEAR,
 };
 
-// MX25L12835F, MX25U6435F, MX25R6435F: QE BP3 BP2 BP1 BP0. (On the MX25L6405D bit 6 is CP, which shows continuous
-// programming.)
+// Bits 6 to 2 are QE BP3 BP2 BP1 BP0 (MX25L12835F, MX25U6435F, MX25R6435F). MX25L6405D has CP (continuous program).
 const MACRONIX: StatusBits = StatusBits {
     may_protect: 0x3C,
     meaning: "On Macronix's chips its bits 2 to 5 (BP0 to BP3) protect sectors.",
     advice: LIFT,
 };
 
-// IS25LP128, IS25WP064, IS25LQ032: QE BP3 BP2 BP1 BP0.
+// Bits 6 to 2 are QE BP3 BP2 BP1 BP0 (IS25LP128, IS25WP064, IS25LQ032).
 const ISSI: StatusBits = StatusBits {
     may_protect: 0x3C,
     meaning: "On ISSI's chips its bits 2 to 5 (BP0 to BP3) protect sectors.",
     advice: LIFT,
 };
 
-// N25Q064A, MT25QL128: BP3 TB BP2 BP1 BP0. XMC's chips have the same first byte of the ID. XM25QH64C: SEC TB BP2 BP1
-// BP0.
+// Bits 6 to 2 are BP3 TB BP2 BP1 BP0 (N25Q064A, MT25QL128), or SEC TB BP2 BP1 BP0 on XMC's XM25QH64C.
 const MICRON: StatusBits = StatusBits {
     may_protect: 0x7C,
     meaning: "On the chips of Micron and XMC its bits 2 to 6 (BP, TB, SEC) protect sectors.",
     advice: LIFT,
 };
 
-// EN25QH64: WHDIS BP3 BP2 BP1 BP0. On other chips bit 6 may have another meaning.
+// Bits 6 to 2 are WHDIS BP3 BP2 BP1 BP0 (EN25QH64). On other chips bit 6 may have another meaning.
 const EON: StatusBits = StatusBits {
     may_protect: 0x7C,
     meaning: "On Eon's chips its bits 2 to 5 (BP0 to BP3) protect sectors, and on some perhaps bit 6.",
     advice: LIFT,
 };
 
-// S25FL128L, S25FL164K: SEC TB BP2 BP1 BP0. (S25FL128S: P_ERR E_ERR BP2 BP1 BP0. This chip is refused earlier.)
+// Bits 6 to 2 are SEC TB BP2 BP1 BP0 (S25FL128L, S25FL164K). The S25FL128S, with P_ERR and E_ERR, is refused earlier.
 const SPANSION: StatusBits = StatusBits {
     may_protect: 0x7C,
     meaning: "On Spansion's chips its bits 2 to 6 (BP0 to BP2, TB, SEC) protect sectors.",
     advice: LIFT,
 };
 
-// AT25SF128A: SEC TB BP2 BP1 BP0. AT25DF321A: RES EPE WPP SWP SWP. SWP shows whether sectors are protected.
+// Bits 6 to 2 are SEC TB BP2 BP1 BP0 (AT25SF128A), or RES EPE WPP SWP SWP (AT25DF321A). SWP shows protection.
 const ADESTO: StatusBits = StatusBits {
     may_protect: 0x7C,
     meaning: "On Adesto's chips its bits 2 to 6 protect sectors, or bits 2 and 3 say that some are protected.",
     advice: LIFT,
 };
 
-// SST26VF064B: RES SEC WPLD WSP WSE.
+// Bits 6 to 2 are RES SEC WPLD WSP WSE (SST26VF064B).
 const SST26: StatusBits = StatusBits {
     may_protect: 0x5C,
     meaning: "On SST26 chips its bits 2 and 3 say that an erase or a program is suspended, and bit 4 that the locks of \
@@ -120,7 +114,7 @@ const OTHERS: StatusBits = StatusBits {
     advice: LIFT,
 };
 
-// flashrom has --wp options for chips of these makers.
+// flashrom has --wp options for chips of Winbond and GigaDevice.
 const CLEAR: &str =
     "Clear these bits with another tool (flashrom --wp-disable, then flashrom --wp-range=0,0), and try again.";
 

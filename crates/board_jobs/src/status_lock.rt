@@ -16,26 +16,21 @@ use nor_session::Refusal;
 /// The result of a change of SRP0.
 #[derive(Clone, Copy, Drop)]
 pub struct LockChange {
-    /// The identified chip.
     pub found: Found,
     /// Status 1 and status 2 before the change.
     pub before: [u8; 2],
-    /// Status 1 and status 2 after the status write, or `None` if SRP0 had the value already, so none was sent.
+    /// Status 1 and status 2 after the status write, or `None` if SRP0 had the value already, so nothing was written.
     pub after: Option<[u8; 2]>,
 }
 
-/// Sets SRP0 (bit 7 of status 1) if `srp0` is true, and clears it otherwise. While SRP0 is set and WP# is low, a chip
-/// ignores status writes, so its protection stays. (W25Q64FV datasheet, Status Register Protect.)
+/// Sets SRP0 (bit 7 of status 1) if `srp0` is true, and clears it otherwise (W25Q64FV datasheet, Status Register
+/// Protect). Identifies the chip. If SRP0 has the other value, sends one status write and reads the status registers
+/// back. Writes no journal. Returns an error of the identification or one of these errors:
 ///
-/// Identifies the chip. If SRP0 has the other value, sends one status write and reads the status registers back. Writes
-/// no journal. Returns one of these errors:
-///
-/// - an error of the identification
 /// - 6: the block protection of the chip is unknown
 /// - 9: SRP1 is set, so the chip ignores status writes at least until its power is off
-/// - 12: the bus stopped
-/// - 13: the chip stayed busy
-/// - `NotStored`: a non-volatile bit was read back with another value than it was written (WP# is probably low)
+/// - 12 (the bus stopped) or 13 (the chip stayed busy)
+/// - `NotStored`: a non-volatile bit was read back with another value than was written (WP# is probably low)
 pub fn set_srp0<'a, B: Bus>(
     bus: &mut B,
     named: Option<ChipName>,

@@ -1,4 +1,4 @@
-//! The sectors that a run changed by accident: finds them after a session that failed, and after a restore.
+//! Finds and reports sectors that a run changed by accident.
 ghost use Rattle.std.specs.Prelude.{◌≡◌, ◌≤◌};
 ghost use Rattle.nor_console.specs.Printing.{Prints};
 ghost use Rattle.board_jobs.specs.Strays.{IsAsBefore};
@@ -21,12 +21,9 @@ use std::alloc::{AllocError, Global};
 use std::fmt;
 use std::io::Write;
 
-/// After a session that ended with error 14 or chip fault 4, reads again each sector that the session read before its
-/// first modifying command and was not to change. Prints a line with those whose bytes differ, if any. If the bus
-/// stops, prints no such line.
-///
-/// Reads nothing if the session ended with another fault, because then the chip wasn't changed, can't be reached or is
-/// busy. Reads nothing after another job.
+/// After a session that ended with error 14 or chip fault 4, reads each sector again that the session read before its
+/// first modifying command and was not to change. Prints a line with those whose bytes differ, if any. Prints no such
+/// line if the bus stops. Reads nothing after another fault or another job.
 pub fn report_strays<'b, B: Bus + Drop, E: Write>(
     errors: &mut E,
     bus: &mut Shown<'b, B>,
@@ -121,7 +118,7 @@ impl fmt::Display for Places {
 }
 
 /// Begins to note the sums of the sectors that are read (`Notes`), for a write or an erase with a journal, and for a
-/// restore that is compared. Does nothing for other operations. Prints a line if memory runs out.
+/// restore without `-N`. Does nothing for other operations. Prints a line if memory runs out.
 pub fn begin_notes<'b, B: Bus + Drop, E: Write>(
     errors: &mut E,
     bus: &mut Shown<'b, B>,
@@ -155,13 +152,10 @@ fn new_notes(operation: &Operation<'_>, alloc: Global) -> Result<Option<Notes>, 
     }
 }
 
-/// Ends a run that succeeded, and returns the exit status.
-///
-/// After a restore, compares the sectors that its journal doesn't save with their sums before the session. If one
-/// differs, prints chip fault 5 and no answer. Otherwise prints the answer. If this comparison needs sums that can't be
-/// used (`Before::why_unknown`), also prints a line that says why.
-///
-/// After a session or a backup, also prints file fault 2 if its journal was lost after it was sealed.
+/// Ends a run that succeeded, and returns the exit status. After a restore, compares the sectors that its journal
+/// doesn't save with their sums before the session. If one differs, prints chip fault 5, otherwise the answer. If the
+/// sums are lacking (`Before::why_unknown`), also prints why. After a session or a backup, also prints file fault 2 if
+/// its journal was lost after it was sealed.
 pub fn end_compared<'b, R: Store, B: Bus + Drop, O: Write, E: Write>(
     output: &mut O,
     errors: &mut E,
@@ -226,9 +220,8 @@ fn report_unknown<E: Write>(errors: &mut E, before: &Before, operation: &Operati
     }
 }
 
-/// Checks that the name of the journal that a session or a backup sealed still refers to its file, and that this file
-/// still has the same length. If not, prints file fault 2 with this name. Returns the exit status of the run: 1 if the
-/// fault was printed, otherwise `status`.
+/// Prints file fault 2 and returns exit status 1 if the journal that a session or a backup sealed was removed or
+/// replaced, or has another length now. Otherwise returns `status`.
 pub fn report_lost_journal<R: Store, E: Write>(
     errors: &mut E,
     files: &R,
@@ -253,8 +246,7 @@ const IS_LOST: &str =
     "After this run sealed the journal, another program removed, replaced or changed it: don't \
     restore from a file with this name.";
 
-/// Returns the name of the journal that a session or a backup creates, or `None` for another operation. There was no
-/// file of this name when `prepare` checked it.
+/// Returns the name of the journal that a session or a backup creates, or `None` for another operation.
 pub fn new_journal_of<'a>(operation: &Operation<'a>) -> Option<&'a str> {
     let named = named_by(&operation.task);
     match &operation.task {

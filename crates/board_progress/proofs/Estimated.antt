@@ -59,8 +59,7 @@ minute = (refl, refl)
 hour : (minutes_in 3600000000 ≡ 60) × (seconds_in 3600000000 ≡ 0)
 hour = (refl, refl)
 
--- W25Q64FV. One sector: 45 ms, and 0.7 ms for each of its 16 programs. 34 scattered sectors: 34 times that. 16 sectors
--- in one block of 64 KiB: 150 ms and 179.2 ms. All 2,048 sectors: 20 s and 22.9376 s.
+-- One sector takes 45 ms and 16 programs of 0.7 ms. An erase of 64 KiB takes 150 ms, an erase of 8 MiB 20 s.
 one_sector : change_time 1 1 ≡ 56200
 one_sector = refl
 

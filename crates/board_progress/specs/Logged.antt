@@ -1,4 +1,3 @@
--- The writer inside a writer that also writes to the log of a run.
 use Rattle.board_progress.specs.declared.run_log.Logged.{Logged}
 
 abbrev pub written_by : {W : Type 0} → Logged W → W

@@ -1,4 +1,3 @@
--- The notes of a run: their sums of the comparison after a restore.
 use Rattle.nor_sums.specs.declared.sums.Sums.{Sums}
 use Rattle.board_progress.specs.declared.notes.Notes.{Notes}
 

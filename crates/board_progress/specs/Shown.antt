@@ -1,4 +1,3 @@
--- The bus inside a bus that shows the progress, and its notes.
 use Rattle.std.specs.Prelude.{Option}
 use Rattle.board_progress.specs.declared.notes.Notes.{Notes}
 use Rattle.board_progress.specs.declared.progress.Shown.{Shown}

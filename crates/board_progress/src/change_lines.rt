@@ -35,7 +35,7 @@ impl fmt::Display for RestoreText {
 }
 
 /// The line with the estimated time of a change: the typical time of its erases and programs. If data was read before,
-/// also the time for sending and reading back the touched sectors at the rate of those reads.
+/// the estimate includes the time to send and read back the touched sectors at the rate of those reads.
 #[derive(Clone, Copy, Drop)]
 pub struct ExpectedTime {
     pub announcement: Announcement,
@@ -69,10 +69,9 @@ impl fmt::Display for ExpectedTime {
     }
 }
 
-/// The line before the first modifying command of a session, with the name of the journal's file if it is known.
-///
-/// If the run is interrupted, the programmer may still wait for the rest of a frame, and would take the first bytes of
-/// the next run for this rest. Therefore the line says that the programmer must be disconnected from power.
+/// The line before the first modifying command of a session, with the name of the journal's file if it is known. The
+/// line asks you to disconnect the programmer from power after an interruption, because the programmer may wait for the
+/// rest of a frame, and would take the first bytes of the next run for this rest.
 #[derive(Clone, Copy, Drop)]
 pub struct SealedLine<'a>(pub Option<&'a str>);
 

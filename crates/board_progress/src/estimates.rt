@@ -25,8 +25,7 @@ pub fn tenths_of_kib(bytes: u64, micros: u64) -> Option<u64>
     Some(cap(u128::from(bytes) * 10_000_000 / (u128::from(micros) * 1024)))
 }
 
-/// Returns the number of microseconds for `amount` if `done` took `micros`, rounded down and at most `u64::MAX`.
-/// Returns `None` if `done` is 0.
+/// Returns the time for `amount` if `done` took `micros` (rounded down, at most `u64::MAX`), or `None` if `done` is 0.
 pub fn time_for(amount: u64, done: u64, micros: u64) -> Option<u64>
     ensures { result ≡ time_for amount done micros }
 {
@@ -36,14 +35,12 @@ pub fn time_for(amount: u64, done: u64, micros: u64) -> Option<u64>
     Some(cap(u128::from(amount) * u128::from(micros) / u128::from(done)))
 }
 
-/// Returns the typical time of a change in microseconds, without the time of transfers. The typical times are those of
-/// the W25Q64FV datasheet (AC Electrical Characteristics). The estimate assumes these operations:
-///
-/// - Each touched sector is programmed in 16 pages of 0.7 ms.
-/// - If there is one erase for more than 16 touched sectors, it is a chip erase. It takes 20 s for 2,048 touched
-///   sectors, and for another number in proportion.
-/// - Otherwise the erases are of 4 KiB (45 ms) and 64 KiB (150 ms), and cover just the touched sectors. The number of
-///   64 KiB erases is `touched - erases` divided by 15, rounded down, but at most `erases`.
+/// Returns the typical time of a change in microseconds, without the time of transfers. It is calculated with the
+/// typical times of the W25Q64FV datasheet (AC Electrical Characteristics):
+/// - Each touched sector takes 16 page programs of 0.7 ms.
+/// - A single erase for more than 16 touched sectors is a chip erase, which takes 20 s per 2,048 touched sectors.
+/// - Other erases are of 64 KiB (150 ms) or 4 KiB (45 ms). The number of 64 KiB erases is `(touched - erases) / 15`,
+///   rounded down, but at most `erases`.
 pub fn change_micros(touched: u32, erases: u32) -> u64
     ensures { result ≡ change_time touched erases }
 {

@@ -4,7 +4,7 @@ use crate::steps::{Step, StepLine, Tally, Total};
 use crate::terminal::Transfer;
 use std::time::Instant;
 
-// The least number of microseconds between two drawings of the progress line, except for the line of a completed step.
+// The least number of microseconds between two drawings of the progress line, except the last drawing of a step.
 const BETWEEN: u64 = 100_000;
 
 const READ_STATUS: u8 = 0x05;
@@ -47,8 +47,8 @@ impl Tallies {
     }
 }
 
-/// Counts the operations of a job. A read counts when its reply was received, any other operation when a poll shows
-/// that the chip is ready.
+/// Counts and times the operations of a job, for its progress line. A read counts when its reply was received, any
+/// other operation when a poll shows that the chip is ready.
 #[derive(Clone, Copy)]
 pub struct Gauge {
     tallies: Tallies,
@@ -59,7 +59,7 @@ pub struct Gauge {
 }
 
 impl Gauge {
-    /// Returns a gauge that has counted nothing. The time of the first operation is measured from `now` on.
+    /// Returns a gauge that has counted nothing, and measures the time of the first operation from `now` on.
     pub fn new(now: Option<Instant>) -> Gauge {
         Gauge {
             tallies: Tallies::default(),
@@ -74,13 +74,11 @@ impl Gauge {
         self.last = now;
     }
 
-    /// Sets the count of the scan to 0, before a second scan.
     pub fn restart_scan(&mut self) {
         self.tallies.scan = Tally::default();
     }
 
-    /// Records a transaction that was carried out before `now`. `step` is `None` if the transaction belongs to no step.
-    /// Returns the step whose line has changed, if any.
+    /// Records a transaction that ended before `now`. Returns the step whose line has changed, if there is one.
     pub fn record(
         &mut self,
         step: Option<Step>,
@@ -120,7 +118,6 @@ impl Gauge {
         self.last = now;
     }
 
-    /// Returns how many bytes the scan read, and in how many microseconds.
     pub fn scanned(&self) -> Transfer {
         Transfer {
             bytes: self.tallies.scan.bytes,
@@ -128,7 +125,7 @@ impl Gauge {
         }
     }
 
-    /// Returns the line of a step. If the chip is performing an operation, its time so far is included.
+    /// Returns the line of a step. Its time includes that of an operation that the chip is still performing.
     pub fn line(&self, step: Step, total: Total, now: Option<Instant>) -> StepLine {
         let mut tally = self.tallies.of(step);
         if self.running.is_some() {
@@ -138,7 +135,7 @@ impl Gauge {
         StepLine { step, tally, total }
     }
 
-    /// Returns whether the line may be drawn again, because no drawing was recorded in the last tenth of a second.
+    /// Returns whether the line may be drawn again: no drawing was recorded in the last tenth of a second.
     pub fn is_due(&self, now: Option<Instant>) -> bool {
         self.drawn.is_none() || micros_between(self.drawn, now) >= BETWEEN
     }

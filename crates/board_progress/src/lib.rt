@@ -1,4 +1,4 @@
-//! Shows the progress of a job on standard error and in the log of the run, and records the sums of the sectors that
+//! Shows the progress of a job on standard error and in the log of the run, and records checksums of the sectors that
 //! the job reads. The job may use any bus.
 #![tactic(auto)]
 

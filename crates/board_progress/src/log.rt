@@ -1,13 +1,11 @@
-//! The lines that `-V` prints and a log (`-o`) contains: one for each modifying transaction, one for the start of each
-//! step that only reads, and one if the bus stops.
+//! The lines that `-V` prints and a log (`-o`) receives for modifying transactions, steps and stops of the bus.
 ghost use Rattle.std.specs.Prelude.{◌≡◌, IfSome};
 ghost use Rattle.nor_buses.specs.ReadsAs.{address_in};
 ghost use Rattle.board_progress.specs.Estimates.{millis_in, whole_seconds_in};
 
 use std::fmt;
 
-/// The line of a modifying transaction that sends `out`: the time in microseconds since the `Terminal` was created, the
-/// transaction's name and, if it has these, its length and address.
+/// The line of a modifying transaction that sends `out`, `micros` microseconds after the `Terminal` was created.
 #[derive(Clone, Copy, Drop)]
 pub struct CommandText<'a> {
     pub micros: u64,
@@ -15,7 +13,7 @@ pub struct CommandText<'a> {
     pub out: &'a [u8],
 }
 
-/// Returns the name of a transaction if it is a modifying one, otherwise `None`.
+/// Returns the name of a modifying transaction, or `None` for another transaction.
 pub fn command_name(out: &[u8]) -> Option<&'static str> {
     match out {
         [0x06, ..] => Some("write enable"),
@@ -62,8 +60,8 @@ impl fmt::Display for Bytes {
     }
 }
 
-/// The line for the start of a step that only reads, or for a stop of the bus: the time in microseconds since the
-/// `Terminal` was created, and the step's name or `stopped`.
+/// The line for the start of a step that only reads, or for a stop of the bus, `micros` microseconds after the
+/// `Terminal` was created.
 #[derive(Clone, Copy, Drop)]
 pub struct EventText {
     pub micros: u64,

@@ -12,25 +12,21 @@ use nor_sums::{SECTORS, SHEET_LEN, Sums, encode};
 use std::alloc::{AllocError, Global};
 use std::fmt;
 
-/// The sums of sectors that a run notes, and the name of the file to which it writes them. All memory is allocated by
-/// `new`.
-///
-/// `before` contains the sum of the last read of each sector before the first modifying command. An erase or a program
-/// of a sector removes its sum. After a change, `before` therefore contains only the sums of sectors that must have
-/// kept their bytes. `after` contains the sum of the last read of each sector in the comparison after a restore.
+/// Checksums (`nor_sums`) of the sectors that a run reads. `before` has the sum of the last read of each sector before
+/// the first modifying command, but none for a sector that was then erased or programmed. `after` has the sum of the
+/// last read of each sector in the comparison after a restore. All memory is allocated by `new`.
 #[derive(Drop)]
 pub struct Notes {
     before: Sums,
     after: Sums,
-    // the file's name, and memory for its bytes; `None` if the run writes no sums to a file
+    // the name of the file for `before`, and memory for its bytes; `None` if no file is written
     file: Option<(String, Vec<u8>)>,
 }
 
 impl Notes {
     ghost use Rattle.board_progress.specs.Notes.{after_of};
 
-    /// Returns empty notes. If a name is given, `write` writes the sums to the file of this name. Returns an error if
-    /// memory runs out.
+    /// Returns empty notes. If `name` is given, `write` creates a file of this name. Fails if memory runs out.
     pub fn new(alloc: Global, name: Option<String>) -> Result<Notes, AllocError> {
         let file = match name {
             Some(name) => Some((name, Vec::with_capacity(alloc, SHEET_LEN)?)),
@@ -43,11 +39,9 @@ impl Notes {
         })
     }
 
-    /// Notes a transaction that was carried out in this phase of the job.
-    ///
-    /// A read of a whole sector records the sum of its reply: in `before` if no modifying command was sent, and in
-    /// `after` if the comparison after a restore began. An erase or a program removes the sums of the sectors that it
-    /// targets from `before`.
+    /// Notes a transaction that was carried out in this phase. A read of a whole sector records the sum of its reply:
+    /// in `before` in the phase `Before`, and in `after` in the phase `After` if no file is written. An erase or a
+    /// program removes the sums of its sectors from `before`.
     pub fn note(&mut self, phase: Phase, out: &[u8], reply: &[u8]) {
         match (phase, read_sector_of(out, reply)) {
             (Phase::Before, Some(sector)) => self.before.record(sector, reply),
@@ -71,8 +65,7 @@ impl Notes {
         }
     }
 
-    /// Returns the sum of a sector before the first modifying command. Returns `None` if the sector was not read, or if
-    /// an erase or a program of it was sent.
+    /// Returns the sum of the sector in `before`, if there is one.
     pub fn before(&self, sector: usize) -> Option<[u8; 8]> {
         self.before.get(sector)
     }
@@ -84,8 +77,8 @@ impl Notes {
         &self.after
     }
 
-    /// Writes the sums `before` to a new file and syncs it, if `new` received a name. Must be called before the first
-    /// modifying command. If the file can't be created or written, prints and logs a line.
+    /// Writes `before` to a new file and syncs it, if `new` received a name. Must be called before the first modifying
+    /// command. If the file can't be created or written, prints and logs a line.
     pub fn write(&mut self, terminal: Terminal<'_>, replies: Replies) {
         let Some((name, room)) = &mut self.file else {
             return;

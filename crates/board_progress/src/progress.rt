@@ -27,8 +27,7 @@ const QE: u8 = 0x02;
 // The line before the first modifying command of a restore or of a change of SRP0. A session has a `SealedLine` there.
 const CHANGED: &str = "The chip is changed from here on.";
 
-// The line before `CHANGED` or the `SealedLine` if SRP1 is set and SRP0 is clear (W25Q64FV datasheet, Status Register
-// Protect).
+// The line before `CHANGED` or `SealedLine` if SRP1 is set without SRP0 (W25Q64FV datasheet, Status Register Protect).
 const POWER_LOCKED: &str =
     "Keep its power on: a loss of power clears SRP1, and a restore then ends with error 17.";
 
@@ -40,15 +39,13 @@ const BUSY_CHIP: &str =
     "The chip shows BUSY. If no erase is running, it has no contact or no supply: press Ctrl-C, and check both. \
     (The run gives up after 400 seconds.)";
 
-// The number of polls that must show BUSY before `BUSY_CHIP` is printed. They take about a second (`Paced`) or more.
-// Without contact each reply is FFh, which shows BUSY, and the run may wait 400 seconds before it gives up.
+// The number of polls that show BUSY before `BUSY_CHIP` is printed. Without contact, replies are FFh and show BUSY.
 const POLLS_UNTIL_LINE: u32 = 256;
 
 /// A bus that shows the progress of a job. The functions of this trait don't change the state that contracts see.
 pub trait Progress: Bus {
-    /// Records that the job reads `sectors` sectors before it changes anything. If it is called again, the greatest
-    /// number counts. But if `sectors` is greater than the recorded number and all recorded reads are done, the further
-    /// reads are shown as a second scan.
+    /// Records that the job reads `sectors` sectors before it changes anything. If this is called again, the greatest
+    /// number counts. A greater number after all recorded reads were done begins a second scan of the further sectors.
     fn expect_reads(&mut self, sectors: usize)
         ensures { Self.state self.new ≡ Self.state self.old };
 
@@ -63,19 +60,13 @@ pub trait Progress: Bus {
 }
 
 /// A bus that shows the progress of a job on standard error, as the `Look` of its `Terminal` requires:
-///
-/// - `Look::Line` rewrites one line (`StepLine`), at most ten times a second. It ends the line when the step is
-///   complete.
+/// - `Look::Line` rewrites a `StepLine` at most ten times a second, and ends it when the step is complete.
 /// - `Look::Plain` prints a line for the first transaction of a step, and then after each `Step::stride` further ones.
 /// - `Look::Minutes` prints a `StepLine` at most once per minute.
 /// - `Look::Hidden` prints none of these lines.
 ///
 /// The lines of `-V` are printed with any look. The log (`-o`) receives the lines of `Look::Plain` and `-V`, and how
-/// long the change takes and took.
-///
-/// The opcode of a transaction and the phase of the job determine the step. A line before the first modifying command
-/// says that the chip is changed from here on; in a session this line begins with `SEALED`. In contracts, the state of
-/// this bus is that of the bus inside.
+/// long the change takes and took. In contracts, the state of this bus is that of the bus inside.
 #[derive(Drop)]
 pub struct Shown<'a, B> {
     bus: B,
@@ -91,13 +82,11 @@ pub struct Shown<'a, B> {
     // when the first modifying command was passed on
     changed: Option<Instant>,
     status_write: StatusWrite,
-    // what the chip replied before the first modifying command
     replies: Replies,
     // the number of polls that showed BUSY before the ID was read
     busy_polls: u32,
     // when `print_each_minute` last printed a line; before its first line, when the terminal was created
     said: Option<Instant>,
-    // the sums of the sectors that were read, if the job notes sums
     notes: Option<Notes>,
 }
 
@@ -107,7 +96,6 @@ pub enum StatusWrite {
     Never,
     /// Only on a chip whose protection bits may protect an address.
     IfProtected,
-    /// On any chip.
     OnAnyChip,
     /// Only on a chip whose protection bits may protect an address, or aren't those of the given status bytes.
     Restoring([u8; 2]),
@@ -138,23 +126,19 @@ impl<'a, B: Bus + Drop> Shown<'a, B> {
         }
     }
 
-    /// Returns the bus inside.
     pub fn inner(&self) -> &B {
         &self.bus
     }
 
-    /// Returns the terminal that the progress is shown on.
     pub fn terminal(&self) -> Terminal<'a> {
         self.terminal
     }
 
-    /// Returns what the chip replied before the first modifying command.
     pub fn replies(&self) -> Replies {
         self.replies
     }
 
-    /// Records three facts about the job for the lines before its first modifying command: whether it is a session, the
-    /// name of its journal's file, and whether it may write the status. (A session has sealed its journal by then.)
+    /// Records facts for the lines before the job's first modifying command. `journal` is the journal's file name.
     pub fn begin_job(
         &mut self,
         in_session: bool,
@@ -168,9 +152,8 @@ impl<'a, B: Bus + Drop> Shown<'a, B> {
         self.status_write = status_write;
     }
 
-    /// Ends the progress line. Call this after the last transaction of the job, before any other line is printed. If
-    /// the job succeeded and sent a modifying command, and no comparison followed, first shows the final numbers of its
-    /// steps.
+    /// Ends the progress line. Must be called after the last transaction of the job, before any other line is printed.
+    /// After a change that succeeded without a comparison, first shows the final numbers of its steps and its duration.
     pub fn end_progress(&self, succeeded: bool) {
         if succeeded {
             self.show_duration();
@@ -271,8 +254,7 @@ impl<B> Shown<'_, B> {
         });
     }
 
-    // After the announcement the scan is over. A read before the first modifying command then is a second read of a
-    // sector that will be programmed without an erase.
+    // A read between the announcement and the first modifying command repeats one of the scan.
     fn step_of(&self, out: &[u8]) -> Option<Step> {
         match step_of(out, self.phase) {
             Some(Step::Scan) if self.terminal.announced().is_some() => Some(Step::ReadBack),

@@ -13,14 +13,12 @@ pub struct Replies {
     /// Status 1 and status 2.
     pub status: [u8; 2],
     density: Option<u32>,
-    /// True if the SFDP table was read, and doesn't say that sectors of 4 KiB can be erased everywhere (JESD216, double
-    /// word 1).
+    /// True if an SFDP table was read that doesn't offer erases of 4 KiB everywhere (JESD216, double word 1).
     pub is_uneven: bool,
 }
 
 impl Replies {
-    /// Stores the reply to a transaction that sent `out`, if the reply is an ID, a unique ID, a status byte or an SFDP
-    /// table.
+    /// Stores the reply to a transaction that sent `out`, if it is an ID, a unique ID, a status byte or an SFDP table.
     pub fn remember(&mut self, out: &[u8], reply: &[u8]) {
         match (out, reply) {
             ([0x05, ..], [status1, ..]) => self.status[0] = *status1,
@@ -37,9 +35,8 @@ impl Replies {
         }
     }
 
-    /// Returns the size of the chip in bytes: the size in the table of chips or, if the table has no row for the chip's
-    /// ID, the size in its SFDP. Returns `None` if the ID was not read, or if the table has no row and the SFDP was not
-    /// read or gives no size.
+    /// Returns the chip's size in bytes: that of the table of chips or, if the table has no row for the ID, that of the
+    /// SFDP. Returns `None` if the ID was not read, or if the SFDP is needed but was not read or gives no size.
     pub fn size(&self) -> Option<u32> {
         match part_for(true, self.id?) {
             Some(part) => Some(part.size),

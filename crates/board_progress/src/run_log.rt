@@ -11,19 +11,16 @@ use std::fs::File;
 use std::io::{BufWriter, Write};
 use std::{fmt, io};
 
-// The first line of a log, before the version. An existing regular file is overwritten only if it is empty or begins
-// with these bytes.
+// The first bytes of a log. An existing regular file is overwritten only if it is empty or begins with these bytes.
 const FIRST: &str = "Log of flashnor-serprog";
 
-/// The version of the program, which the first line of a log contains.
+/// The version of the program, which is in the first line of a log.
 pub const VERSION: &str = "1.0";
 
-/// A buffered writer to the file of a log.
 pub type LogWriter = BufWriter<LogFile<File>>;
 
-/// The log of a run, shared by all parts of the run that print. If the log has no file, each line is dropped.
-///
-/// If a line can't be written, nothing more is written to the log, and the job goes on. `lost` returns the reason.
+/// The log of a run (`-o`): what the run prints, its progress as plain lines, and the lines of `-V`. A log without a
+/// file drops each line. After a line that can't be written, nothing more is written, and `lost` returns the reason.
 #[derive(Drop)]
 pub struct RunLog {
     file: RefCell<Option<LogWriter>>,
@@ -42,10 +39,8 @@ impl RunLog {
     }
 
     /// Starts the log in this file by writing its first line. If the file contains a log, truncates it before or, if
-    /// `appends` is true, appends an empty line first.
-    ///
-    /// If the file can't be read, or if it isn't empty and doesn't begin as a log, leaves it as it is, and `is_refused`
-    /// returns true afterwards. A FIFO or a device isn't read.
+    /// `appends` is true, appends an empty line first. A FIFO or a device isn't read. If another file can't be read or
+    /// has other contents than a log, leaves it as it is, and `is_refused` returns true afterwards.
     pub fn start(&self, file: LogWriter, appends: bool) {
         let mut file = file;
         match file.get_mut().is_empty_or_begins(FIRST.as_bytes()) {
@@ -61,7 +56,7 @@ impl RunLog {
         self.end_if_failed(begun);
     }
 
-    /// Returns whether `start` left the file as it was, because the file can't be read or is no log.
+    /// Returns whether `start` left the file as it was, because the file can't be read or isn't a log.
     pub fn is_refused(&self) -> bool {
         self.is_refused.get()
     }
@@ -79,13 +74,12 @@ impl RunLog {
         }
     }
 
-    /// Writes a line to the log and passes it to the system, so the file contains the line even if the run is killed
-    /// afterwards.
+    /// Writes a line and passes it to the system, so the file contains the line even if the run is killed afterwards.
     pub fn write_line<T: fmt::Display>(&self, text: &T) {
         self.end_if_failed(self.try_line(text));
     }
 
-    /// Writes a part of a line to the log. If the part ends with a newline, passes the line to the system.
+    /// Writes a part of a line. If the part ends with a newline, passes the line to the system.
     pub fn write_piece(&self, bytes: &[u8]) {
         self.end_if_failed(self.try_piece(bytes));
     }
@@ -142,7 +136,6 @@ pub struct Logged<'a, W> {
 impl<'a, W> Logged<'a, W> {
     ghost use Rattle.board_progress.specs.Logged.{written_by};
 
-    /// Returns a writer that writes to `inner` and to `log`.
     pub fn new(inner: W, log: &'a RunLog) -> Logged<'a, W>
         ensures { written_by result ≡ inner }
     {
@@ -153,8 +146,7 @@ impl<'a, W> Logged<'a, W> {
 impl<W: Write> Write for Logged<'_, W> {
     ghost contents = { λ logged. W.contents logged.inner };
 
-    // The log receives the bytes that `inner` wrote. If `inner` fails, the log receives all bytes, because they can be
-    // found nowhere else.
+    // The log receives the bytes that `inner` wrote or, if `inner` fails, all bytes.
     fn write(&mut self, bytes: &[u8]) -> io::Result<usize> {
         let written = self.inner.write(bytes);
         match &written {
@@ -169,11 +161,8 @@ impl<W: Write> Write for Logged<'_, W> {
     }
 }
 
-/// Checks that the file of the log may be created or overwritten. It may if it doesn't exist, is empty, or begins as a
-/// log of this program; for any other file, returns file fault 4.
-///
-/// A FIFO or a character device isn't read, and is accepted. A file that can't be read is accepted too, and `start_log`
-/// returns its fault.
+/// Checks that the log's file may be created or overwritten. Returns file fault 4 if the file isn't empty and doesn't
+/// begin as a log of this program. Accepts a FIFO or character device, which isn't read, and a file that can't be read.
 pub fn check_log<'a, R: Store>(rt: &R, name: Option<&'a str>) -> Result<(), Fault<'a>>
     ensures { IfErr result (λ fault. IsSomeAnd name.entry (λ name.
         IsExistingLog (R.state rt.now).view name fault)) }
@@ -196,16 +185,11 @@ fn may_begin_log(start: &[u8]) -> bool
     start.is_empty() || start == FIRST.as_bytes()
 }
 
-/// Starts the log of the run in the file `name`, if a name is given. Creates the file or, if it contains a log,
-/// truncates the log or, if `appends` is true, appends to it. Leaves any other file as it is; `check_started` then
-/// returns the fault.
+/// Starts the log in the file `name`, if a name is given. Creates the file or, if it contains a log, truncates it or,
+/// if `appends` is true, appends to it. Leaves any other file as it is; `check_started` then returns the fault.
 ///
-/// Returns one of the faults of `create_log`:
-///
-/// - file fault 4 if the file is a journal
-/// - file fault 5 if another process has locked the file
-/// - error 18 if memory runs out
-/// - file fault 2 if the file can't be created or truncated for another reason
+/// Returns a fault of `create_log`: file fault 4 if the file is a journal, file fault 5 if another process has locked
+/// it, error 18 if memory runs out, or file fault 2 if it can't be created or truncated for another reason.
 pub fn start_log<'a, R: Store<Log = LogFile<File>>>(
     files: &mut R,
     log: &RunLog,
@@ -228,8 +212,7 @@ pub fn start_log<'a, R: Store<Log = LogFile<File>>>(
     }
 }
 
-/// Returns file fault 4 if `start_log` left the file of this name as it was, because the file is no log or can't be
-/// read. Usually `check_log` finds such a file before; it may have changed since then.
+/// Returns file fault 4 if `start_log` left the file as it was, because the file can't be read or isn't a log.
 pub fn check_started<'a>(log: &RunLog, name: Option<&'a str>) -> Result<(), Fault<'a>> {
     match name {
         Some(name) if log.is_refused() => Err(exists(name, Cause::Unknown)),

@@ -4,8 +4,8 @@
 use nor_buses::{ChangedByte, CheckFault, OtherChip};
 use std::fmt;
 
-/// The line for a fault that a `CheckedStatus` found. It follows the line of error 12. After a change of SRP0, it can
-/// also be the line of the fault itself (`JobFault::NotStored`).
+/// The line for a fault that a `CheckedStatus` found. It follows the line of error 12, or is that of
+/// `JobFault::NotStored` after a change of SRP0.
 #[derive(Clone, Copy, Drop)]
 pub struct StatusLine(pub CheckFault);
 
@@ -26,7 +26,7 @@ impl fmt::Display for StatusLine {
     }
 }
 
-/// The line for a port that seems to change bytes that are received.
+/// The line for a port that seems to change bytes that it receives.
 #[derive(Clone, Copy, Drop)]
 pub struct ChangedLine(pub ChangedByte);
 
@@ -42,8 +42,7 @@ impl fmt::Display for ChangedLine {
     }
 }
 
-/// The line that follows the line of error 12 if a `SameChip` stopped because the unique ID of the chip is another one
-/// than before.
+/// The line that follows the line of error 12 if a `SameChip` stopped because the chip's unique ID has changed.
 #[derive(Clone, Copy, Drop)]
 pub struct OtherLine(pub OtherChip);
 
@@ -87,8 +86,7 @@ struct NotStored {
 impl fmt::Display for NotStored {
     fn fmt<W: fmt::Write>(&self, f: &mut fmt::Formatter<W>) -> fmt::Result {
         let NotStored { sent, found } = *self;
-        // BUSY, WEL and SUS aren't compared, because they change without a status write. For example, WEL stays set if
-        // the chip missed the status write.
+        // BUSY, WEL and SUS aren't compared, because they change without a status write.
         let [one, two] = [found[0] & 0xFC, found[1] & 0x7F];
         if keeps_srp0(sent, found) {
             f.write_str(IGNORED)?;
@@ -132,8 +130,7 @@ pub fn keeps_srp0(sent: [u8; 2], found: [u8; 2]) -> bool {
     sent[0] & 0x80 == 0 && found[0] & 0x80 != 0
 }
 
-/// Returns whether these status bytes may protect an address, because one of BP0 to BP2 or CMP is set (W25Q64FV
-/// datasheet, memory protection tables).
+/// Returns whether BP0, BP1, BP2 or CMP is set, so an address may be protected (W25Q64FV datasheet, memory protection).
 pub fn protects(status: [u8; 2]) -> bool {
     status[0] & 0x1C != 0 || status[1] & 0x40 != 0
 }
@@ -143,13 +140,11 @@ pub fn are_equally_protected(one: [u8; 2], other: [u8; 2]) -> bool {
     (one[0] ^ other[0]) & 0x7C == 0 && (one[1] ^ other[1]) & 0x40 == 0
 }
 
-// The names of the bits that are set in these two bytes, each after a space. The first byte has the bits of status 1,
-// the second byte those of status 2.
+// The names of the bits that are set in this pair of bytes for status 1 and status 2, each after a space.
 #[derive(Clone, Copy, Drop)]
 struct Differing([u8; 2]);
 
-// The names of the bits of status 1 and, in `TWO`, of status 2, except BUSY, WEL and SUS. The highest bit is the first
-// (W25Q64FV datasheet, status registers).
+// The bits of status 1 (`TWO`: status 2) except BUSY, WEL and SUS (W25Q64FV datasheet, status registers).
 const ONE: [(u8, &str); 6] = [
     (0x80, "SRP0"),
     (0x40, "SEC"),

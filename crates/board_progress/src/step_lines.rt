@@ -3,7 +3,7 @@ use crate::estimates::Minutes;
 use crate::steps::Step;
 use std::fmt;
 
-/// For each step, how many of its transactions the bus was asked to carry out. A second scan is counted from 0.
+/// The number of transactions that the bus was asked to carry out for each step. A second scan is counted from 0.
 #[derive(Clone, Copy, Default)]
 pub struct Counts {
     pub identify: u64,
@@ -35,7 +35,7 @@ impl Counts {
 #[derive(Clone, Copy, Drop)]
 pub struct PlainLine {
     pub step: Step,
-    /// The number of transactions of the step that the bus was asked to carry out so far.
+    /// The number of transactions of the step so far.
     pub count: u64,
     /// The number of sectors that a scan or a comparison reads, if known.
     pub expected: Option<u64>,

@@ -4,11 +4,8 @@ ghost use Rattle.std.specs.Prelude.{◌≤◌};
 use crate::estimates::{Minutes, Rate, percent, tenths_of_kib, time_for};
 use std::fmt;
 
-/// The steps of a job. A job may omit a step, and the order varies: for example, `--unlock` may write the status before
-/// the erases, and some sectors are read again before they are programmed.
-///
-/// A read of a sector is a `Scan` until the change is announced, then a `ReadBack`, and a `Compare` in the comparison
-/// after a change or restore.
+/// The steps of a job. A job may omit a step, and the order varies. A read of a sector is a `Scan` until the change is
+/// announced, then a `ReadBack`, and a `Compare` in the comparison after a change or restore.
 #[derive(Clone, Copy, PartialEq)]
 pub enum Step {
     Identify,
@@ -31,8 +28,7 @@ pub enum Phase {
     After,
 }
 
-/// Returns the step to which a transaction belongs. Returns `None` for any other opcode, such as a poll, a write
-/// enable, or a read of the SFDP, of status 2 or of the unique ID.
+/// Returns the step to which a transaction belongs, or `None` if it belongs to none, such as a poll or a write enable.
 pub fn step_of(out: &[u8], phase: Phase) -> Option<Step> {
     match out {
         [0x9F, ..] => Some(Step::Identify),
@@ -49,8 +45,8 @@ pub fn step_of(out: &[u8], phase: Phase) -> Option<Step> {
 }
 
 impl Step {
-    /// Returns the number of transactions of this step from one line of `Look::Plain` to the next. Erases have more
-    /// lines than other steps, because one erase can take seconds (64 KiB: up to 2 seconds, W25Q64FV datasheet).
+    /// Returns the number of transactions of this step from one line of `Look::Plain` to the next. It is smaller for
+    /// erases, because one erase can take seconds (64 KiB: up to 2 seconds, W25Q64FV datasheet).
     pub fn stride(self) -> u64
         ensures { 1 ≤ result }
     {
@@ -82,7 +78,6 @@ impl Step {
         }
     }
 
-    /// Returns whether the step only reads.
     pub fn is_reading(self) -> bool {
         !matches!(self, Step::Erase | Step::Program | Step::Protect)
     }
@@ -94,8 +89,7 @@ impl Step {
     }
 }
 
-/// The number of finished operations of a step, the data bytes that they transferred, and the microseconds that they
-/// took.
+/// The finished operations of a step: their number, their data bytes, and the microseconds that they took.
 #[derive(Clone, Copy, Default)]
 pub struct Tally {
     pub done: u64,
@@ -111,7 +105,7 @@ impl Tally {
     }
 }
 
-/// The number of operations of a step, as far as it is known.
+/// The number of all operations of a step, as far as it is known.
 #[derive(Clone, Copy, PartialEq)]
 pub enum Total {
     Unknown,
@@ -130,11 +124,9 @@ impl Total {
     }
 }
 
-/// The line that shows a step.
-///
-/// - While the step runs: the percentage and the rate if the number of its operations is known exactly, otherwise the
-///   number of operations so far; then the time that is left or has passed.
-/// - After its last operation: the number of operations, the rate and the duration.
+/// The line that shows a step. While the step runs, it has the percentage and the rate if the number of operations is
+/// known exactly, otherwise the number so far, and also the time that is left or has passed. Afterwards it has the
+/// number of operations, the rate and the duration.
 #[derive(Clone, Copy, Drop)]
 pub struct StepLine {
     pub step: Step,
@@ -143,7 +135,6 @@ pub struct StepLine {
 }
 
 impl StepLine {
-    /// Returns whether the number of operations of the step is known exactly, and all of them are finished.
     pub fn is_complete(&self) -> bool {
         self.total == Total::Exactly(self.tally.done)
     }

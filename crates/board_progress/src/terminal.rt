@@ -12,9 +12,8 @@ use std::os::unix::fs::FileTypeExt;
 use std::time::Instant;
 use std::{env, fmt, fs};
 
-// The greatest width of the progress line, for a terminal with 40 or more columns. A line that is wrapped can't be
-// rewritten, and std can't return the number of columns. The last column stays free, because some terminals wrap a line
-// that fills it.
+// The greatest width of the progress line, for a terminal of 40 or more columns. The last column stays free, because
+// some terminals wrap a line that fills it, and a wrapped line can't be rewritten.
 const COLUMNS: usize = 39;
 
 // Erases from the cursor to the end of the line (ECMA-48, EL).
@@ -54,7 +53,7 @@ pub struct Transfer {
 }
 
 impl Screen {
-    /// Returns a screen that shows no progress line yet, and whose log has no file.
+    /// Returns a screen without a progress line and without a file for the log.
     pub fn new() -> Screen {
         Screen {
             known: Cell::new(Known {
@@ -68,7 +67,6 @@ impl Screen {
         }
     }
 
-    /// Returns the log of the run.
     pub fn log(&self) -> &RunLog {
         &self.log
     }
@@ -77,7 +75,6 @@ impl Screen {
 /// How the progress is shown.
 #[derive(Clone, Copy, PartialEq)]
 pub enum Look {
-    /// Nothing is shown.
     Hidden,
     /// Lines below each other.
     Plain,
@@ -99,9 +96,8 @@ pub struct Terminal<'a> {
 }
 
 impl<'a> Terminal<'a> {
-    /// Returns the terminal at standard error. If `mode` is `Auto`, it shows one line on a terminal, several lines on
-    /// another character device, and at most one line per minute on anything else. The modes `Plain` and `Hidden` don't
-    /// depend on standard error. If `is_verbose` is true, the lines of `-V` are printed in any mode.
+    /// Returns the terminal at standard error. In the mode `Auto`, it shows one line on a terminal, several lines on
+    /// another character device, and otherwise at most one line per minute. `is_verbose` is true with `-V`.
     pub fn new(
         rt: &'a HostRuntime,
         screen: &'a Screen,
@@ -125,17 +121,14 @@ impl<'a> Terminal<'a> {
         }
     }
 
-    /// Returns the runtime.
     pub fn rt(&self) -> &'a HostRuntime {
         self.rt
     }
 
-    /// Returns the log of the run.
     pub fn log(&self) -> &'a RunLog {
         self.screen.log()
     }
 
-    /// Returns how the progress is shown.
     pub fn look(&self) -> Look {
         self.look
     }
@@ -150,8 +143,7 @@ impl<'a> Terminal<'a> {
         Instant::now(self.rt).ok()
     }
 
-    /// Returns the numbers of touched sectors and erases that were announced last, or `None` if no change was
-    /// announced.
+    /// Returns the last announcement of `print_session` or `print_restore`, or `None` if there was none.
     pub fn announced(&self) -> Option<Announcement> {
         self.screen.known.get().announced
     }
@@ -165,12 +157,10 @@ impl<'a> Terminal<'a> {
         });
     }
 
-    /// Returns whether this run created the journal of a session.
     pub fn has_journal(&self) -> bool {
         self.screen.known.get().has_journal
     }
 
-    /// Records how many bytes were read so far, and in which time.
     pub fn record_reads(&self, read: Transfer) {
         let known = self.screen.known.get();
         self.screen.known.set(Known { read, ..known });
@@ -192,7 +182,7 @@ impl<'a> Terminal<'a> {
         self.set_row(Row::Empty);
     }
 
-    /// Ends the progress line with a newline. Clears the line of `print_waiting`. Does nothing if neither is shown.
+    /// Ends the progress line with a newline, or clears the line of `print_waiting`, if one of these lines is shown.
     pub fn end_line(&self) {
         match self.screen.known.get().row {
             Row::Empty => {}
@@ -204,8 +194,8 @@ impl<'a> Terminal<'a> {
         }
     }
 
-    /// Writes the line of a modifying transaction to the log (`-o`) and, with `-V`, to standard error, before the
-    /// transaction is passed on. The bus inside may refuse the transaction, or send it only with the next poll.
+    /// Writes the line of a modifying transaction to the log (`-o`) and, with `-V`, to standard error. Must be called
+    /// before the transaction is passed on.
     pub fn log_command(&self, out: &[u8]) {
         if self.is_logging()
             && let Some(name) = command_name(out)
@@ -223,7 +213,7 @@ impl<'a> Terminal<'a> {
         }
     }
 
-    /// Writes the line that says that the bus stopped to the log (`-o`) and, with `-V`, to standard error.
+    /// Writes the line for a stop of the bus to the log (`-o`) and, with `-V`, to standard error.
     pub fn log_stop(&self) {
         if self.is_logging() {
             let micros = self.elapsed();
@@ -284,9 +274,8 @@ impl<'a> Terminal<'a> {
         self.log().write_line(text);
     }
 
-    /// Writes to the log that the run waits for its programmer. The first time, also shows it: with `Look::Plain` as a
-    /// line, and with `Look::Line` until the next output. The line matters because a read from a port that isn't set up
-    /// may wait forever, and std has no call that ends it.
+    /// Logs that the run waits for its programmer, because a read from a port that isn't set up may wait forever. The
+    /// first time, also shows the line: with `Look::Plain` for good, and with `Look::Line` until the next output.
     pub fn print_waiting(&self) {
         self.log().write_line(&WAITING);
         let known = self.screen.known.get();
@@ -319,13 +308,13 @@ impl<'a> Terminal<'a> {
         self.log().write_line(text);
     }
 
-    /// Prints and logs what a session will change, the length of its journal, and the estimated time of the change.
+    /// Shows what a session will change and its journal's length (`print`), and the time of a change (`print_time`).
     pub fn print_session(&self, announcement: Announcement) {
         self.print(&SessionText(announcement));
         self.announce(announcement);
     }
 
-    /// Prints and logs what a restore will change, and the estimated time of the change.
+    /// Shows what a restore will change (`print`), and the estimated time of a change (`print_time`).
     pub fn print_restore(&self, announcement: Announcement) {
         self.print(&RestoreText(announcement));
         self.announce(announcement);

@@ -1,5 +1,4 @@
--- Lemmas on the files after the log of a run was created: except for the log, they are as before the files of the job
--- were read.
+-- Lemmas: after the log of a run was created, all other files are as before the files of the job were read.
 use Rattle.std.proofs.Common.{◌∙◌, None, Option, Some, ap}
 use Rattle.std.specs.Borrow.{Bor}
 use Rattle.nor_files.specs.Files.{AreUntouched, FilesState, View}

@@ -32,13 +32,12 @@ pub is_used : (P : Connected → Type 0) (used : Option Connected) → is_some u
 is_used P None none holds = absurd (false≢true none)
 is_used P (Some connected) some holds = holds
 
--- A result that is an error says nothing about a value. (In a goal about a whole bus, the search doesn't find this.)
+-- If `result` is an error, `IfOk result P` holds. (In a goal about a whole bus, the search doesn't find this.)
 pub none_ok : {T E : Type 0} (P : T → Type 0) (Q : E → Type 0) (result : Result T E) → IsErrAnd result Q
     → IfOk result P
 none_ok P Q (Ok value) failed = absurd failed
 none_ok P Q (Err error) failed = tt
 
--- A run that returns 1 has not succeeded.
 pub never_zero : {T E : Type 0} (P : T → Type 0) (given : Result T E) (status : ℕ) → status ≡ 1
     → IfOk given (λ value. status ≡ 0 → P value)
 never_zero P (Ok value) status one = λ zero. absurd (omega (arith, one, zero))
@@ -54,9 +53,7 @@ pub few_after : (operation : Operation) (files : List RegionFile) (ranges : Opti
 few_after operation files ranges bytes before after old new out out' status None run = run.few
 few_after operation files ranges bytes before after old new out out' status (Some srp0) run = run.0.few
 
--- If `words` are the arguments in `given`, then what holds for the success of a run with `words` holds for the success
--- of a run with `given`. (The proof uses `subst`, because `rw` would unfold what arguments may ask for, which has too
--- many cases.)
+-- If `given` is `Ok args` and `words` are the arguments in `args`, `HasSucceeded` for `words` also holds for `given`.
 pub succeeded_given : {E : Type 0} (state : Connected → BusState) (files after : FilesState) (words : List Text)
     (given : Result (IntoIter (String Global) Global) E) (args : IntoIter (String Global) Global)
     (used : Option Connected) (out out' : Option (List ℕ)) (status : ℕ) → given ≡ Ok args → words ≡ arguments_of args
@@ -67,7 +64,6 @@ succeeded_given {E = E} state files after words given args used out out' status 
     → HasSucceeded state files after (arguments_of args) used out out')) (sym is)
     (λ zero. subst (λ (words : List Text). HasSucceeded state files after words used out out') same (succeeded zero))
 
--- The same for what holds after a run, whether it succeeds or not.
 pub ran_given : {E : Type 0} (state : Connected → BusState) (files after : FilesState) (words : List Text)
     (given : Result (IntoIter (String Global) Global) E) (args : IntoIter (String Global) Global)
     (used : Option Connected) (out out' : Option (List ℕ)) (status : ℕ) → given ≡ Ok args → words ≡ arguments_of args

@@ -13,7 +13,6 @@ use Rattle.nor_buses.specs.Watched.{watched_by}
 use Rattle.flashnor_serprog.specs.Ports.{asked_over}
 use Rattle.flashnor_serprog.specs.declared.board_bus.BoardBus.{BoardBus}
 
--- the image that the bus expects, if any: data that equals this image is read once, all other data twice (`EndsTwice`)
 abbrev pub expected_in : BoardBus → Option (List ℕ)
 expected_in bus = option_map (λ image. image.items)
     (expected_of (known_by (kept_by (adapted_by (checked_by bus.layers)))))

@@ -29,12 +29,10 @@ abbrev pub form_on_chip : Option Regions → Option LayoutForm
 form_on_chip None = None
 form_on_chip (Some regions) = form_of_shown regions regions.layout
 
--- the first 4 KiB of the chip, where the flash descriptor is
 abbrev pub descriptor_span : Span
 descriptor_span = record { first = 0; last = 4095 }
 
--- Holds if `ranges` are what is read to find a layout of this form: the first 4 KiB for a flash descriptor, the whole
--- chip (`None`) for an FMAP.
+-- Holds if `ranges` are read for a layout of this form: 4 KiB for a flash descriptor, the chip (`None`) for an FMAP.
 abbrev pub AreReadFor : LayoutForm → (ranges : Option (List Span)) → Type 0
 AreReadFor form.Descriptor None = ⊥
 AreReadFor form.Descriptor (Some spans) = IsSetOf (descriptor_span ∷ []) spans
@@ -77,8 +75,7 @@ pub record IsReadFirst (state : Connected → BusState) (device : Text) (named :
   pub read : HasReadLayout named layout (state start) last bytes
   pub sends : KeepsSent (state start) last
 
--- Holds if `shown` is `None` because the layout isn't on the chip, or if `shown` are the bytes that were read from the
--- chip for a layout of this form.
+-- Holds if `shown` is `None` because the layout isn't on the chip, or if `shown` are the bytes that were read for it.
 abbrev pub IsShown : (state : Connected → BusState) → (device : Text) → Option ChipName → Option LayoutForm
     → (shown : Option (List ℕ)) → Type 0
 IsShown state device named None shown = shown ≡ None

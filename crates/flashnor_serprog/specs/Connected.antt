@@ -9,7 +9,7 @@ use Rattle.flashnor_serprog.specs.declared.connect.Connected.{Connected}
 abbrev pub device_of : Connected → Text
 device_of connected = string_bytes connected.device
 
--- the image that the bus expects, if any: data that equals this image is read once, all other data twice (`EndsTwice`)
+-- The image that the bus expects, if any. Data that equals this image is read once, all other data twice (`EndsTwice`).
 abbrev pub expected_by : Connected → Option (List ℕ)
 expected_by connected = expected_in (ahead_of (shown_bus connected.bus))
 

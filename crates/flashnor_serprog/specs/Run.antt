@@ -52,8 +52,8 @@ IsAskedByArguments words asked.List = IsHardwareJob program words hardware.List
 IsAskedByArguments words (asked.Description file image) = IsHardwareJob program words (hardware.CheckJournal file image)
 IsAskedByArguments words (asked.Chip setting operation) = IsAskedFor words setting.device operation
 
--- Holds if a job was prepared before the programmer is used for it: no file has two roles, and the ranges and bytes of
--- the job were read. `files` are the regions with a file of their own. `shown` are the bytes of a layout on the chip.
+-- Holds if no file of the operation has two roles, `ranges` are its included addresses, `bytes` are the bytes that its
+-- job uses, and `files` are its regions with a file.
 pub record IsPrepared (state : Connected → BusState) (view : View) (device : Bor Text) (operation : Operation)
     (files : List RegionFile) (ranges : Option (List Span)) (bytes : List ℕ) : Type 0 where
   pub shown : Option (List ℕ)
@@ -110,8 +110,7 @@ abbrev pub IsHelpAskedBy : List Text → Trouble → Type 0
 IsHelpAskedBy words ended = AsksForHelp ended → ArgumentsAskForHelp words
 
 -- Holds if an operation was run on a new bus to the device `name`. The state of the bus was first that of `start` and
--- then `last`. `made` are the files after the log was created. The bus expects only an image that `MayExpectImage`
--- allows.
+-- then `last`. `made` are the files after the log was created.
 pub record HasRunOperation (state : Connected → BusState) (files after : FilesState) (name : Bor Text)
     (operation : Operation) (device : Text) (last : BusState) (out out' : Option (List ℕ)) (status : ℕ)
     : Type 0 where
@@ -142,7 +141,7 @@ pub record HasChecked (before after : View) (words : List Text) : Type 0 where
   pub asked : IsHardwareJob program words (hardware.CheckJournal file image)
   pub described : HasDescribed before file.now after image
 
--- Holds in each case in which a run may end with exit status 0. The help, the version or the list was requested,
+-- Holds in each case in which a run may end with exit status 0: the help, the version or the list was requested,
 -- `--check-journal` found a sealed and undamaged journal, or a job ended with status 0 on the bus `used`.
 abbrev pub HasSucceeded : (state : Connected → BusState) → (files after : FilesState) → List Text
     → (used : Option Connected) → (out out' : Option (List ℕ)) → Type 0

@@ -37,7 +37,7 @@ is_wrong settings setting = not (is_serprog_setting setting) || not (is_alone_in
 abbrev pub first_wrong : List Text → Option Text
 first_wrong settings = find (is_wrong settings) settings
 
--- true if the key is `ip`, which names a programmer in the network in flashrom
+-- True if the key is `ip`, which names a programmer in the network in flashrom.
 abbrev pub names_network : Text → Bool
 names_network = has_key (codes "ip")
 
@@ -55,8 +55,7 @@ pub record IsDeviceOf (text device : Text) : Type 0 where
   pub begins : names_serprog text ≡ true
   pub named : device_in (serprog_settings text) ≡ Some device
 
--- Holds if the value of `-p` is `text`, and describes this programmer: no setting is wrong, and the device doesn't end
--- with a colon and a number.
+-- Holds if `text`, the value of `-p`, describes this programmer.
 pub record IsSetting (text : Text) (setting : Setting) : Type 0 where
   pub device : IsDeviceOf text setting.device.now
   pub sound : first_wrong (serprog_settings text) ≡ None
@@ -75,8 +74,7 @@ IsWrongBy setting (Flawed given flaw) = (names_network setting ≡ false) × (gi
     × (flaw ≡ flaw_by (has_serprog_key setting) (is_serprog_setting setting))
 IsWrongBy setting _ = ⊥
 
--- Holds if this is the reason why `text`, the value of `-p`, describes no programmer. `NoDevice` and `BaudRate` are
--- possible only if no setting is wrong.
+-- Holds if this is the reason why `text`, the value of `-p`, describes no programmer.
 abbrev pub IsWrongSetting : Text → WrongSetting → Type 0
 IsWrongSetting text NoPrefix = names_serprog text ≡ false
 IsWrongSetting text Network = (setting : Text) × HasFirstWrong text setting × IsWrongBy setting Network

@@ -11,23 +11,19 @@ use std::alloc::Global;
 /// The job that the arguments ask for.
 #[derive(Drop)]
 pub enum Asked<'a> {
-    /// The list of chips.
     List,
-    /// A description of the journal in the file `file`. If `image` is given, the image in this journal is also written
-    /// to the file `image`.
+    /// A description of the journal in `file`. The image in this backup is also written to `image`, if given.
     Description {
         file: &'a str,
         image: Option<&'a str>,
     },
-    /// An operation on the chip of a programmer.
     Chip {
         setting: Setting<'a>,
         operation: Operation<'a>,
     },
 }
 
-/// Returns what the arguments ask for, or their first fault. `names` receives the values of all `-i`, with commas
-/// between them.
+/// Returns the job that the arguments ask for, or the first fault. `names` receives all values of `-i`, with commas.
 pub fn read_words<'a>(
     alloc: Global,
     words: &'a [String],

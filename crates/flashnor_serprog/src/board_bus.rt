@@ -16,8 +16,7 @@ use nor_buses::{
 use nor_model::{Bus, Stopped};
 use nor_serprog::{AnyProgrammer, BatchingBus, Failure, Link};
 
-/// The bus to the chip at a serial programmer. ARCHITECTURE describes its layers and their order. In contracts, its
-/// state is that of its outermost layer.
+/// The bus to the chip at a serial programmer. ARCHITECTURE describes its layers and their order.
 #[derive(Drop)]
 pub struct BoardBus<'a> {
     layers: Layers<'a>,
@@ -26,17 +25,13 @@ pub struct BoardBus<'a> {
 /// The layers of a `BoardBus`. The outermost one compares the unique ID.
 pub type Layers<'a> = SameChip<Makers<'a>>;
 
-// The layers that hide differences between the makers' chips.
 type Makers<'a> = OtherMakers<KeptQuad<KnownStatus2<Twice<'a>>>>;
 
-// The layers that read IDs, SFDP and data twice, and check the status registers.
 type Twice<'a> = ReadTwice<CheckedStatus<Parts<'a>>>;
 
-// The layers that split commands, notice a lost chip, pace polls, and send commands together.
 type Parts<'a> = SplittingBus<Watched<Paced<BatchingBus<DevicePort>, &'a HostRuntime>>>;
 
-// The IDs of the chips that have a row in nor_probe. These chips return status 2 for 35h (their datasheets, Read Status
-// Register-2).
+// The IDs of the chips with a row in nor_probe, which return status 2 for 35h (datasheets, Read Status Register-2).
 const WITH_ROW: [[u8; 3]; 9] = [
     [0xEF, 0x40, 0x16],
     [0xEF, 0x40, 0x17],
@@ -54,9 +49,7 @@ const WITH_ROW: [[u8; 3]; 9] = [
 pub struct Causes<'a> {
     /// The two unique IDs, if the chip was another one before the first modifying command.
     pub other: Option<OtherChip>,
-    /// The reason why a transaction failed, if one did.
     pub failure: Option<&'a Failure<PortFault>>,
-    /// The fault that the layer `CheckedStatus` found, if any.
     pub status: Option<CheckFault>,
     /// True if the chip lost its contact or its supply while the job waited for it.
     pub is_lost: bool,
@@ -65,11 +58,9 @@ pub struct Causes<'a> {
 }
 
 impl<'a> BoardBus<'a> {
-    /// Returns a bus to the chip at the programmer of `link`. It has carried out no transaction yet.
-    ///
-    /// If `image` is given, data that equals `image` at the same address is read once, and all other data twice.
-    /// `image` must be that of `-v` or of a write whose result is compared. Data that was read only once must not get
-    /// into a journal.
+    /// Returns an unused bus to the chip at the programmer of `link`. Data that equals `image` at the same address is
+    /// read once, all other data twice. `image` must be that of `-v` or of a write whose result is compared, because
+    /// data that was read only once must not get into a journal.
     pub fn new(
         rt: &'a HostRuntime,
         link: Link<DevicePort>,
@@ -109,7 +100,6 @@ impl<'a> BoardBus<'a> {
         self.checked().changed_byte()
     }
 
-    /// Returns what the layers found out about a transaction that returned `Stopped`.
     pub fn causes(&self) -> Causes<'_> {
         let watched = self.checked().inner().inner();
         Causes {
@@ -148,7 +138,6 @@ impl<'a> Bus for BoardBus<'a> {
     }
 }
 
-// Returns a bus over `bus` that checks the status registers.
 fn checking<B: Bus + Drop>(bus: B, checks: Checks) -> CheckedStatus<B>
     ensures bus { bus_of result ≡ bus }
     ensures history { checked_history result ≡ [] }
@@ -160,8 +149,6 @@ fn checking<B: Bus + Drop>(bus: B, checks: Checks) -> CheckedStatus<B>
     }
 }
 
-// Returns a bus over `bus` that reads data twice. If `image` is given, data that equals `image` at the same address is
-// read only once.
 fn reading_twice<B: Bus + Drop>(bus: B, image: Option<Vec<u8>>) -> ReadTwice<B>
     ensures bus { twice_of result ≡ bus }
     ensures history { history_of result ≡ [] }

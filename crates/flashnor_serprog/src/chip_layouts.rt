@@ -30,13 +30,10 @@ const DESCRIPTOR: Span = Span {
 
 const READING: &str = "Reading the layout from the chip.";
 
-/// If the layout of the task is on the chip, returns a copy of the part of the chip that contains it. This is the first
-/// 4 KiB for a flash descriptor (FFh elsewhere), and the whole chip for an FMAP. Reads it over a connection of its own,
-/// which is then closed. If the layout isn't on the chip, returns `None` and uses no programmer.
-///
-/// No modifying command is sent, and all data is read twice. Returns the faults of `connect_by`. Any other fault is one
-/// of the chip, of the bus, or of a port that seems to change bytes. It is printed with its cause, and returned as
-/// `Trouble::Printed`.
+/// Returns a copy of the part of the chip that contains the task's layout: the first 4 KiB for a flash descriptor (FFh
+/// elsewhere), the whole chip for an FMAP. Returns `None` and uses no programmer if the layout isn't on the chip. Sends
+/// no modifying command, and reads all data twice. Returns the faults of `connect_by`. Any other fault is printed with
+/// its cause, and returned as `Trouble::Printed`.
 pub fn read_shown<'a, 'b, E: Write>(
     rt: &'b HostRuntime,
     terminal: Terminal<'b>,

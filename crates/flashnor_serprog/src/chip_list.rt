@@ -3,8 +3,7 @@
 use std::io;
 use std::io::Write;
 
-// The name, the ID, the size and the supply of each chip. The lines below it list the other names that `-c` accepts for
-// chips with this ID. Source: Winbond datasheets of these chips, operating ranges.
+// The name, the ID, the size and the supply of each chip, and other names that `-c` accepts (Winbond datasheets).
 const CHIPS: &str = "\
 W25Q32FV    ef4016   4 MiB  2.7 to 3.6 V
     or W25Q32BV, W25Q32CV, W25Q32DV, W25Q32JV, W25Q32JV-Q, W25Q32.V
@@ -27,7 +26,6 @@ W25Q128JV-M ef7018  16 MiB  2.7 to 3.6 V
 SFDP        any other chip whose SFDP offers erases of 4 KiB, from 64 KiB to 16 MiB
 ";
 
-/// Prints the list of chips.
 pub fn print_chip_list<O: Write>(output: &mut O) -> io::Result<()> {
     output.write_all(CHIPS.as_bytes())?;
     output.flush()

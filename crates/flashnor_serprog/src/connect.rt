@@ -116,19 +116,14 @@ impl From<ProgrammerFault> for Unconnected {
     }
 }
 
-// Opens and locks the device, and identifies the programmer. Sets its clock if `spispeed=` is given, and its chip
-// select if `cs=` is given. Then wakes the chip; if the chip doesn't answer, looks for it (`look_for_chip`). Makes
-// trial reads (`try_reads`), and no other transaction. Before the first exchange, logs and shows what to do if no reply
-// ever arrives.
+// Opens and locks the device, and identifies the programmer. Sets its clock if `hertz` is given, and its chip select if
+// `chip_select` is given. Wakes the chip, makes trial reads (`try_reads`), and looks for the chip after either of them
+// (`expect_chip`). Before the first exchange, logs and shows what to do if no reply ever arrives.
 //
 // Returns a programmer fault from 1 to 12, 14 or 15 if a step fails, or an error of `expect_chip`.
 //
-// The returned bus has carried out no transaction yet, and belongs to this device. The contract says nothing about the
-// frames that were sent before the bus existed.
-//
-// If `image` is given, data that equals `image` at the same address is read once, and all other data twice. `image`
-// must be that of `-v` or of a write whose result is compared. Data that was read only once must not get into a
-// journal.
+// The returned bus has carried out no transaction yet, and belongs to this device. Until then the port was asked for
+// nothing that modifies a chip (`harmless`). `image` is that of `BoardBus::new`.
 fn connect<'a>(
     rt: &'a HostRuntime,
     terminal: Terminal<'a>,
@@ -156,7 +151,7 @@ fn connect<'a>(
     let woken = wake(&mut link, &programmer)?;
     expect_chip(rt, &mut link, &woken)?;
     try_reads(&mut link, &programmer)?;
-    // If the contact was lost since the chip woke, the first poll of the job would wait for a chip that isn't there.
+    // If the contact was lost since the chip woke, the job's first poll would wait for a chip that isn't there.
     expect_chip(rt, &mut link, &[])?;
     let longest_read = programmer.longest_read();
     let board = BoardBus::new(rt, link, programmer, image, rules);

@@ -1,4 +1,4 @@
-//! Finds out within two seconds whether a chip answers, and frees a chip that was left in QPI mode.
+//! Finds out whether a chip replies, and frees a chip that was left in QPI mode.
 
 ghost use Rattle.std.specs.Prelude.{◌≡◌, false};
 ghost use Rattle.nor_model.specs.Command.{begins_change};
@@ -10,19 +10,17 @@ use nor_serprog::{Command, Failure, Link};
 use std::thread;
 use std::time::Duration;
 
-// The value of a received byte if no chip drives the line and a pull-up holds it high.
+// The byte that is received if no chip drives the line, and a pull-up holds it high.
 const IDLE: u8 = 0xFF;
 
-// A chip that doesn't answer is asked `TIMES` times before it counts as missing, with a pause of `PAUSE` milliseconds
-// after each time.
+// A chip that doesn't reply is asked `TIMES` times, with a pause of `PAUSE` milliseconds after each time.
 const TIMES: u32 = 10;
 
 const PAUSE: u64 = 150;
 
-// The first bytes of an SFDP.
 const SIGNATURE: [u8; 4] = [b'S', b'F', b'D', b'P'];
 
-/// The device that replies at the programmer before the first transaction of a job.
+/// What replies at the programmer before a job.
 #[derive(Clone, Copy)]
 pub enum Contact {
     /// A chip, which may be busy.
@@ -33,23 +31,20 @@ pub enum Contact {
     NoStatus,
 }
 
-/// Returns what answers to 9Fh (Read ID) and to 05h (Read Status Register-1). If only FFh is received for 1.5 seconds,
-/// first sends what may free a chip from another mode (`leave_modes`).
+/// Returns what replies to 9Fh (Read ID) and 05h (Read Status Register-1). `heard` is an earlier reply: if it has a
+/// byte other than FFh, a chip is present, and nothing is sent. If only FFh is received for 1.5 seconds, first sends
+/// what may free a chip from another mode (`leave_modes`).
 ///
-/// A busy chip shows BUSY in status 1 (W25Q64FV datasheet, Status Registers). It is present, unless all other bits of
-/// its status 1 are set too, and it stays busy for 1.5 seconds: then it can't be distinguished from a missing chip. A
-/// device that replies to a read of its ID, but whose status 1 is FFh for 1.5 seconds, is present if it has SFDP.
-///
-/// `woken` is the reply to the transaction that wakes the chip. If it has another byte than FFh, a chip is present, and
-/// nothing is sent.
+/// A device whose status 1 is FFh for 1.5 seconds, but that returns an ID, is present if it has SFDP. A busy chip
+/// whose status 1 is FFh for that time can't be distinguished from a missing one.
 pub fn look_for_chip(
     rt: &HostRuntime,
     link: &mut Link<DevicePort>,
-    woken: &[u8],
+    heard: &[u8],
 ) -> Result<Contact, Failure<PortFault>>
     ensures harmless { StaysHarmless (asked_over link.old) (asked_over link.new) }
 {
-    if !is_idle(woken) {
+    if !is_idle(heard) {
         return Ok(Contact::Present);
     }
     let mut has_id = false;
@@ -73,26 +68,19 @@ pub fn look_for_chip(
     }
 }
 
-/// Sends FFh and then FFh FFh, each as one transaction, to a chip that seems to be missing. The facts below are from
-/// memory of the datasheets (instruction sets).
+/// Sends FFh and then FFh FFh, each as one transaction, to a chip that seems to be missing. (The facts are from memory
+/// of the datasheets, instruction sets.)
 ///
-/// In QPI mode a chip receives each byte over four lines in two clocks. Three of these lines are high: WP#, HOLD#, and
-/// the line for the chip's replies, which a pull-up holds (it reads as FFh). FFh keeps the fourth line high, so the
-/// chip receives FFh. This makes chips of Winbond, GigaDevice, Eon and Microchip leave QPI mode. In a continuous read
-/// with two or four lines, a chip receives an address and then mode bits. The ones of FFh FFh are mode bits that end
-/// the read.
+/// In QPI mode a chip receives each byte over four lines in two clocks. WP#, HOLD# and the line for replies are high,
+/// so FFh on the fourth line is FFh for the chip. Chips of Winbond, GigaDevice, Eon and Microchip then leave QPI mode.
+/// In a continuous read over two or four lines, the ones of FFh FFh are mode bits that end the read.
 ///
-/// Chips of Macronix, ISSI and Micron leave QPI mode after F5h, and other chips after 66h and 99h. None of these bytes
-/// is ever sent. In QPI mode they need WP# or HOLD# to be low, so they can't be sent over one line. Besides, a busy
-/// chip whose status 1 has all bits set seems to be missing too, and 66h and 99h would interrupt its erase.
+/// Other opcodes that leave QPI mode (F5h, 66h with 99h) are not sent: in QPI mode they need WP# or HOLD# to be low,
+/// and 66h with 99h would interrupt the erase of a busy chip.
 ///
-/// FFh changes no contents of a chip that receives it over one line:
-///
-/// - Winbond, GigaDevice, Puya, XMC, Boya, Adesto, Spansion, Macronix: FFh ends a continuous read.
-/// - Eon, Microchip: FFh ends quad mode.
-/// - ISSI, Micron: FFh ends a continuous read or is no instruction.
-/// - A busy chip ignores everything except reads of its status, suspends, and resets by 66h and 99h.
-/// - SPI NAND: FFh is a reset. No operation takes longer than 10 ms, so after 1.5 seconds none is interrupted.
+/// A chip that receives FFh over one line ends a continuous read or quad mode, or ignores FFh. A SPI NAND resets
+/// itself, which interrupts nothing, because its operations take at most 10 ms and it was asked for 1.5 seconds
+/// before.
 fn leave_modes(link: &mut Link<DevicePort>) -> Result<(), Failure<PortFault>>
     ensures harmless { StaysHarmless (asked_over link.old) (asked_over link.new) }
 {

@@ -33,8 +33,7 @@ fn main(rt: HostRuntime) -> ExitCode {
     ExitCode::from(run_logged(&rt, &screen, streams.is_ok()))
 }
 
-// Runs the program with a log of what it prints. If descriptors 0, 1 and 2 could not be kept open (`has_descriptors` is
-// false), opens no file and prints a fault.
+// Runs the program with a log of what it prints. Without descriptors 0, 1 and 2, opens no file and prints a fault.
 fn run_logged<'b>(rt: &'b HostRuntime, screen: &'b Screen, has_descriptors: bool) -> u8 {
     let mut output = Logged::new(by_line(rt.alloc(), rt.stdout()), screen.log());
     let mut errors = Logged::new(by_line(rt.alloc(), rt.stderr()), screen.log());

@@ -14,7 +14,6 @@ use std::{fmt, io};
 pub enum PortFault {
     /// A read returned no byte within the time that was set with `stty`.
     Silent,
-    /// The system returned an error.
     System(io::Error),
 }
 
@@ -27,8 +26,7 @@ impl fmt::Display for PortFault {
     }
 }
 
-/// A port over the device of a programmer. Its contract assumes nothing about the device, and records the bytes that
-/// are sent and received.
+/// A port over the device of a programmer. Its contract assumes nothing about the device.
 #[derive(Drop)]
 pub struct DevicePort {
     file: File,

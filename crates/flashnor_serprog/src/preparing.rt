@@ -39,9 +39,8 @@ pub struct Prepared<'a, 'b> {
     pub connected: Connected<'b>,
 }
 
-/// Prepares the operation, and returns the first fault. `names` must be the names of the regions without files
-/// (`plain_names`). Checks and reads the files (`read_files`), and starts the log. Then prints what `--replaced-chip`
-/// does, and identifies the programmer for the job.
+/// Prepares the operation, and returns the first fault. Checks and reads the files (`read_files`), starts the log, and
+/// identifies the programmer for the job. `names` must be the names of the regions without files (`plain_names`).
 #[tactic(auto, using(crate::proofs::LogMade::log_steps))]
 pub fn prepare<'a, 'b, R: Store<Log = LogFile<File>>, E: Write>(
     rt: &'b HostRuntime,
@@ -83,7 +82,6 @@ pub fn prepare<'a, 'b, R: Store<Log = LogFile<File>>, E: Write>(
     })
 }
 
-// The contents of an operation's files, as `Prepared` has them.
 #[derive(Drop)]
 struct JobFiles<'a> {
     regions: Vec<RegionFile<'a>>,
@@ -91,11 +89,8 @@ struct JobFiles<'a> {
     sources: Sources,
 }
 
-// Checks and reads the files of the operation, and returns the first fault. The steps:
-//
-// 1. Check that no file has two roles, that the log may be overwritten, and that the file of a backup is new.
-// 2. If the layout is on the chip, check the image or the journal, and then read the layout (`read_shown`).
-// 3. Find the included addresses, check the files of regions, and read and check the image or the journal.
+// Checks and reads the files of the operation, and returns the first fault. The roles of the files, the log, the file
+// of a backup, and the image or the journal are checked before a layout is read from the chip (`read_shown`).
 fn read_files<'a, 'b, R: Store<Log = LogFile<File>>, E: Write>(
     rt: &'b HostRuntime,
     terminal: Terminal<'b>,
@@ -141,11 +136,9 @@ fn checks_for(operation: &Operation<'_>) -> Checks {
     }
 }
 
-// Returns the rules of the bus for this operation. `bytes` has the journal, if it is a restore.
-//
-// A session and a backup make a journal. Their chip must erase sectors of 4 KiB everywhere, and have pages of at least
-// 256 bytes, because a restore needs both. They save 0 for QE if QE is bit 6 of status 1, and zeros for a missing
-// unique ID. Older versions of this program saved both as they were read, so a restore follows its journal.
+// Returns the rules of the bus for this operation. A session or a backup, which makes a journal, refuses a chip that a
+// restore can't write. A restore follows its journal in `bytes`, because older versions of this program saved QE (if it
+// is bit 6 of status 1) and a missing unique ID as they were read.
 fn rules_for(operation: &Operation<'_>, bytes: &[u8]) -> Rules {
     let reading = Rules::reading();
     let checks = checks_for(operation);
@@ -170,8 +163,7 @@ fn rules_for(operation: &Operation<'_>, bytes: &[u8]) -> Rules {
     }
 }
 
-// Returns the ID in the journal if its status 2 isn't 00h. The session then has read status 2, so the chip has the
-// opcode 35h. (For a chip that isn't known to have this opcode, 00h is saved.)
+// Returns the ID in the journal if its status 2 isn't 00h, because the session then has read status 2 with 35h.
 fn id_before(journal: &Journal<'_>) -> Option<[u8; 3]> {
     if journal.status()[1] != 0 {
         Some(journal.id())
@@ -180,8 +172,7 @@ fn id_before(journal: &Journal<'_>) -> Option<[u8; 3]> {
     }
 }
 
-// Returns the byte that replaces each byte of a missing unique ID: FFh if all bytes of this unique ID are FFh,
-// otherwise 0.
+// Returns the byte that replaces each byte of a missing unique ID: FFh if `unique` has only FFh, otherwise 0.
 fn missing_in(unique: Option<[u8; 8]>) -> u8 {
     let Some(bytes) = unique else {
         return 0;
@@ -192,12 +183,12 @@ fn missing_in(unique: Option<[u8; 8]>) -> u8 {
 // Bit 6 of status 1, which is QE on some makers' chips.
 const BIT6: u8 = 0x40;
 
-// Returns whether the log is kept: a restore appends to the log of the session that it undoes, which may be needed.
+// Returns whether an existing log is kept. A restore appends to its log, which may be that of the session to undo.
 fn keeps_log(operation: &Operation<'_>) -> bool {
     matches!(operation.task, Task::Restore { .. })
 }
 
-// Checks the image or the journal before a layout is read from the chip, because this may take minutes.
+// Checks the image or the journal before a layout is read from the chip, because that read may take minutes.
 fn try_sources<'a, R: Store>(files: &mut R, operation: &Operation<'a>) -> Result<(), Trouble<'a>>
     ensures { AreUntouched (R.state files.old) (R.state files.new) }
 {

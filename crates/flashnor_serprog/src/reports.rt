@@ -1,5 +1,4 @@
-//! The lines that a run prints after an operation failed: the line of the fault, its hint, the cause of error 12, the
-//! line for a port that changes bytes, and a note.
+//! The lines that a run prints about faults and hints, and the removal of an incomplete journal.
 ghost use Rattle.std.specs.Prelude.{◌≡◌, ◌≤◌, true};
 ghost use Rattle.board_hints.specs.declared.left.Left.TheVariants.{Unchanged};
 
@@ -31,14 +30,10 @@ pub fn print_trouble<E: Write>(errors: &mut E, trouble: &Trouble<'_>, operation:
     }
 }
 
-/// Prints the line of the fault with which a job ended, and then these lines, if there are any:
-///
-/// - the hint for the fault
-/// - after error 12 its cause, after any other fault the line for a port that changes bytes
-/// - the note of the fault
-///
-/// `saved` is what the journal of a restore says about its chip. `unwritten` is the reason why the journal or the
-/// output can't be written. `farthest` is the included region that has the greatest address.
+/// Prints the line of the fault with which a job ended, and then, if there are any: its hint, the cause of error 12 or
+/// the line for a port that changes bytes, and its note. `saved` is what the journal of a restore says about its chip.
+/// `unwritten` is the reason why the journal or the output can't be written. `farthest` is the included region that has
+/// the greatest address.
 pub fn print_job_fault<E: Write>(
     errors: &mut E,
     fault: &JobFault<'_>,
@@ -71,8 +66,8 @@ pub fn print_job_fault<E: Write>(
     }
 }
 
-/// After a session or a backup that ended with an error and didn't change the chip, removes the journal that the
-/// session created, if it isn't complete. If a file of this name is left, prints that the next run needs another name.
+/// Removes the incomplete journal of a session that returned an error and didn't change the chip. If this file is left,
+/// or that of a backup that returned an error, prints that the next run needs another name.
 pub fn clear_journal<R: Store, E: Write>(
     errors: &mut E,
     files: &R,
@@ -99,9 +94,8 @@ pub fn clear_journal<R: Store, E: Write>(
     );
 }
 
-// Removes the journal of this name if a session of this run created it and its bytes are the beginning of a journal.
-// (Another program may have put its own file in its place meanwhile.) Returns whether it was removed. A `Store` can't
-// remove a file, so this function calls the system.
+// Removes the file of this name if a session of this run created its journal there, and the file is still an incomplete
+// journal. (Another program may have replaced the file.) Returns whether the file was removed.
 fn has_removed<R: Store>(files: &R, terminal: Terminal<'_>, name: &str) -> bool {
     if !terminal.has_journal() {
         return false;
@@ -114,7 +108,7 @@ fn has_removed<R: Store>(files: &R, terminal: Terminal<'_>, name: &str) -> bool 
     }
 }
 
-// Returns whether these bytes are an incomplete journal. A journal is written from its first byte on.
+// Returns whether these bytes begin as a journal does, but are no whole journal.
 fn is_begun_journal(bytes: &[u8]) -> bool {
     let len = bytes.len().min(MAGIC.len());
     bytes[..len] == MAGIC[..len] && Journal::read(bytes).is_err()
@@ -123,8 +117,7 @@ fn is_begun_journal(bytes: &[u8]) -> bool {
 // More bytes than the longest journal has.
 const LONGEST_JOURNAL: u64 = 1 << 25;
 
-/// If the port seems to change bytes that are received, prints the line for this fault. Returns the exit status of the
-/// run: 1 if the line was printed, otherwise `status`.
+/// Prints a line and returns 1 if the port seems to change bytes that are received. Otherwise returns `status`.
 pub fn report_changed_byte<E: Write>(errors: &mut E, bus: &ChipBus<'_>, status: u8) -> u8
     ensures few { status ≤ 1 → result ≤ 1 }
     ensures failed { result ≡ 0 → status ≡ 0 }
@@ -138,11 +131,8 @@ pub fn report_changed_byte<E: Write>(errors: &mut E, bus: &ChipBus<'_>, status: 
     }
 }
 
-/// If a restore that succeeded (`status` is 0) left a board bit that isn't as in its journal, prints a line about it. A
-/// QE that is set now doesn't count, because the software of boards sets it. Returns the exit status of the run: 1 if
-/// the line was printed, otherwise `status`.
-///
-/// `saved` is what the journal of a restore says about its chip.
+/// Prints a line and returns 1 if a restore that succeeded (`status` is 0) left QE, LB1 to LB3 or the reserved bit
+/// unlike its journal. A QE that is set now doesn't count, because boards set QE. Otherwise returns `status`.
 pub fn report_kept_bits<E: Write>(
     errors: &mut E,
     bus: &ChipBus<'_>,
@@ -161,7 +151,6 @@ pub fn report_kept_bits<E: Write>(
     }
 }
 
-// Returns whether status 2 of the chip has another board bit than that of the journal, except a QE that is set now.
 fn has_lost_bits(saved: u8, found: u8) -> bool {
     let differing = (saved ^ found) & BOARD_BITS;
     differing & !(found & QE) != 0
@@ -175,7 +164,6 @@ const BOARD_BITS: u8 = 0x3E;
 const KEPT_BITS: &str =
     "All bytes and protection bits are restored, but not the status bits of the line \"Not restored\" above.";
 
-// Prints the line that follows the line of error 12: the cause, and what the job left.
 fn print_cause<E: Write>(errors: &mut E, bus: &ChipBus<'_>, left: Left<'_>) {
     let line = StopLine {
         causes: board_in(bus).causes(),
@@ -184,7 +172,6 @@ fn print_cause<E: Write>(errors: &mut E, bus: &ChipBus<'_>, left: Left<'_>) {
     let _ = writeln!(errors, "{line}");
 }
 
-// Returns the state in which a job that ended with this fault left the chip.
 fn left_after<'a>(fault: &JobFault<'_>, bus: &ChipBus<'_>, operation: &Operation<'a>) -> Left<'a> {
     if fault.follows_completion() {
         return Left::Completed;
@@ -198,8 +185,7 @@ fn left_after<'a>(fault: &JobFault<'_>, bus: &ChipBus<'_>, operation: &Operation
 }
 
 // Returns the state in which a task that failed left the chip. `begun` is true if a modifying command may have been
-// sent. `is_lifted` is true if the task may have lifted the protection of this chip (`--unlock`). After a restore the
-// chip counts as changed even if `begun` is false, because an earlier session or restore may have changed it.
+// sent. After a restore the chip counts as changed in any case, because an earlier run may have changed it.
 fn left_by<'a>(task: &Task<'a>, begun: bool, is_lifted: bool) -> Left<'a>
     ensures { begun ≡ true → result ≡ Unchanged → ⊥ }
 {

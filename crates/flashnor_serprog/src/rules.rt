@@ -1,4 +1,4 @@
-//! What the bus to a chip refuses, and how it treats a chip without a row.
+//! The rules of the bus to a chip.
 
 use board_progress::StatusWrite;
 
@@ -8,11 +8,11 @@ pub struct Rules {
     pub checks: Checks,
     /// The ID of a chip whose status 2 an earlier run read, so 35h is sent to it, too.
     pub before: Option<[u8; 3]>,
-    /// Whether bit 6 of status 1 is returned as 0 if it is QE (`KeptQuad`).
+    /// True if bit 6 of status 1 is returned as 0 when it is QE (`KeptQuad`).
     pub hides_quad: bool,
-    /// Each byte of the unique ID of a chip that has none (`OtherMakers`).
+    /// Each byte of the unique ID that is returned for a chip without one (`OtherMakers`).
     pub missing_unique: u8,
-    /// Whether a chip without sectors of 4 KiB everywhere, or with small pages, is refused (`OtherMakers`).
+    /// True if a chip without sectors of 4 KiB everywhere, or with pages below 256 bytes, is refused (`OtherMakers`).
     pub refuses_uneven: bool,
 }
 
@@ -34,17 +34,14 @@ impl Rules {
 pub enum Checks {
     /// Status writes that would change other bits than the protection bits.
     Protection,
-    /// For a session: also the first modifying command, if the port seems to change bytes that are received. A journal
-    /// of such bytes would be wrong (`CheckedStatus::guarding`).
+    /// For a session: also the first modifying command, if the port seems to change bytes (`CheckedStatus::guarding`).
     Guarded,
-    /// For `--wp-enable` and `--wp-disable`: status writes that would change any bit except SRP0, even a protection bit
-    /// (`CheckedStatus::locking`).
+    /// For `--wp-enable` and `--wp-disable`: status writes that would change any bit except SRP0.
     Lock,
 }
 
 impl Checks {
-    /// Returns whether a job with these checks may write the status. `begin_job` replaces this value for all jobs
-    /// except changes of SRP0.
+    /// Returns whether a job with these checks may write the status. `begin_job` may replace this value.
     pub fn status_write(self) -> StatusWrite {
         match self {
             Checks::Lock => StatusWrite::OnAnyChip,

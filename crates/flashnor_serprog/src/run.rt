@@ -43,15 +43,11 @@ use std::io;
 use std::io::Write;
 
 /// Performs the job given by the program's arguments, prints results to `output` and faults to `errors`, and returns
-/// the exit status. It is 1 after any fault or if a result could not be printed, otherwise 0.
+/// the exit status: 1 after any fault, if a result could not be printed, or if `report_kept_bits` printed a line,
+/// otherwise 0. Skips the first argument (the program's name), and prints an error in `given` as a fault.
 ///
-/// The first argument is the name of the program, and is skipped. If the system could not provide the arguments,
-/// `given` is an error, which is printed as a fault. The clauses assume nothing about the system's files. `run_over`,
-/// which performs the job, says more if the files obey their contract.
-///
-/// `used` must be `None`. If the programmer was identified for the job, `used` receives the bus of the job in its state
-/// after the run, and the clauses `done` and `ran` are about this bus. A layout on the chip is read before the job,
-/// over another bus.
+/// `used` must be `None`, and receives the bus of the job if `connect_by` returned one for the job. The clauses assume
+/// nothing about the system's files. The clauses of `run_over` say more if the files obey their contract.
 pub fn run_words<'b, O: Write, E: Write>(
     rt: &'b HostRuntime,
     screen: &'b Screen,
@@ -89,17 +85,15 @@ pub fn run_words<'b, O: Write, E: Write>(
     }
 }
 
-/// Ends a run that could not keep descriptors 0, 1 and 2 open. Opens no file, prints file fault 1, and returns the exit
-/// status 1.
+/// Ends a run that could not keep descriptors 0, 1 and 2 open: prints file fault 1, and returns the exit status 1.
 pub fn end_without_descriptors<E: Write>(errors: &mut E) -> u8
     ensures { result ≡ 1 }
 {
     end_badly(errors, &unread(DIRECTORY))
 }
 
-/// Performs the job given by `words`, the arguments without the program's name, over any store of files. Otherwise it
-/// is like `run_words`. If the files obey the contract of `Store` (`is_lawful`), the clauses also say what a change
-/// sent, what its journal contains, and what `--check-journal` found.
+/// Performs the job given by `words`, the arguments without the program's name, over any store of files. If the files
+/// obey the contract of `Store` (`is_lawful`), the clauses also say what a change sent and what its journal contains.
 pub fn run_over<'b, R: Store<Log = LogFile<File>>, O: Write, E: Write>(
     rt: &'b HostRuntime,
     screen: &'b Screen,
@@ -140,8 +134,7 @@ pub fn run_over<'b, R: Store<Log = LogFile<File>>, O: Write, E: Write>(
     }
 }
 
-// Performs an operation on the chip of a programmer. `names` must be the names of the operation's regions without their
-// files (`plain_names`).
+// Performs an operation on the chip of a programmer. `names` must be what `plain_names` returns for its task.
 fn run_on_chip<'a, 'b, R: Store<Log = LogFile<File>>, O: Write, E: Write>(
     rt: &'b HostRuntime,
     screen: &'b Screen,
@@ -188,8 +181,7 @@ fn run_on_chip<'a, 'b, R: Store<Log = LogFile<File>>, O: Write, E: Write>(
     }
 }
 
-// Ends a run whose arguments ask for no job. If they ask for the help or the version, prints it to `output`. Otherwise
-// prints the fault to `errors`. Returns the exit status.
+// Prints the help or the version if `trouble` requests one of them, otherwise the fault. Returns the exit status.
 fn end_early<O: Write, E: Write>(output: &mut O, errors: &mut E, trouble: &Trouble<'_>) -> u8
     ensures few { result ≤ 1 }
     ensures help { result ≡ 0 → AsksForHelp trouble.now }
@@ -201,7 +193,7 @@ fn end_early<O: Write, E: Write>(output: &mut O, errors: &mut E, trouble: &Troub
     1
 }
 
-// If the arguments ask for the help or the version, returns the parser's error, which contains its text.
+// Returns the parser's error, which contains the text to print, if `trouble` requests the help or the version.
 fn asked_text<'a>(trouble: &'a Trouble<'_>) -> Option<&'a WordsError>
     ensures { IsSome result → AsksForHelp trouble.now }
 {
@@ -214,7 +206,6 @@ fn asked_text<'a>(trouble: &'a Trouble<'_>) -> Option<&'a WordsError>
     }
 }
 
-// Performs an operation, prints its answer or its fault, and returns the exit status.
 fn run_prepared<'b, R: Store, O: Write, E: Write>(
     files: &mut R,
     bus: &mut ChipBus<'b>,
@@ -283,8 +274,7 @@ fn run_job<'b, R: Store, O: Write, E: Write>(
     }
 }
 
-/// Ends a run whose answer was printed with the exit status `printed`. Reports a port that seems to change bytes, and a
-/// line of the log that was lost. Returns the exit status.
+/// Returns the exit status `printed`, or 1 after a report of changed bytes (`report_changed_byte`) or a lost log line.
 pub fn end_run<'b, E: Write>(
     errors: &mut E,
     bus: &ChipBus<'b>,
@@ -298,8 +288,7 @@ pub fn end_run<'b, E: Write>(
     end_log(errors, bus.terminal().log(), operation.log, status)
 }
 
-/// Ends a run with the exit status `status`, unless a line of the log was lost. In that case, prints file fault 2 with
-/// the name of the log, and returns 1.
+/// Returns the exit status `status`. If a line of the log was lost, prints file fault 2 with `name`, and returns 1.
 pub fn end_log<E: Write>(errors: &mut E, log: &RunLog, name: Option<&str>, status: u8) -> u8
     ensures few { status ≤ 1 → result ≤ 1 }
     ensures failed { result ≡ 0 → status ≡ 0 }
@@ -315,8 +304,7 @@ pub fn end_log<E: Write>(errors: &mut E, log: &RunLog, name: Option<&str>, statu
     }
 }
 
-// Writes the files of the regions after a read, and prints the answer. If a file can't be written, prints the fault
-// instead. Returns the exit status.
+// Writes the files of regions after a read, and prints the answer, or the fault if a file can't be written.
 fn end_with_files<R: Store, O: Write, E: Write>(
     files: &mut R,
     operation: &Operation<'_>,
@@ -342,8 +330,7 @@ fn end_with_files<R: Store, O: Write, E: Write>(
     }
 }
 
-// Returns what the journal of a restore says about its chip. Returns `None` if the bytes are no journal, or if the task
-// is no restore.
+// Returns what the journal of a restore says about its chip. Returns `None` for another task, or without a journal.
 fn saved_by(task: &Task<'_>, sources: &Sources) -> Option<Saved> {
     match task {
         Task::Restore { .. } => Saved::read(&sources.bytes),
@@ -351,8 +338,7 @@ fn saved_by(task: &Task<'_>, sources: &Sources) -> Option<Saved> {
     }
 }
 
-// Records three facts in the bus, for the lines before the first modifying command: whether the task is a session, the
-// name of its journal's file, and whether the task may write the status.
+// Records in the bus the facts about the task for the lines that are printed before the first modifying command.
 fn mark_job<'b>(bus: &mut ChipBus<'b>, task: &Task<'_>, saved: Option<Saved>, alloc: Global)
     ensures { ⟦<ChipBus<'b> as Bus>⟧.state bus.new ≡ ⟦<ChipBus<'b> as Bus>⟧.state bus.old }
 {

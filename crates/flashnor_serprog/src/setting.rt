@@ -25,8 +25,7 @@ pub struct Setting<'a> {
 pub enum WrongSetting<'a> {
     /// The key `ip=` names a programmer in the network, which this program does not support.
     Network,
-    /// The device ends with a colon and a number: a baud rate. flashrom accepts this form; here `stty` sets the baud
-    /// rate.
+    /// The device ends with a colon and a baud rate, as flashrom accepts it. Here `stty` sets the baud rate.
     BaudRate { device: &'a str, rate: &'a str },
     /// The value doesn't begin with `serprog:`.
     NoPrefix,
@@ -38,12 +37,8 @@ pub enum WrongSetting<'a> {
 
 impl<'a> Setting<'a> {
     /// Parses the value of `-p`. A `KEY=VALUE` pair ends at the next comma, and its key at the first `=`. Returns the
-    /// first of these faults:
-    ///
-    /// - `NoPrefix`: the value doesn't begin with `serprog:`.
-    /// - For the first pair that has a flaw: `Network` if its key is `ip`, otherwise `Flawed`.
-    /// - `NoDevice`: `dev=` is missing.
-    /// - `BaudRate`: the device ends with a colon and a decimal number (at most 20 digits, below 2^64).
+    /// first of these faults: `NoPrefix`, for the first wrong pair `Network` (key `ip`) or `Flawed`, `NoDevice`, and
+    /// `BaudRate` for a device that ends with a colon and a decimal number (at most 20 digits, below 2^64).
     pub fn read(text: &'a str) -> Result<Setting<'a>, WrongSetting<'a>>
         ensures { MatchResult result (IsSetting text.now) (IsWrongSetting text.now) }
     {
@@ -112,7 +107,6 @@ fn has_serprog_key(setting: &str) -> bool
     matches!(key, "dev" | "spispeed" | "cs")
 }
 
-// In flashrom, `ip=` names a programmer in the network.
 fn names_network(setting: &str) -> bool
     ensures { result ≡ names_network setting.now }
 {
@@ -126,7 +120,6 @@ fn read_select(value: &str) -> Option<u8>
     u8::try_from(read_number(value)?).ok()
 }
 
-// Returns `BaudRate` if the device ends with a colon and a number. (flashrom's syntax is `dev=DEVICE:BAUD`.)
 fn refuse_rate(device: &str) -> Result<(), WrongSetting<'_>>
     ensures { MatchResult result (λ _. HasNoRate device.now) (EndsWithRate device.now) }
 {

@@ -10,9 +10,7 @@ use std::fmt;
 /// The line that follows the line of error 12.
 #[derive(Drop)]
 pub struct StopLine<'a> {
-    /// What the layers of the bus found out.
     pub causes: Causes<'a>,
-    /// The state in which the job left the chip.
     pub left: Left<'a>,
 }
 

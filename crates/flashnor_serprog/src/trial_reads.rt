@@ -1,5 +1,4 @@
-//! Reads of a few bytes before a job. They find a chip that takes four address bytes, and a programmer that doesn't
-//! send long frames as it should.
+//! Reads that find a chip in four-byte mode, and a programmer that changes long frames, before a job begins.
 ghost use Rattle.std.specs.Prelude.{◌≡◌, ◌≤◌, ◌<◌, ◌^◌, false, IfOk, IfSome, length};
 ghost use Rattle.nor_model.specs.Command.{begins_change};
 ghost use Rattle.nor_serprog.specs.Harmless.{StaysHarmless};
@@ -9,39 +8,35 @@ use crate::port::{DevicePort, PortFault};
 use crate::trouble::ProgrammerFault;
 use nor_serprog::{AnyProgrammer, Command, Failure, HandshakeFault, Link};
 
-// 03h, Read Data: three address bytes follow. 05h, Read Status Register-1: returns status 1 until the chip is
-// deselected (W25Q64FV datasheet, Instructions).
+// Read Data (03h) takes three address bytes. Read Status Register-1 (05h) returns status 1 until the chip is deselected
+// (W25Q64FV datasheet, Instructions).
 const READ: u8 = 0x03;
 
 const READ_STATUS: u8 = 0x05;
 
-// How many bytes a trial read returns at most, and how many the one in a long frame.
+// The greatest number of bytes of a trial read, and of the one in a long frame.
 const MOST: usize = 32;
 
 const FEW: usize = 4;
 
-// Each place of a trial is a multiple of `STEP` below 32 KiB. A chip that takes four address bytes reads at about 256
-// times this address, so its places are 1 MiB apart.
+// The trial addresses are multiples of `STEP`. A chip in four-byte mode reads at about 256 times this address.
 const PLACES: u32 = 8;
 
 const STEP: u32 = 0x1110;
 
-// How often a long frame must fail in the same way.
+// The number of times that a long frame must fail in the same way.
 const TIMES: u32 = 3;
 
 // The number of bytes that a page program sends, with its opcode and its address.
 const PROGRAM: usize = 260;
 
-/// Makes trial reads, and compares their data. Sends no modifying command. Returns one of these faults:
+/// Makes trial reads, and compares their data. Returns one of these faults:
 ///
-/// - `Addresses`: two reads that overlap differ in most bytes at a place or in a few bytes at each place, and none
-///   agree.
+/// - `Addresses`: overlapping reads differ in most bytes at one address, or in a few bytes at each of eight addresses,
+///   and agree nowhere. A chip in four-byte mode (W25Q256FV datasheet, Address Modes) causes this, unless the bytes at
+///   all addresses are equal, as on an empty chip.
 /// - `LongFrames`: a read fails or returns other data if its frame is as long as that of a page program.
 /// - `Handshake`: another exchange failed.
-///
-/// In four-byte mode a chip takes the byte after three address bytes as a fourth one (W25Q256FV datasheet, Address
-/// Modes). Some chips begin in this mode whenever their power is switched on. If the data at all places has only equal
-/// bytes, as on an empty chip, `Addresses` isn't found.
 ///
 /// An interrupted erase may leave bytes that change from read to read, and these must not prevent a restore. So reads
 /// that differ count only if each of them returns the same bytes again.
@@ -70,17 +65,15 @@ fn shorter(len: usize, most: u32) -> usize
 enum Overlap {
     // They agree, and their bytes aren't all equal.
     Agrees,
-    // Most bytes differ, as on a chip that takes four address bytes.
+    // Most bytes differ.
     DiffersInMost,
-    // A few bytes differ. On an empty chip that takes four address bytes, this is the byte during which no chip drives
-    // the line, if the line then is low.
+    // A few bytes differ: on an empty chip in four-byte mode, the first byte if the line is low until the chip replies.
     DiffersInFew,
     // All bytes are equal, or some change from read to read.
     Unknown,
 }
 
-// Returns the first place where reads that overlap agree. If there is none, returns `Addresses` if reads differ in most
-// bytes at a place, or in a few bytes at each place, and otherwise `None`.
+// Returns the first address at which overlapping reads agree, or `None`. Returns `Addresses` as `try_reads` does.
 fn find_place(link: &mut Link<DevicePort>, len: usize) -> Result<Option<u32>, ProgrammerFault>
     requires some { 1 ≤ len }
     requires most { len ≤ 32 }
@@ -105,7 +98,7 @@ fn find_place(link: &mut Link<DevicePort>, len: usize) -> Result<Option<u32>, Pr
     }
 }
 
-// Reads `len` bytes at `address`, and then all but the first of them at the next address. If bytes differ, repeats both
+// Reads `len` bytes at `address`, and all but the first of them at the next address. If bytes differ, repeats both
 // reads.
 fn try_overlap(
     link: &mut Link<DevicePort>,
@@ -151,11 +144,9 @@ fn are_alike(one: &[u8], other: &[u8]) -> bool {
     differing <= one.len() / 2
 }
 
-// Reads `replies` bytes behind padding, in a frame that sends `len` bytes, and reads them in a short frame. Returns
-// `LongFrames` if the long frame fails, or if its reply is another one, and this repeats in the same way. If the
-// programmer refuses the frame, sends it without a reply: its buffer may be just long enough for a page program.
-//
-// The bytes are those at `place` or, without a place, status 1.
+// Reads `replies` bytes after padding, in a frame that sends `len` bytes, and compares them with the reply to a short
+// frame. The bytes are those at `place` or, if it is `None`, status 1. Returns `LongFrames` if the replies differ three
+// times in the same way, or if the long frame fails.
 fn try_long_frame(
     link: &mut Link<DevicePort>,
     place: Option<u32>,
@@ -190,7 +181,8 @@ fn try_long_frame(
     Err(ProgrammerFault::LongFrames)
 }
 
-// Reads in a frame that sends `len` bytes. Returns false if the programmer takes this frame only without a reply.
+// Reads in a frame that sends `len` bytes. If the programmer refuses the frame, sends it without a reply, because its
+// buffer may be just long enough for a page program, and returns false.
 fn read_behind(
     link: &mut Link<DevicePort>,
     place: Option<u32>,
@@ -202,8 +194,7 @@ fn read_behind(
     requires few { length reply.old ≤ 4 }
     ensures harmless { StaysHarmless (asked_over link.old) (asked_over link.new) }
 {
-    // The padding does nothing if the programmer sends it in place of an opcode: no chip has an instruction 00h that
-    // changes it.
+    // The padding is 00h, which is no instruction that changes a chip, in case the programmer sends it as an opcode.
     let mut out = [0; PROGRAM];
     out[..4].copy_from_slice(&first_bytes(place));
     match operate(link, &out[..len], reply) {
@@ -216,7 +207,6 @@ fn read_behind(
     }
 }
 
-// Returns the first bytes of a read at this place or, without a place, of status 1.
 fn first_bytes(place: Option<u32>) -> [u8; 4]
     ensures reads { begins_change result ≡ false }
 {
@@ -240,7 +230,6 @@ fn synchronize(link: &mut Link<DevicePort>) -> Result<(), Failure<PortFault>>
     link.synchronize()
 }
 
-// Reads what `read_behind` reads, in a short frame.
 fn read_direct(
     link: &mut Link<DevicePort>,
     place: Option<u32>,
@@ -296,7 +285,7 @@ fn operate(
     link.exchange(command, reply)
 }
 
-// The bytes of a read at this address, which must be below 2^24.
+// Returns the bytes that a read sends. `address` must be below 2^24.
 fn read_at(address: u32) -> [u8; 4]
     ensures reads { begins_change result ≡ false }
 {
@@ -304,7 +293,7 @@ fn read_at(address: u32) -> [u8; 4]
     [READ, high, middle, low]
 }
 
-// Returns the fault for the failure of a long frame. A failure of the system has nothing to do with its length.
+// Returns the fault for a long frame that failed. An error of the system doesn't depend on the frame's length.
 fn of_long(failure: Failure<PortFault>) -> ProgrammerFault {
     match failure {
         Failure::Port(PortFault::System(_)) => {

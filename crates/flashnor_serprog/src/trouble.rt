@@ -1,5 +1,4 @@
-//! The reasons why a run ends before its job, the advice for each programmer fault, and the lines that are printed for
-//! them.
+//! The reasons why a run ends before its job, and the lines that are printed for them.
 ghost use Rattle.std.specs.Prelude.{◌≡◌};
 
 use crate::port::PortFault;
@@ -19,13 +18,11 @@ pub enum Trouble<'a> {
     Setting(WrongSetting<'a>),
     /// The files of the job can't be used, for a reason that `flashnor` doesn't report.
     Early(EarlyEnd<'a>),
-    /// The programmer at this device can't be used.
     Programmer {
         fault: ProgrammerFault,
         device: &'a str,
     },
-    /// The layout can't be read from the chip. The fault was printed already, because its cause is known only to the
-    /// bus, which is closed by now.
+    /// The layout can't be read from the chip, or the port seems to change bytes. The fault was printed already.
     Printed,
 }
 
@@ -175,7 +172,6 @@ pub enum ProgrammerFault {
     Addresses,
 }
 
-/// The advice that is printed for a programmer fault.
 #[derive(Clone, Copy)]
 enum Remedy {
     Do(&'static str),
@@ -239,8 +235,8 @@ impl ProgrammerFault {
                 "Install firmware that sends 260 bytes in a transaction, or that says how many it sends (Q_WRNMAXLEN).",
             ),
             ProgrammerFault::Addresses => Remedy::Do(
-                "Check contacts, disconnect the chip and its board from all power for ten seconds, and try again. If the \
-                line appears again, the chip is set to begin in four-byte mode: this program can't use it.",
+                "Check contacts, disconnect the chip and its board from all power for ten seconds, and try again. If \
+                the line appears again, the chip is set to begin in four-byte mode: this program can't use it.",
             ),
         }
     }
@@ -284,8 +280,7 @@ fn help_for(fault: &HandshakeFault<PortFault>) -> Remedy {
     }
 }
 
-// The firmware need not be at fault: a port that echoes, or a programmer that waits for the rest of a command, may
-// cause the same replies.
+// A port that echoes, or a programmer that waits for the rest of a command, may cause the same replies as bad firmware.
 const AGAIN: &str =
     "Disconnect the programmer from power for a second, connect it again, set up the port, and repeat the run; \
     install other firmware only if the same line appears again. To set up the port:";
@@ -305,7 +300,7 @@ impl fmt::Display for Advice<'_> {
     }
 }
 
-// The command that sets up this device as a serial port. If the device's name can't be copied, advice to rename it.
+// The command that sets up this device as a serial port. If no command can contain its name, advice to rename it.
 #[derive(Clone, Copy, Drop)]
 struct SetUp<'a>(&'a str);
 

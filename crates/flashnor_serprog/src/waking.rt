@@ -7,29 +7,20 @@ use crate::port::{DevicePort, PortFault};
 use crate::trouble::ProgrammerFault;
 use nor_serprog::{AnyProgrammer, Command, Failure, HandshakeFault, Link};
 
-// The bytes of the transaction that wakes the chip and checks the port: ABh, and 12 bytes that the chip ignores. Their
-// number, 0Dh, is in the frame. If the port changes this 0Dh to 0Ah, the programmer takes the last three bytes as
-// commands. They are harmless, because 10h is SYNCNOP, to which the programmer only replies NAK and ACK.
+// ABh, and 12 bytes that the chip ignores. If the port changes their number, 0Dh, to 0Ah, the programmer takes the last
+// three bytes as commands. They are harmless: 10h is SYNCNOP, to which the programmer only replies NAK and ACK.
 const WAKE: [u8; 13] = [
     0xAB, 0x10, 0x10, 0x10, 0x10, 0x10, 0x10, 0x10, 0x10, 0x10, 0x10, 0x10, 0x10,
 ];
 
-// The number of reply bytes that `WAKE` requests.
 const WAKE_REPLIES: u32 = 10;
 
-/// Wakes the chip, and checks whether the port changes bytes that are sent. Returns the reply of the chip.
+/// Wakes the chip, checks whether the port changes bytes that are sent, and returns the reply of the chip. ABh wakes a
+/// chip from deep power-down within 3 microseconds (W25Q64FV datasheet, Release Power-down).
 ///
-/// ABh wakes a chip from deep power-down; any other chip returns its device ID. The chip is awake after 3 microseconds,
-/// before the next frame can reach it (W25Q64FV datasheet, Release Power-down).
-///
-/// The frame contains 0Dh, the length of its data, and 0Ah, the length of the reply. The output settings of a port may
-/// change these bytes (stty(1)):
-///
-/// - `ocrnl` sends 0Ah in place of 0Dh. The programmer then takes the last three data bytes as commands.
-/// - `onlcr` sends 0Dh before 0Ah. The programmer then returns more bytes.
-///
-/// In both cases the version that is queried next is read wrongly. If the programmer's limits are too low for this
-/// frame, only ABh is sent, the port isn't checked, and each byte of the result is FFh.
+/// The frame contains 0Dh and 0Ah, which the output settings `ocrnl` and `onlcr` of a port change (stty(1)). The
+/// version that is queried next is then read wrongly, and `ChangesBytes` is returned. If the programmer's limits are
+/// too low for this frame, only ABh is sent, the port isn't checked, and each byte of the result is FFh.
 pub fn wake(
     link: &mut Link<DevicePort>,
     programmer: &AnyProgrammer,
@@ -70,8 +61,7 @@ fn exchange(
         .map_err(HandshakeFault::Failure)
 }
 
-// Returns the fault for an exchange of `wake` that failed. A failure of the port is returned as it is. Any other
-// failure is `ChangesBytes`, because the programmer understood all commands before.
+// Returns a failure of the port as it is, and `ChangesBytes` for any other failure.
 fn of_changed(fault: HandshakeFault<PortFault>) -> ProgrammerFault {
     match fault {
         HandshakeFault::Failure(Failure::Port(_)) => ProgrammerFault::Handshake(fault),

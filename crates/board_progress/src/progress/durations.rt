@@ -9,8 +9,7 @@ use crate::terminal::Look;
 use std::time::Instant;
 
 impl<B> Shown<'_, B> {
-    // Does nothing if no modifying command was sent, or if the comparison has begun: `expect_comparison` called this
-    // function just before.
+    // Does nothing before the first modifying command, or after a comparison began.
     pub(super) fn show_duration(&self) {
         if self.phase != Phase::Changing {
             return;

@@ -1,4 +1,4 @@
-//! Records how many sectors a job will read, for the progress lines of `progress.rt`.
+//! Implements `Progress` for a `Shown` over a `ReadAhead`.
 
 use super::{Progress, Shown};
 use crate::steps::Phase;

@@ -1,4 +1,4 @@
-//! The lines that the bus of `progress.rt` prints at most once per minute.
+//! Prints a progress line at most once per minute.
 ghost use Rattle.std.specs.Prelude.{◌≡◌};
 
 use super::Shown;

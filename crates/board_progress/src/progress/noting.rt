@@ -7,29 +7,28 @@ use crate::notes::Notes;
 impl<B> Shown<'_, B> {
     ghost use Rattle.board_progress.specs.Shown.{notes_of, shown_bus};
 
-    /// Begins to note the sums of the sectors that are read.
+    /// Begins to note the sums of the sectors that are read from now on.
     pub fn begin_notes(&mut self, notes: Notes)
         ensures { shown_bus self.new ≡ shown_bus self.old }
     {
         self.notes = Some(notes);
     }
 
-    /// Ends noting, and returns the notes, if the job noted sums.
+    /// Ends noting, and returns the notes if sums were noted.
     pub fn end_notes(&mut self) -> Option<Notes>
         ensures { shown_bus self.new ≡ shown_bus self.old }
     {
         self.notes.take()
     }
 
-    /// Returns the notes, if the job notes sums.
+    /// Returns the notes if sums are being noted.
     pub fn notes(&self) -> Option<&Notes>
         ensures { option_copied result ≡ notes_of self.now }
     {
         self.notes.as_ref()
     }
 
-    // Notes a transaction that was carried out. Must be called in the phase in which it was carried out, before the
-    // next transaction.
+    // Notes a transaction. Must be called in the phase in which it was carried out, before the next transaction.
     pub(super) fn note(&mut self, out: &[u8], reply: &[u8])
         ensures { self.new.bus ≡ self.old.bus }
     {
@@ -38,8 +37,6 @@ impl<B> Shown<'_, B> {
         }
     }
 
-    // Writes the notes to their file, if they have one. Must be called before the first modifying command is passed on.
-    // If writing fails, a line is printed.
     pub(super) fn write_notes(&mut self)
         ensures { self.new.bus ≡ self.old.bus }
     {
