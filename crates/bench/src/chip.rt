@@ -8,7 +8,6 @@ use nor_driver::{Erase, EraseBlock, erase, program_page, read_sector};
 use std::alloc::{AllocError, Global};
 use std::rt::Clock;
 
-/// The size of a W25Q128FV in bytes. The chip has `MOST_SECTORS` sectors.
 const CHIP: usize = 16777216;
 
 const PAGES: u32 = 65536;

@@ -7,7 +7,6 @@ use nor_session::Refusal;
 use std::alloc::AllocError;
 use std::io;
 
-/// The reason why a run has no result.
 #[derive(Debug, Drop)]
 pub enum Fault {
     /// The arguments or the clock can't be read, or a line can't be printed.

@@ -11,7 +11,6 @@ use sha2::{Digest, Sha256};
 use std::alloc::Global;
 use std::rt::Clock;
 
-/// The size of the chip in bytes. The chip has `MOST_SECTORS` sectors.
 const CHIP: u32 = 16777216;
 
 const WRITING: Measurement = Measurement {

@@ -1,15 +1,5 @@
 //! Measures parts of this project. A measurement times a piece of work and a simpler reference in the same run, and
 //! prints the ratio of the two times, marked if it is greater than acceptable.
-//!
-//! - `main.rt`: runs the measurement that the argument selects
-//! - `words.rt`: the arguments
-//! - `timing.rt`: times the work and its reference in turn, and prints their ratio
-//! - `chip.rt`: reads, erases and page programs of a simulated chip
-//! - `plan.rt`: comparisons of two sectors
-//! - `journal.rt`: a journal of all sectors of a 16 MiB chip, written and read
-//! - `session.rt`: sessions and a restore on a 16 MiB chip
-//! - `read.rt`: a 16 MiB chip, read out and verified
-//! - `fault.rt`: the errors that end a run
 #![tactic(auto)]
 
 mod chip;
@@ -61,7 +51,7 @@ fn main(rt: HostRuntime) -> Result<ExitCode, Fault> {
     Ok(ExitCode::SUCCESS)
 }
 
-// The gate compares this output, with two sample lines for fixed times, with the file `stdout`.
+// Prints the results and two sample lines, which the merge gate (`make check`) compares with the file `stdout`.
 fn answer<R: Print + AllocGlobal>(rt: &R) -> Result<(), Fault> {
     chip::answer(rt)?;
     plan::answer(rt)?;

@@ -23,8 +23,8 @@ const BOUNDS: Measurement = Measurement {
     rounds: 10001,
 };
 
-/// Prints the times of `differs` and of `bounds` (the first and last difference), each as a ratio to that of copying as
-/// many sectors. Returns a checksum of all results.
+/// Prints the times of `differs` and `bounds` (the first and last difference), each as a ratio to that of copying the
+/// same number of sectors. Returns a checksum of all results.
 pub fn measure<R: Clock + Print + AllocGlobal>(rt: &R) -> Result<u64, Fault> {
     let mut copies = Copies(Sectors::new(rt.alloc())?);
     let mut work = Differs(Sectors::new(rt.alloc())?);

@@ -1,4 +1,4 @@
-//! Measures reading a whole W25Q128FV out into memory, and verifying it against an image.
+//! Measures reading a whole simulated W25Q128FV out into memory, and verifying this chip against an image.
 
 use crate::fault::Fault;
 use crate::timing::{Measurement, Work, compare};
@@ -24,8 +24,8 @@ const VERIFYING: Measurement = Measurement {
     rounds: 31,
 };
 
-/// Prints the times of reading out and of verifying, each as a ratio to that of copying as many bytes into newly
-/// allocated memory, which reading out needs, too. Returns a checksum of all results.
+/// Prints the times of reading out and of verifying, each as a ratio to that of copying 16 MiB into newly allocated
+/// memory, which reading out needs, too. Returns a checksum of all results.
 pub fn measure<R: Clock + Print + AllocGlobal>(rt: &R) -> Result<u64, Fault> {
     let alloc = rt.alloc();
     let image = bytes(alloc)?;

@@ -50,8 +50,7 @@ const TOUCHING: Measurement = Measurement {
 };
 
 /// Prints the times of three sessions and a restore, each as a ratio to that of a SHA-256 of a journal or of a copy of
-/// the chip's contents. The first session and the restore include an erase of the chip. Returns a checksum of all
-/// results.
+/// the chip's contents. Returns a checksum of all results.
 pub fn measure<R: Clock + Print + AllocGlobal>(rt: &R) -> Result<u64, Fault> {
     let alloc = rt.alloc();
     let image = scattered(alloc)?;

@@ -23,7 +23,7 @@ pub struct Measurement {
     pub what: &'static str,
     pub beside: &'static str,
     pub at_most: f64,
-    /// How often the work is timed, and how often the reference is timed.
+    /// The number of times that the work is timed, and that the reference is timed.
     pub rounds: u32,
 }
 
@@ -56,8 +56,7 @@ impl fmt::Display for Outcome {
     }
 }
 
-/// Prints the lines for work that took 111 ms and 150 ms, with a reference that took 100 ms. The gate compares them
-/// with the file `stdout`.
+/// Prints the lines for two fixed pairs of times, which the merge gate (`make check`) compares with `stdout`.
 pub fn answer<R: Print>(rt: &R) -> Result<(), Fault> {
     let measurement = Measurement {
         what: "timing",

@@ -2,20 +2,14 @@
 ghost use Rattle.std.specs.Prelude.{◌≡◌, map, string_bytes};
 ghost use Rattle.bench.specs.Words.{request_named, request_of};
 
-/// What a run does.
 #[derive(Clone, Copy)]
 pub enum Request {
     /// No argument: print the usage.
     Usage,
-    /// `chip`: measure the simulated chip.
     Chip,
-    /// `plan`: measure the comparisons of sectors.
     Plan,
-    /// `journal`: measure the writing and the reading of a journal.
     Journal,
-    /// `session`: measure sessions and a restore on a whole chip.
     Session,
-    /// `read`: measure a readout and a verification of a whole chip.
     Read,
     /// `answers`: do the work of `chip`, `plan`, `journal` and `read` once, untimed, and print the results.
     Answers,
@@ -23,8 +17,7 @@ pub enum Request {
     Unknown,
 }
 
-/// Returns the job that the arguments after the program's name select: `Usage` without any, and `Unknown` for several
-/// or for one that is no job.
+/// Returns what the arguments after the program's name select: `Usage` if none, and `Unknown` if more than one.
 pub fn request_of(words: &[String]) -> Request
     ensures { result ≡ request_of (map string_bytes words.now) }
 {

@@ -19,9 +19,8 @@ pub struct DevicePort<F> {
 }
 
 impl DevicePort<File> {
-    /// Opens a character device for reading and writing, and locks it against other programs that lock it. Returns
-    /// `NoDevice` if the file is of another type, `InUse` if another program has locked the device, and `System` for
-    /// any other failure.
+    /// Opens a character device, and locks it against other programs that lock it. Returns `NoDevice` for another type
+    /// of file, `InUse` if another program has locked the device, and `System` for any other failure.
     pub fn open(rt: &HostRuntime, name: &str) -> Result<DevicePort<File>, Fault> {
         if !fs::metadata(rt, name)?.file_type().is_char_device() {
             return Err(Fault::NoDevice);

@@ -1,16 +1,9 @@
 //! An example of how to connect flashnor's engine to a programmer of your own, through the traits `Port` and `Bus`.
 //! `docs/OWN_BUS.md` explains the example.
 //!
-//! Without arguments the example simulates a serial programmer and a chip: it reads the chip out, changes it with a
-//! journal, and restores it. Then it starts the same change over simulated wires to a programmer that does not speak
-//! serprog, and the wires are cut during the change. If the argument is the name of a serial port, it only identifies
-//! the chip there.
-//!
-//! - `main.rt`: the steps of the example
-//! - `device.rt`: a port over a device file
-//! - `own.rt`: the bus for a programmer that does not speak serprog, over the trait `Wires`, which you implement
-//! - `played.rt`: a simulated programmer and simulated wires, each with a simulated chip
-//! - `fault.rt`: the errors that end a run of the example
+//! Without arguments the example simulates a serial programmer and a chip: it reads the chip out, changes the chip with
+//! a journal, and restores it. Then it starts the same change over simulated wires, which are cut before the chip is
+//! modified. If the argument is the name of a serial port, the example only identifies the chip there.
 #![tactic(auto)]
 
 ghost use Rattle.std.specs.Prelude.{◌≡◌, false};
@@ -57,8 +50,6 @@ fn identify_chip<P: Port<Cause = std::io::Error> + Drop>(
     Ok(())
 }
 
-// Identifies the programmer at the port. No port of the example counts as well-behaved (`honest`), so no contract
-// promises anything about the programmer.
 fn open<P: Port + Drop>(
     rt: &HostRuntime,
     port: P,
@@ -83,7 +74,6 @@ fn play(rt: &HostRuntime) -> Result<(), Fault> {
     cut_off(rt)
 }
 
-// Returns an erased chip of 64 KiB, whose bus carries out up to `u64::MAX` transactions.
 fn erased_chip(alloc: Global) -> Result<SimBus, Fault> {
     let idle = Delays { now: 0, each: 0 };
     let erased = vec![in alloc; 0xFF; 65536]?;
@@ -100,7 +90,7 @@ fn back_up<B: Bus>(rt: &HostRuntime, bus: &mut B) -> Result<(), Fault> {
     Ok(())
 }
 
-// Writes `chip.bin` with its first byte changed to 5Ah to the chip.
+// Changes the chip to the bytes of `chip.bin`, but with 5Ah as the first byte. `journal` is the name of a new file.
 fn change<B: Bus>(rt: &HostRuntime, bus: &mut B, journal: &str) -> Result<Report, Fault> {
     let mut image = fs::read(rt, "chip.bin")?;
     if let Some(first) = image.first_mut() {
@@ -111,8 +101,7 @@ fn change<B: Bus>(rt: &HostRuntime, bus: &mut B, journal: &str) -> Result<Report
     Ok(report)
 }
 
-// Repeats the change with the same journal. The journal's file exists, so the change must fail and leave the journal as
-// it was.
+// Repeats the change. The file of its journal already exists, so the change must fail and leave the journal as it was.
 fn change_again<B: Bus>(rt: &HostRuntime, bus: &mut B) -> Result<(), Fault> {
     let before = fs::read(rt, "undo.journal")?;
     match change(rt, bus, "undo.journal") {

@@ -11,9 +11,8 @@ pub trait Wires {
     type Cause: Drop;
 
     /// Makes one transaction: pulls chip select low, sends `out`, reads until `reply` is full, and releases chip
-    /// select, also after an error.
-    ///
-    /// The engine sends at most 260 bytes and reads at most 4,096 in one transaction, and ends its call after an error.
+    /// select, even after an error. The engine sends at most 260 bytes and reads at most 4,096 in one transaction, and
+    /// ends its call after an error.
     fn transact(&mut self, out: &[u8], reply: &mut [u8]) -> Result<(), Self::Cause>;
 }
 

@@ -10,8 +10,7 @@ use nor_serprog::{Port, Wire, frame_len};
 use std::io::ErrorKind;
 use std::{fmt, io, mem};
 
-// The length of the longest frame, a page program: 7 bytes of header, an opcode, three address bytes and 256 data
-// bytes.
+// The length of the longest frame, a page program: a header of 7 bytes, an opcode, three address and 256 data bytes.
 const MOST_BEGUN: usize = 267;
 
 // The length of the longest reply: ACK and the 4,096 bytes of a sector.
@@ -27,7 +26,6 @@ const COMMANDS: [u8; 33] = [
     0, 0, 0, 0,
 ];
 
-/// A port to a simulated serprog programmer with a simulated chip.
 #[derive(Drop)]
 pub struct PlayedPort {
     chip: SimBus,
@@ -80,7 +78,6 @@ impl PlayedPort {
         }
     }
 
-    // Carries out one transaction. Replies NAK if the simulated bus stops.
     fn operate(&mut self, out: &[u8], replies: u16) -> io::Result<()> {
         let mut reply = [0; 4096];
         let len = usize::from(replies).min(4096);

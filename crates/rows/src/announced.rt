@@ -1,5 +1,4 @@
-//! Tests that a session or restore announces the right numbers, after the last read of its scan and before its first
-//! modifying command.
+//! Tests the numbers that a session or restore announces between its scan and its first modifying command.
 use crate::held::{assert_held, assert_that};
 use crate::row::{Row, Start};
 use crate::runs::AMPLE;
@@ -10,8 +9,7 @@ use std::alloc::Global;
 use std::process::Abort;
 
 // Each row has the numbers of touched sectors and of erases, first for its session and then for a restore after it, and
-// the number of transactions before the restore's announcement: seven that identify a chip by its SFDP (four on a
-// W25Q64FV), and one for each saved sector.
+// the number of transactions before the restore's announcement.
 const ROWS: [(Row, (u32, u32), (u32, u32), u64); 8] = [
     (Row::ABitFalls, (1, 0), (1, 1), 8),
     (Row::ABitRises, (1, 1), (1, 0), 8),

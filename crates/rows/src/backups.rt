@@ -1,5 +1,4 @@
-//! Backups of whole chips: interrupted, with a vault that refuses a call, or of another chip than the named one.
-//! Restores from a backup after sectors changed that no session touched.
+//! Backups of whole chips, with stops and with vaults that refuse a call, and restores from a backup.
 use crate::held::{assert_held, assert_that};
 use crate::row::{Row, Start};
 use crate::runs::{AMPLE, assert_untouched, keep};
@@ -84,7 +83,7 @@ fn each_stop_of_a_backup(rt: HostRuntime) {
     }
 }
 
-// One call for the header, one for each of 16 sectors, two for the end mark and the digest, and the seal.
+// The calls are one for the header, 16 for the sectors, two for the end mark and the digest, and the seal.
 #[test]
 fn each_call_of_a_backup_is_refused(rt: HostRuntime) {
     let alloc = rt.alloc();

@@ -1,4 +1,4 @@
-//! No call sends more transactions than its bound, on faulty buses and on the slowest chip.
+//! Tests that no call sends more transactions than its bound, on faulty buses and on the slowest chip.
 ghost use Rattle.std.specs.Prelude.{◌≡◌, false};
 
 use crate::held::{assert_held, assert_that};
@@ -106,8 +106,7 @@ fn sessions_on_faulty_buses(rt: HostRuntime) {
     assert_that!(&rt; runs == 2 * 59 * 4);
 }
 
-// Runs restores on faulty buses after a session that was stopped after ten transactions. `Lied::restore` asserts the
-// bound.
+// Runs restores on faulty buses after a session that was stopped after ten transactions.
 fn restore_each(rt: &impl Abort, stopped: &Runs, n: u8) -> u64 {
     let mut runs: u64 = 0;
     for spoil in lies(n) {
@@ -134,10 +133,8 @@ fn assert_written(rt: &impl Abort, alloc: Global, row: Row, bus: &SimBus) {
     assert_that!(rt; bus.bytes() == wanted.as_slice());
 }
 
-// The bound `most(16)` allows 274 operations. The session sends 271 and the restore 241, each with 65,536 polls.
-//
-// The restore identifies the chip with seven transactions, and reads sixteen sectors, fifteen of them again before it
-// programs them, and all to verify them. It sends one erase and 240 page programs.
+// The session sends 271 operations and the restore 241, each with 65,536 polls. The restore reads sixteen sectors,
+// fifteen of them again before it programs them, and all to verify them.
 #[test]
 fn the_slowest_session_and_its_restore(rt: HostRuntime) {
     let row = Row::EachPageIsProgrammed;

@@ -1,9 +1,9 @@
-//! Contents of chips: FFh, except for a run of equal bytes and a run of given bytes.
+//! Contents of chips.
 use nor_chip::SECTOR_LEN;
 use std::alloc::Global;
 use std::process::Abort;
 
-/// The contents of a chip: FFh, except for `count` bytes `byte` from address `from` on, and then `run` from `at` on.
+/// The contents of a chip: FFh, overwritten from `from` on by `count` bytes `byte`, and then from `at` on by `run`.
 #[derive(Clone, Copy)]
 pub struct Bytes {
     pub from: usize,
@@ -14,7 +14,6 @@ pub struct Bytes {
 }
 
 impl Bytes {
-    /// Returns the contents of a chip with this number of sectors.
     pub fn whole(self, rt: &impl Abort, alloc: Global, sectors: u32) -> Vec<u8> {
         let size = sectors as usize * SECTOR_LEN as usize;
         let mut whole = vec![in alloc; 0xFF; size].expect(rt, "memory");

@@ -1,11 +1,9 @@
-//! Sessions that are stopped after each number of transactions, and one restore after each stop that follows the seal.
-//! The rows of `undone.rt` are left out.
+//! Sessions that are stopped at successive transactions, and one restore after each stop that follows the seal.
 use crate::held::assert_that;
 use crate::row::{Row, Start};
 use crate::runs::Runs;
 
-// Each row has the first allowance, and the number of runs up to the session's length. On the W25Q64FV the first
-// allowance is three below the seal, because the transactions before that only read the chip, or two below the length.
+// Each row has the first allowance, and the number of runs up to the session's length.
 const ROWS: [(Row, u64, u64); 6] = [
     (Row::ABitFalls, 0, 29),
     (Row::NineSectorsAreErased, 0, 39),

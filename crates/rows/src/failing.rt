@@ -6,15 +6,13 @@ ghost use Rattle.nor_model.specs.Sent.{sent_in};
 
 use nor_chip::{Bus, History, Meter, SimBus, Stopped};
 
-/// How the transaction fails.
 #[derive(Clone, Copy)]
 pub enum Fault {
     /// The bus stops at this transaction.
     Stop,
     /// The bus inverts each bit of the reply.
     Spoil,
-    /// From this poll on, the bus shows BUSY in all polls among 65,536 transactions, so the wait that begins with this
-    /// poll times out.
+    /// This transaction, if it is a poll, and each poll among the 65,535 after it show BUSY, so the wait times out.
     Busy,
 }
 
@@ -23,20 +21,18 @@ pub enum Fault {
 pub struct OnceBus {
     pub bus: SimBus,
     fault: Fault,
-    // The number of transactions before the one that fails, or `None`.
+    // The number of transactions before the one that fails. `None` if none fails.
     after: Option<u64>,
     allowed: u64,
     /// The number of requested transactions, including those that failed.
     pub asked: u64,
-    /// The first four bytes that transaction `after` sent, or its first byte and zeros if it sent fewer. All are zeros
-    /// before that transaction.
+    /// The first four bytes of transaction `after` (only the first byte if it sent fewer), or zeros before it.
     pub met: [u8; 4],
     history: History,
 }
 
 impl OnceBus {
-    /// Returns a bus with the allowance `allowed`. The transaction that follows the first `after` transactions fails
-    /// with `fault`. If `after` is `None`, none fails.
+    /// Returns a bus with the allowance `allowed`, on which the transaction after the first `after` fails with `fault`.
     pub fn new(mut bus: SimBus, allowed: u64, fault: Fault, after: Option<u64>) -> OnceBus {
         bus.allow(allowed);
         OnceBus {

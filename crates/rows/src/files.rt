@@ -19,8 +19,7 @@ enum Failure {
     Sync,
 }
 
-// A file in memory on which one call fails. It records its length before each write and at each sync, including those
-// that fail.
+// A file in memory on which at most one call fails. It records its length before each write and at the last sync.
 #[derive(Drop)]
 struct OnceFile {
     failure: Option<Failure>,
@@ -155,8 +154,7 @@ fn fail_at_each(rt: &impl Abort, alloc: Global, row: Row, most: usize, counted: 
     assert_that!(rt; file.has(&right.writes, right.syncs, &right.bytes));
 }
 
-// Each row has the greatest number of bytes that a write accepts, and the numbers of writes and bytes. The pieces are
-// the header (25 bytes), each record (4,100), the end mark (4) and the digest (32).
+// Each row has the greatest number of bytes that a write accepts, and the numbers of writes and bytes of the journal.
 const ROWS: [(Row, usize, (usize, usize)); 3] = [
     (Row::ABitRises, 5000, (1 + 1 + 2, 61 + 4100)),
     (Row::ABitRises, 1000, (1 + 5 + 2, 61 + 4100)),

@@ -1,6 +1,5 @@
 //! Two successive sessions on one chip, and then their restores in reverse order. The first session is stopped after
-//! its seal, the second after each number of transactions. The second session is restored only if its vault is sealed.
-//! Its restore is stopped after at most 15 transactions, and repeated if it didn't end.
+//! its seal, or ends. The second session is stopped after each number of transactions.
 use crate::held::assert_held;
 use crate::row::{Row, Start};
 use crate::runs::{AMPLE, Cut, Runs};
@@ -51,18 +50,12 @@ fn stop_second(rt: &impl Abort, alloc: Global, runs: &Runs, other: Row, n: u64) 
     panic!(rt; "no session after {n} ended")
 }
 
-// The length of the second session for each stop of the first (after 23 to 29 transactions) and for its end (after 30).
-// The first session changes byte 0 from 00h to 01h. The second writes FFh to byte 0 and four bytes from FEh on, all in
-// the first sector. It sends 23 transactions before its seal, three for each erase and program, and one to verify.
-// Without an erase it reads the sector again first.
-//
-// - After the stops 23 and 24, byte 0 is 00h and needs an erase: 23 + 3 * 3 + 1.
-// - After the stops 25 to 27, byte 0 is FFh: 23 + 1 + 2 * 3 + 1.
-// - After 28 and 29, and at the end, byte 0 is 01h and needs an erase.
+// The length of the second session after each stop of the first (after 23 to 29 transactions) and after its end. The
+// second session sends 23 transactions before its seal, three for each erase and program, and one to verify. After 25
+// to 27 transactions byte 0 is FFh, so the second session reads the sector again in place of its erase.
 const LENGTHS: [u64; 8] = [33, 33, 31, 31, 31, 33, 33, 33];
 
-// The lengths of the second session if each stop still sends the whole next transaction, so that the chip is one
-// transaction further.
+// The lengths if each stop still sends the whole next transaction, so that the chip is one transaction further.
 const LENGTHS_AFTER_A_LOST_REPLY: [u64; 8] = [33, 31, 31, 31, 33, 33, 33, 33];
 
 #[test]

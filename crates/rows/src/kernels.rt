@@ -1,5 +1,4 @@
-//! nor_plan's comparisons of slices that are equal or differ in one byte, with lengths near 0, near 32 (it compares 32
-//! bytes at a time), and of a page or a sector.
+//! Comparisons of `nor_plan` on slices that are equal or differ in one byte.
 use crate::held::assert_held;
 use nor_plan::{PageSpan, bounds, differs, raises, spans};
 
@@ -22,8 +21,7 @@ fn is_same_to_itself(length: usize) -> bool {
     }
 }
 
-// Returns whether the comparisons find the only difference, which is at `place`: bit 1 is clear in `lower` and set in
-// `higher`. Only `raises` depends on which slice is the old one.
+// Returns whether the comparisons find the only difference: bit 1 of byte `place`, clear in `lower`, set in `higher`.
 fn differs_at(length: usize, place: usize) -> bool {
     let lower = [0xA5u8; LONGEST];
     let mut higher = [0xA5u8; LONGEST];

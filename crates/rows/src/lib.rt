@@ -1,5 +1,4 @@
-//! Tests of public calls across crates. In most of them a bus, a vault, a file or a serial port fails, or the input is
-//! malformed.
+//! Tests of public calls across crates, mostly with a failing bus, vault, file or serial port, or malformed input.
 #![tactic(auto)]
 
 #[cfg(test)]

@@ -21,16 +21,11 @@ fn assert_lied(rt: &impl Abort, alloc: Global, row: Row, lied: Lied, told: (Refu
 }
 
 // Each row has the session, the fault, and the expected error and number of transactions. A fault names a transaction,
-// counted from 1. 1 to 7 identify a TINY64 and 8 to 23 scan it; 1 to 4 identify a W25Q64FV and 5 to 2,052 scan it.
-// Then:
-//
+// counted from 1: 1 to 7 identify a TINY64 and 8 to 23 scan it; 1 to 4 identify a W25Q64FV and 5 to 2,052 scan it.
 // - `ABitRises`: 24 to 26 erase (write enable, command, poll), 27 to 29 program, and 30 verifies.
 // - `AByteIsProgrammed`: 24 reads the sector, 25 to 27 program, and 28 verifies.
 // - `NineSectorsAreErased`: 25 erases sectors 0 to 7, 28 erases sector 8, and 30 to 38 verify.
-// - `AGuardedByteIsProgrammed`: 2,053 to 2,055 lift the protection. A timeout of a status write has the address 0.
-//
-// A wait ends with a timeout after 65,536 polls. An ID of zeros means that there is no chip. If bit 0 of each reply
-// byte is cleared, the ID of a TINY64 doesn't change, but the SFDP signature does.
+// - `AGuardedByteIsProgrammed`: 2,053 to 2,055 lift the protection.
 const SESSIONS: [(Row, Spoil, (Refusal, u64)); 10] = [
     (Row::ABitRises, Spoil::Fill(0xFF), (TIMEOUT, 65_536)),
     (Row::ABitRises, Spoil::Fill(0x00), (Refusal::NoChip, 2)),
@@ -72,9 +67,8 @@ fn a_session_that_changes(rt: HostRuntime) {
     }
 }
 
-// The session was stopped after its erase. Each row has the fault, and the expected error and number of transactions of
-// the restore after it. Transactions 1 to 7 identify the chip, 8 and 9 read the sector, 10 to 12 program, and 13
-// verifies. A read that is dropped returns FFh in each byte.
+// Each row has the fault, and the expected error and number of transactions of a restore after a session that was
+// stopped after its erase. Transactions 1 to 7 identify the chip, 8 and 9 read the sector, and 10 to 12 program.
 const RESTORES: [(Spoil, (Refusal, u64)); 12] = [
     (Spoil::Fill(0xFF), (TIMEOUT, 65_536)),
     (Spoil::Fill(0x00), (Refusal::NoChip, 2)),
@@ -112,8 +106,7 @@ fn a_restore_that_programs(rt: HostRuntime) {
     }
 }
 
-// Transactions 8 to 23 scan the chip; if one is dropped, its sector is read as FFh. Only sector 0 differs from the
-// image and is saved, with 00h as its first byte, or FFh if transaction 8 was dropped.
+// Transactions 8 to 23 scan the chip. Only sector 0 is saved, with FFh as its first byte if its read was dropped.
 #[test]
 fn a_lie_before_the_seal_leaves_a_journal(rt: HostRuntime) {
     for n in 8..=23 {
@@ -149,8 +142,7 @@ fn lie_past_the_seal(rt: &impl Abort, alloc: Global, row: Row) -> u64 {
     runs
 }
 
-// Each row has its number of runs. Each fault begins after the seal, so the saved sectors are correct. Only these
-// sectors and the protection bits can change, so one restore is enough.
+// Each row has its number of runs. With a fault after the seal, only saved sectors and the protection bits can change.
 const PAST_THE_SEAL: [(Row, u64); 6] = [
     (Row::AByteIsProgrammed, 2 * 5),
     (Row::ABitRises, 2 * 7),
@@ -179,8 +171,7 @@ fn lie_to_restores(rt: &impl Abort, alloc: Global, row: Row, stop: u64, length: 
     }
 }
 
-// Each row has the stop of the session and the length of the restore. The stops are after an erase, after a program,
-// after an erase, after the protection bits were cleared, and after they were set again.
+// Each row has the number of transactions after which the session is stopped, and the length of the restore.
 const BEHIND: [(Row, u64, u64); 5] = [
     (Row::ABitRises, 25, 13),
     (Row::AByteIsProgrammed, 26, 12),

@@ -17,8 +17,7 @@ fn change<S: Store>(files: &mut S) -> io::Result<()> {
     Ok(())
 }
 
-// Makes the change while `left` calls succeed, and returns the files after `loss`. If `is_torn` is true, the last call
-// may write only half of its bytes.
+// Makes the change, in which at most `left` counted calls succeed, and returns the files after `loss`.
 fn left_of(rt: &impl Abort, alloc: Global, left: u64, is_torn: bool, loss: Loss) -> Memory {
     let mut files = Memory::new(alloc, left);
     files.put("image", b"abcd").expect(rt, "memory");
@@ -56,7 +55,6 @@ fn changes_are_lost_until_they_are_synced(rt: HostRuntime) {
     }
 }
 
-// After `tear`, the only write fails. Without it, the same write succeeds.
 #[test]
 fn a_torn_write_fails(rt: HostRuntime) {
     for is_torn in [false, true] {

@@ -7,8 +7,7 @@ const LEN: usize = 4096;
 
 type Piece = (usize, &'static [u8]);
 
-// The pieces of an image, the size of the chip, the expected regions (name, start and end of each), and the expected
-// fault, if there is one.
+// The pieces of an image, the chip's size, the expected regions (name, start and end), and the expected fault, if any.
 type Case = (
     &'static [Piece],
     u32,
@@ -56,7 +55,6 @@ const FIVE: &[u8] = &[
     0, 0, 0, 0, 0, 5, 0xFF, 7, 3, 0, 0xFF, 4, 1, 0, 2, 0, 0xFF, 0x1F, 0, 0,
 ];
 
-// Sixteen entries: entry n has base n and limit n.
 const SIXTEEN: &[u8] = &[
     0, 0, 0, 0, 1, 0, 1, 0, 2, 0, 2, 0, 3, 0, 3, 0, 4, 0, 4, 0, 5, 0, 5, 0, 6, 0, 6, 0, 7, 0, 7, 0,
     8, 0, 8, 0, 9, 0, 9, 0, 10, 0, 10, 0, 11, 0, 11, 0, 12, 0, 12, 0, 13, 0, 13, 0, 14, 0, 14, 0,
@@ -143,7 +141,7 @@ const DESCRIPTORS: &[Case] = &[
         &[],
         Some(MapFault::Missing),
     ),
-    // The region table is at FF0h, so its fifth entry runs past the descriptor.
+    // The region table is at FF0h, so its fifth entry is past the end of the descriptor.
     (
         &[(0x10, NR_2), (0x16, &[0xFF])],
         0x1_0000,
@@ -179,8 +177,7 @@ const BLANK: &[u8] = b"GBB Area\0\0\0\0\0\0\0\0\0\0\0\0\0\0\0\0\0\0\0\0\0\0\0\0"
 
 const WHOLE: &[u8] = b"ABCDEFGHIJKLMNOPQRSTUVWXYZabcdef";
 
-// The header at 200h and three areas with the flags 2: `RO` at 0 (800h bytes), `GBB` at 100h (300h), and one with a
-// name of 32 letters at 800h (800h).
+// The header at 200h and three areas: `RO` at 0, `GBB` at 100h, and one with a name of 32 letters at 800h.
 const AT_200: &[Piece] = &[
     (0x200, HEADER),
     (0x216, FLASH),
@@ -270,7 +267,7 @@ fn fmaps(rt: HostRuntime) {
     }
 }
 
-// The bytes of the FMAP are enough. Without its first byte the fault is `Missing`, without its last byte `Short`.
+// `read_fmap` needs only the bytes of the FMAP. It returns `Missing` without the first byte, `Short` without the last.
 #[test]
 fn an_fmap_without_an_image(rt: HostRuntime) {
     let alloc = rt.alloc();

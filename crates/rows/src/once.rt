@@ -1,6 +1,5 @@
-//! After a stop or a timeout, a call other than a rehearsal must send nothing more, even though the bus would carry it
-//! out. A rehearsal continues only if a stop was given for the call that stopped. No call may read a sector again
-//! because a reply was spoilt.
+//! Tests that a call sends nothing more after a stop or a timeout (except a rehearsal with an allowance for the stopped
+//! call), and that no call reads a sector again because a reply was spoilt.
 use crate::failing::{Fault, OnceBus};
 use crate::held::assert_held;
 use crate::row::{Row, Start, erased};
@@ -68,8 +67,7 @@ impl Command {
     }
 }
 
-// Each row has a function and the number of its transactions. A wait has three polls, two with BUSY, so an erase, a
-// program or a status write has five transactions.
+// Each row has a function and the number of its transactions. Each wait has three polls, of which two show BUSY.
 const COMMANDS: [(Command, u64); 13] = [
     (Command::Poll, 1),
     (Command::Wait, 3),
@@ -94,16 +92,8 @@ fn a_stop_ends_each_command(rt: HostRuntime) {
     }
 }
 
-// Each row has a call and the number of its transactions. The first wait has two polls, and an operation four
-// transactions. A session or restore identifies a chip with eight transactions by its SFDP, or five by its ID. A probe
-// sends two transactions fewer than this, and `wp_status` sends one more than a probe.
-//
-// On the two blocks, the session scans 32 sectors, sends two erases and two programs, reads two sectors before it
-// programs them, and verifies 19. The restore scans 19 sectors, sends two erases and 17 programs, reads 17 sectors
-// before it programs them, and verifies 19.
-//
-// On the W25Q64FV, both scan two sectors and verify them. The session sends two status writes, an erase and two
-// programs, and reads one sector before it programs it; the restore sends two status writes, two erases and a program.
+// Each row has a call and the number of its transactions. The terms of a session or restore are the identification, the
+// scan, the operations with four transactions each, the reads before programs, and the verification.
 const ON_TWO_BLOCKS: [(Call, u64); 6] = [
     (Call::Probe, 6),
     (Call::Protection, 6 + 1),
@@ -167,9 +157,8 @@ fn a_timeout_ends_each_call(rt: HostRuntime) {
     time_out_each_call(&rt, rt.alloc(), Job::OnW25q64fv, WAITS_ON_W25Q64FV);
 }
 
-// Each row has a call and the number of its replies that the test checks. A spoilt poll shows BUSY, so one more poll
-// follows. A sector whose reply is spoilt isn't read again: a comparison returns a mismatch at the first address of the
-// sector, and `read_out` returns no error.
+// Each row has a call and the number of its replies that the test checks. After a spoilt poll one more poll follows. A
+// sector whose reply is spoilt isn't read again.
 const REPLIES: [(Call, u64); 4] = [
     (Call::ReadOut, 1 + 2),
     (Call::Verify, 1 + 2),
@@ -185,8 +174,7 @@ fn a_spoilt_reply_is_taken_as_it_is(rt: HostRuntime) {
     }
 }
 
-// Returns the length of the next restore of a rehearsal that sent `sent` transactions, or `None` before the seal. A
-// restore needs 8 transactions if the sector is as saved, and 13 if it programs one byte.
+// Returns the length of the restore after `sent` transactions of a rehearsal, or `None` before the seal.
 fn restore_after(sent: u64) -> Option<u64> {
     match sent {
         0..=22 => None,
@@ -197,9 +185,7 @@ fn restore_after(sent: u64) -> Option<u64> {
 
 type Rehearsed = (Result<Rehearsal, Refusal>, u64);
 
-// Returns the expected result on a bus that stops once, after `after` transactions, and the number of requested
-// transactions. The result is `Stopped` if no stop was given for this call. Otherwise a restore follows if the vault is
-// sealed.
+// Returns the expected result and number of transactions on a bus that stops once, after `after` transactions.
 fn rehearsed(after: u64, stops: usize) -> Rehearsed {
     let asked = after.saturating_add(1);
     let ended = after >= 30;
@@ -215,7 +201,7 @@ fn rehearsed(after: u64, stops: usize) -> Rehearsed {
     (Ok(told), asked.saturating_add(needed.unwrap_or(0)))
 }
 
-// Rehearses on a bus that stops once, after `after` transactions. The given stops are too large to take effect.
+// Rehearses on a bus that stops once, after `after` transactions, with `stops` allowances that are never used up.
 fn rehearse_after(rt: &impl Abort, alloc: Global, after: u64, stops: usize) -> Rehearsed {
     let row = Row::ABitRises;
     let mut bus = OnceBus::new(row.bus(rt, alloc, Start::IDLE), 0, Fault::Stop, Some(after));

@@ -117,8 +117,7 @@ fn probed(
     (told, log.as_slice() == sent.as_bytes())
 }
 
-// Each row has the chip, the name, the result, and the trace. An ID of the table counts even if the SFDP contradicts
-// it. An ID of three bytes 00h or FFh means that no chip drives the bus.
+// Each row has the chip, the name, the result and the trace. An ID of the table counts even if the SFDP contradicts it.
 const PROBES: &[(Sample, Option<&str>, Answer, &str)] = &[
     (Sample::Small, None, SMALL, W25Q64FV_SENT),
     (Sample::Small, Some("W25Q64FV"), SMALL, W25Q64FV_SENT),
@@ -171,9 +170,7 @@ const WAITED_LONG: Answer = Ok(Probed {
 
 const STOPPED: Answer = Err(ProbeFault::Stopped);
 
-// Each row has the number of polls that show BUSY at first, the fault of the bus (`HONEST` never occurs, `STUCK` always
-// shows BUSY), the allowance, and the expected result. No clause of a contract states that a timeout follows 65,536
-// polls, so this test checks it.
+// Each row has the number of polls that show BUSY at first, the bus's fault, the allowance, and the expected result.
 const WAITS: [(u16, Spoil, u64, Answer); 6] = [
     (3, HONEST, 8, WAITED),
     (3, HONEST, 7, STOPPED),

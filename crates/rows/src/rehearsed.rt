@@ -28,8 +28,7 @@ fn rehearsed(
     (told, vault.is_sealed())
 }
 
-// Returns the length of the restore after a session that was stopped after `stop` transactions, or `None` before the
-// seal. A restore needs 8 transactions if the sector is as saved, and 13 if one byte is programmed.
+// Returns the length of the restore after a session that stopped after `stop` transactions, or `None` before the seal.
 fn restore_after(stop: u64) -> Option<u64> {
     match stop {
         0..=22 => None,
@@ -60,14 +59,12 @@ fn each_pair_of_stops_is_reported(rt: HostRuntime) {
     }
 }
 
-// Returns the length of the second restore, if the first one needs `needed` transactions and sent `sent`. In a restore
-// of 13 transactions the eleventh is the program, after which the sector is as saved.
+// Returns the length of the second restore. If the first restore programs, its eleventh transaction does so.
 fn restore_again(needed: u64, sent: u64) -> u64 {
     if sent < 11 { needed } else { 8 }
 }
 
-// Returns the number of restores that run until one succeeds. The first one needs `needed` transactions. It is allowed
-// `first` transactions, the second one is allowed `second`, and a third one isn't stopped.
+// Returns the number of restores if the first one is allowed `first` transactions, and the second one `second`.
 fn restores_under(needed: u64, first: u64, second: u64) -> u32 {
     if first >= needed {
         1
@@ -106,8 +103,7 @@ struct Told {
     sent: u64,
 }
 
-// Rehearses on a faulty bus. Each stop is greater than the number of transactions of any call, so it never takes
-// effect.
+// Rehearses on a faulty bus, with `stops` allowances that are never used up.
 fn rehearsed_lied(rt: &impl Abort, alloc: Global, row: Row, spoil: Spoil, stops: usize) -> Told {
     let bus = row.bus(rt, alloc, Start::IDLE);
     let mut bus = SpoiltBus::new(bus, spoil);
@@ -143,7 +139,6 @@ const TIMEOUT: Refusal = Refusal::Timeout { address: 0 };
 
 const MISMATCH: Refusal = Refusal::Mismatch { address: 0 };
 
-// The result of a rehearsal that ends with an error before the seal, with an unchanged chip.
 fn early(refusal: Refusal, sent: u64) -> Told {
     Told {
         result: Err(refusal),
@@ -153,7 +148,6 @@ fn early(refusal: Refusal, sent: u64) -> Told {
     }
 }
 
-// The result of a rehearsal that ends with an error after the seal, with a changed chip.
 fn changed(refusal: Refusal, sent: u64) -> Told {
     Told {
         result: Err(refusal),
@@ -163,15 +157,9 @@ fn changed(refusal: Refusal, sent: u64) -> Told {
     }
 }
 
-// Transactions are counted from 1, and the count continues from the session to its restore. A wait ends with a timeout
-// after 65,536 polls.
-//
-// `ABitRises` has 30 and 13 transactions. 1 is a poll; 24 enables the erase, without which the program doesn't raise
-// the bit; 26 is the poll after the erase, and 30 verifies. 31 is the restore's first poll, 40 enables its program, and
-// 43 verifies.
-//
-// `AByteIsProgrammed` has 28 and 12 transactions, and programs a byte of the second page. 27 is the poll after the
-// program. 29 to 35 identify the chip for the restore, 36 reads the sector, 37 to 39 erase it, and 40 verifies.
+// A fault names a transaction, counted from 1 through the session and its restore. `ABitRises` has 30 and 13
+// transactions: 24 enables the erase, 26 polls after it, 31 is the restore's first poll, and 40 enables its program.
+// `AByteIsProgrammed` has 28 and 12: 27 polls after the program, and 38 is the restore's erase command.
 fn lies() -> [(Row, Spoil, Told); 8] {
     let unmoved = Told {
         result: Err(MISMATCH),

@@ -1,6 +1,4 @@
-//! Rewrites, which erase every saved sector and program each page that isn't all FFh, even if the chip already has the
-//! saved bytes. Each rewrite is stopped after each number of its transactions, and then the chip is rewritten again, or
-//! restored.
+//! Rewrites that are stopped after each number of their transactions, after which the chip is rewritten or restored.
 use crate::held::{assert_held, assert_that};
 use crate::row::{Row, Start};
 use crate::runs::{AMPLE, Cut, Runs};
@@ -33,8 +31,7 @@ impl Rewritten {
         }
     }
 
-    // Returns the number of transactions of a rewrite. An operation takes a write enable, a command and a poll. Sectors
-    // are read only to verify them.
+    // Returns the number of transactions of a rewrite, which reads sectors only to verify them.
     fn length(&self) -> u64 {
         let operations = u64::from(self.erases)
             .saturating_add(u64::from(self.programs))
@@ -112,8 +109,7 @@ fn each_stop_of_a_rewrite(rt: HostRuntime) {
     }
 }
 
-// Before the second rewrite the chip already has the saved bytes, so a restore would change nothing. A rewrite sends
-// the same operations again.
+// Before the second rewrite the chip already has the saved bytes, so a restore would change nothing.
 #[test]
 fn a_rewrite_writes_what_reads_right(rt: HostRuntime) {
     for each in &rows() {

@@ -11,18 +11,15 @@ use std::process::Abort;
 pub struct Start {
     /// The numbers of polls that show BUSY at first and after each operation.
     pub delays: Delays,
-    /// True if the write enable latch is set, as after a write enable.
     pub latch: bool,
-    /// With `Some`, a stop cuts the chip's power, and this byte determines what an interrupted operation leaves
-    /// (`SimBus::lose`).
+    /// With `Some`, a stop cuts the chip's power, and `SimBus::lose` describes what an interrupted operation leaves.
     pub fill: Option<u8>,
-    /// The number of bytes of the next transaction that a stop still sends. `None` if it sends none.
+    /// The greatest number of bytes of the failed transaction that a stop still sends. `None` if a stop sends none.
     pub torn: Option<u32>,
 }
 
 impl Start {
-    /// An idle chip that never shows BUSY, with a clear write enable latch. A stop sends no byte and keeps the chip's
-    /// power.
+    /// An idle chip that never shows BUSY. A stop sends no byte and keeps the chip's power.
     pub const IDLE: Start = Start {
         delays: Delays { now: 0, each: 0 },
         latch: false,
@@ -30,13 +27,11 @@ impl Start {
         torn: None,
     };
 
-    /// A chip that shows BUSY in three polls at the start, and in two after each operation.
     pub const SLOW: Start = Start {
         delays: Delays { now: 3, each: 2 },
         ..Start::IDLE
     };
 
-    /// A chip that shows BUSY in 65,535 polls (the maximum of `Delays`) at first and after each operation.
     pub const SLOWEST: Start = Start {
         delays: Delays {
             now: 65_535,
@@ -45,7 +40,6 @@ impl Start {
         ..Start::IDLE
     };
 
-    /// Returns this start with the write enable latch set.
     pub const fn latched(self) -> Start {
         Start {
             latch: true,
@@ -58,8 +52,7 @@ impl Start {
         if self.latch { [one | 0x02, two] } else { kept }
     }
 
-    /// Returns the start of an idle chip that shows BUSY in two polls after each operation, and loses its power at a
-    /// stop.
+    /// Returns the start of an idle chip that loses its power at a stop.
     pub const fn losing(fill: u8) -> Start {
         Start {
             delays: Delays { now: 0, each: 2 },
@@ -69,7 +62,6 @@ impl Start {
         }
     }
 
-    /// Returns this start with a stop that still sends the first `count` bytes of the next transaction.
     pub const fn torn(self, count: u32) -> Start {
         Start {
             torn: Some(count),
@@ -81,17 +73,14 @@ impl Start {
 /// A session that is tested, on a new chip for each run.
 #[derive(Clone, Copy)]
 pub enum Row {
-    /// Programs one byte of an erased chip.
     AByteIsProgrammed,
     /// Changes a bit of one byte from 0 to 1, so the sector of that byte is erased.
     ABitRises,
-    /// Changes a bit of one byte from 1 to 0, which needs no erase.
     ABitFalls,
     /// Programs four bytes, two on each side of a page boundary.
     TwoPagesAreProgrammed,
     /// Erases nine sectors, with one erase of 32 KiB and one of 4 KiB.
     NineSectorsAreErased,
-    /// Erases the whole chip, with one command.
     TheChipIsErased,
     /// Changes the only included page from 00h to FFh, in a sector of 00h: an erase, and 15 programs of the other
     /// pages.
@@ -100,8 +89,7 @@ pub enum Row {
     AByteBelowTheGuardIsProgrammed,
     /// Programs the first byte of the protected range. The protection bits are cleared first, and set again at the end.
     AGuardedByteIsProgrammed,
-    /// Changes every byte of a TINY64 without the erase types of 32 and 64 KiB. The last sector is blank before, so
-    /// there are 15 erases, and programs of all pages.
+    /// Changes every byte of a TINY64 without the erase types of 32 and 64 KiB.
     EachPageIsProgrammed,
     /// Erases sectors 8 to 39 of a chip of 256 KiB, with three erases of 32, 64 and 32 KiB.
     ThirtyTwoSectorsAreErased,
@@ -145,8 +133,7 @@ fn sectors_alone(rt: &impl Abort) -> Config {
     Config::new([0xFE, 0x10, 0x10], 65_536, false, false, false, &sfdp).expect(rt, "a size")
 }
 
-/// Returns the configuration of a chip of 256 KiB that is known by its SFDP, with the erase types of 32 and 64 KiB if
-/// `k32` and `k64` are true.
+/// Returns a chip of 256 KiB that is known by its SFDP, with erases of 32 KiB if `k32` and of 64 KiB if `k64` is true.
 pub fn large(rt: &impl Abort, k32: bool, k64: bool) -> Config {
     let mut sfdp = TINY64_SFDP;
     sfdp[0x16] = 0x1F;
@@ -168,26 +155,22 @@ struct Written {
     // A layout of one line, whose region `part` is included. `None` if the whole chip is included.
     part: Option<&'static [u8]>,
     unlock: bool,
-    // The number of transactions before the seal, on a chip without delays.
+    // The numbers of transactions before the seal (`sealed`) and in all (`length`), on a chip without delays.
     sealed: u32,
-    // The number of all transactions, on a chip without delays.
     length: u32,
-    // The number of erases, page programs and status writes. The session waits after each of them.
+    // The number of erases, page programs and status writes.
     operations: u32,
 }
 
 impl Row {
-    /// Returns the contents of the chip at the start.
     pub fn before(self, rt: &impl Abort, alloc: Global) -> Vec<u8> {
         self.written().old.whole(rt, alloc, self.sectors())
     }
 
-    /// Returns the session's image.
     pub fn wanted(self, rt: &impl Abort, alloc: Global) -> Vec<u8> {
         self.written().image.whole(rt, alloc, self.sectors())
     }
 
-    /// Returns the session's request: a write of the image, with verification.
     pub fn request(self, rt: &impl Abort, alloc: Global) -> Request {
         let Written { part, unlock, .. } = self.written();
         Request {
@@ -199,7 +182,7 @@ impl Row {
         }
     }
 
-    /// Returns a bus to the row's chip, which carries out no transaction until `allow` is called.
+    /// Returns a bus to the row's chip. The bus carries out no transaction until `allow` is called.
     pub fn bus(self, rt: &impl Abort, alloc: Global, start: Start) -> SimBus {
         let bytes = self.before(rt, alloc);
         let config = self.written().chip.config(rt);
@@ -213,12 +196,10 @@ impl Row {
         bus
     }
 
-    /// Returns the non-volatile status bits at the start.
     pub fn status(self) -> [u8; 2] {
         self.written().status
     }
 
-    /// Returns the number of sectors of the chip.
     pub fn sectors(self) -> u32 {
         self.written().chip.sectors()
     }
@@ -264,7 +245,7 @@ impl Row {
     }
 }
 
-/// Returns a bus to an erased chip, which carries out no transaction until `allow` is called.
+/// Returns a bus to an erased chip. The bus carries out no transaction until `allow` is called.
 pub fn erased(
     rt: &impl Abort,
     alloc: Global,
@@ -306,7 +287,6 @@ fn the_rest_of_a_sector_stays() -> Written {
     }
 }
 
-// The scan reads one sector of 16.
 fn a_bit_of_64_bytes_rises() -> Written {
     Written {
         part: Some(b"0x0:0xfff part"),
@@ -315,7 +295,6 @@ fn a_bit_of_64_bytes_rises() -> Written {
     }
 }
 
-// The scan reads one sector of 2,048.
 fn a_guarded_byte_of_a_sector_is_programmed() -> Written {
     Written {
         part: Some(b"0x7e0000:0x7e0fff part"),
@@ -324,8 +303,7 @@ fn a_guarded_byte_of_a_sector_is_programmed() -> Written {
     }
 }
 
-// The last 128 KiB are protected. 4 transactions identify the chip and 2,048 scan it, so the vault is sealed after
-// 2,052.
+// 4 transactions identify the chip and 2,048 scan it, so the vault is sealed after 2,052.
 fn on_w25q64fv(image: Bytes, unlock: bool, length: u32, operations: u32) -> Written {
     Written {
         chip: Chip::W25q64fv,

@@ -69,13 +69,12 @@ pub struct Runs {
     row: Row,
     start: Start,
     before: Vec<u8>,
-    // The number of bytes of the next transaction that a stop of a restore still sends.
+    // The greatest number of bytes of the failed transaction that a stop of a restore still sends.
     torn: Option<u32>,
 }
 
 impl Runs {
-    /// Returns the runs of this row's session. A stop of a restore sends the same number of bytes as a stop of the
-    /// session.
+    /// Returns the runs of a row, in which the stops of restores send the same number of bytes as those of the session.
     pub fn new(rt: &impl Abort, alloc: Global, row: Row, start: Start) -> Runs {
         Runs {
             alloc,
@@ -86,7 +85,6 @@ impl Runs {
         }
     }
 
-    /// Returns these runs with stops of restores that still send the first `count` bytes.
     pub fn with_restores_torn(self, count: u32) -> Runs {
         Runs {
             torn: Some(count),
@@ -96,9 +94,6 @@ impl Runs {
 
     /// Runs the session on a new chip, with the allowance `allowed`. Asserts that the session ends if and only if
     /// `allowed` is at least `ends_at`, and that the vault is sealed if and only if `allowed` is at least `sealed_at`.
-    ///
-    /// If the session ends, also asserts that the chip is idle, and that the write enable latch is clear, because each
-    /// operation clears it.
     pub fn cut(&self, rt: &impl Abort, allowed: u64) -> Cut {
         let mut bus = self.row.bus(rt, self.alloc, self.start);
         bus.allow(allowed);
@@ -153,9 +148,8 @@ impl Runs {
         runs
     }
 
-    /// Stops the session after each number of transactions from `first` on, and restores if its vault is sealed. If the
-    /// vault isn't sealed, asserts that the write enable latch is clear. Asserts that each run leaves the chip as
-    /// before. Returns the number of stopped sessions.
+    /// Does what `stop_at_each` does, but only for sessions that are stopped. If the vault isn't sealed, asserts that
+    /// the write enable latch is clear.
     pub fn stop_sessions(&self, rt: &impl Abort, first: u64) -> u64 {
         let mut stops: u64 = 0;
         for n in first..self.row.ends_at(self.start) {
@@ -172,8 +166,7 @@ impl Runs {
     }
 
     /// Stops the session after `n` transactions. If its vault is sealed, stops its restore after each number of
-    /// transactions, and then restores again. Asserts that each run leaves the chip as before. Returns the number of
-    /// stopped restores.
+    /// transactions, and then restores again. Returns the number of stopped restores.
     pub fn stop_restores(&self, rt: &impl Abort, n: u64) -> u64 {
         self.stop_restores_after(rt, n).saturating_sub(1)
     }
@@ -193,8 +186,7 @@ impl Runs {
     }
 }
 
-// Restores with the allowance `allowed` and, if this restore is stopped, once more. Returns whether the first restore
-// ended, or true if the vault isn't sealed.
+// Restores up to two times. Returns true if the first restore ended, or if the vault isn't sealed.
 fn ends_within(rt: &impl Abort, cut: &mut Cut, allowed: u64) -> bool {
     if !cut.vault.is_sealed() {
         return true;

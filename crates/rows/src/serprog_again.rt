@@ -7,7 +7,7 @@ use std::alloc::Global;
 use std::process::Abort;
 
 // A read over `ReadTwice`: the bytes sent, the length of the reply, where the image differs from the chip, the expected
-// trace of the bus below, and whether the read succeeds. Transaction `spoilt` of that bus replies FFh.
+// trace of the inner bus, and whether the read succeeds. Transaction `spoilt` of the inner bus replies FFh (0: none).
 #[derive(Clone, Copy)]
 struct Reading {
     out: [u8; 4],
@@ -79,7 +79,7 @@ fn check(rt: &impl Abort, alloc: Global, reading: Reading) {
     assert_that!(rt; lines.as_slice() == reading.lines);
 }
 
-// Neighbouring sectors are read together.
+// Adjacent sectors that differ are read again in one transaction.
 #[test]
 fn only_differing_sectors_are_read_again(rt: HostRuntime) {
     for reading in [
@@ -106,7 +106,7 @@ fn only_differing_sectors_are_read_again(rt: HostRuntime) {
     }
 }
 
-// For its first and last sector, only the bytes that the read covers are compared, and read again.
+// In the first and last sector of a read, only the bytes that the read covers are compared and read again.
 #[test]
 fn parts_of_sectors_are_read_again(rt: HostRuntime) {
     let cases: [(&'static [usize], &'static [u8]); 3] = [
@@ -127,8 +127,7 @@ fn parts_of_sectors_are_read_again(rt: HostRuntime) {
     }
 }
 
-// If a second read differs from the first, the bus stops. The spoilt second read is that of the first of two differing
-// sectors, then that of the second, and then that of the only byte that the read covers in its last sector.
+// If a second read of a sector, or of the part that the read covers, differs from the first, the bus stops.
 #[test]
 fn a_sector_that_differs_stops_the_bus(rt: HostRuntime) {
     let cases: [(u64, usize, &'static [usize], &'static [u8]); 3] = [

@@ -79,8 +79,7 @@ fn each_fault_stops_the_bus(rt: HostRuntime) {
     }
 }
 
-// If the port fails inside a frame, the bus sends nothing more, because the programmer would treat it as the rest of
-// the frame.
+// After a failure inside a frame nothing may be sent: the programmer would treat new bytes as the rest of the frame.
 #[test]
 fn a_cut_frame_is_never_completed(rt: HostRuntime) {
     let mut model = Model::new(&rt, rt.alloc());
@@ -140,8 +139,7 @@ fn assert_silent(rt: &impl Abort, bus: &mut BatchingBus<Model>) {
     assert_that!(rt; command.is_err() && flushed.is_ok() && poll.is_err());
 }
 
-// The write enable waits until the poll, and its frame is sent before that of the poll. The fault occurs at the frame
-// of the write enable.
+// The write enable waits until the poll. The fault occurs at the frame of the write enable.
 #[test]
 fn a_batch_is_sent_only_in_step(rt: HostRuntime) {
     for fault in [Fault::Nak, Fault::Silent, Fault::Strange, Fault::Cut] {

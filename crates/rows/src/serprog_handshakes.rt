@@ -102,7 +102,7 @@ fn a_limit_that_is_too_small_is_an_error(rt: HostRuntime) {
     assert_refused(&rt, alloc, model, "identified");
 }
 
-// Bytes that an earlier run left unread are skipped, even if the last look like the reply to SYNCNOP.
+// Bytes that an earlier run left unread are skipped, even if the last of them look like the reply to SYNCNOP.
 #[test]
 fn stale_bytes_are_skipped(rt: HostRuntime) {
     let stale: [&[u8]; 4] = [

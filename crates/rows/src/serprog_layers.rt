@@ -1,5 +1,4 @@
-//! A bench of the ten layers of `flashnor-serprog` over a simulated port, which stops at a given call. The tests are in
-//! `serprog_layers_stops.rt` and `serprog_layers_restores.rt`.
+//! A bench for the ten layers of `flashnor-serprog` (`Stack`) over a simulated port, which fails at a given call.
 ghost use Rattle.nor_journal.specs.Vault.{IsFresh};
 
 use crate::held::assert_held;
@@ -25,13 +24,12 @@ const LONGEST_WRITE: u32 = 260;
 
 const LONGEST_READ: u32 = 4096;
 
-// The size of the serial buffer of the simulated programmer.
 const SERIAL_BUFFER: u16 = 512;
 
-// The IDs of TINY64 and W25Q64FV, which have status 2, and SEC as bit 6 of status 1.
+// The IDs of TINY64 and W25Q64FV. The layers treat a chip with one of these IDs as a chip with a row.
 const IDS: [[u8; 3]; 2] = [[0xFE, 0x10, 0x10], [0xEF, 0x40, 0x17]];
 
-// The unique ID of the chip. `OtherMakers` replaces one that is FFh or 00h in all bytes.
+// The unique ID of the chip. `OtherMakers` doesn't replace it, because its bytes are neither all FFh nor all 00h.
 const UNIQUE: [u8; 8] = [0xD1, 0x62, 0x10, 0xFF, 0x00, 0x5A, 0xA5, 0x08];
 
 // More calls than a handshake and any run over the layers takes.
@@ -42,8 +40,8 @@ pub const MOST_CALLS: u64 = 5000;
 
 type Layers<'a> = Stack<SimPort, Timer<'a>>;
 
-/// The call of the port that fails: the number of calls after the handshake that succeed before. If the call sends a
-/// frame, the chip receives the first `cut` bytes of the frame's transaction.
+/// A failure of the port after `calls` successful calls since the handshake. If the failing call sends a frame, the
+/// chip receives the first `cut` bytes of the frame's transaction.
 #[derive(Clone, Copy)]
 pub struct Stop {
     pub calls: u64,
@@ -51,15 +49,13 @@ pub struct Stop {
 }
 
 impl Stop {
-    /// No call fails.
     pub const NEVER: Stop = Stop {
         calls: AMPLE,
         cut: 0,
     };
 }
 
-/// Returns the stops at a call that sends a frame. Of the frame's transaction the chip receives no byte, the opcode and
-/// the address, or all bytes.
+/// Returns the stops at a call that sends a frame: the chip receives no byte, opcode and address, or all bytes.
 pub fn stops_at(calls: u64) -> [Stop; 3] {
     [
         Stop { calls, cut: 0 },
@@ -81,14 +77,13 @@ pub struct Left {
     pub tears: bool,
 }
 
-/// How a journal is written back to the chip.
 #[derive(Clone, Copy)]
 pub enum Undo {
     Restore,
     Rewrite,
 }
 
-/// A row whose chip has a unique ID, over the layers.
+/// The session of a row, with the layers over its chip. The chip has a unique ID.
 #[derive(Drop)]
 pub struct Bench {
     alloc: Global,
@@ -117,7 +112,6 @@ impl Bench {
         chip_of(rt, self.config(), bytes, self.row.status())
     }
 
-    /// Returns a chip with the same contents and status, and the same unique ID.
     pub fn copy(&self, rt: &impl Abort, chip: &SimBus) -> SimBus {
         let bytes = Vec::from_slice(self.alloc, chip.bytes()).expect(rt, "memory");
         chip_of(rt, self.config(), bytes, chip.status())
@@ -135,7 +129,6 @@ impl Bench {
         self.left(rt, &bus, answer, stop)
     }
 
-    /// Saves the chip to `vault`. Asserts that the error, if any, is 12 (stopped).
     pub fn back_up<V: Vault>(
         &self,
         rt: &impl Abort,
@@ -170,8 +163,7 @@ impl Bench {
         self.left(rt, &bus, answer, stop)
     }
 
-    /// Restores without a stop if the vault is sealed. Asserts that the chip is as before the session then. `number`
-    /// identifies the run.
+    /// Restores if the vault is sealed. Asserts in both cases that the chip is as before the session.
     pub fn assert_restored(&self, rt: &impl Abort, chip: SimBus, vault: &MemVault, number: u64) {
         if !vault.is_sealed() {
             self.assert_as_before(rt, &chip, number);
@@ -182,8 +174,7 @@ impl Bench {
         self.assert_as_before(rt, &left.chip, number);
     }
 
-    /// Asserts that the chip has the same contents and non-volatile status bits as before the session. `number`
-    /// identifies the run.
+    /// Asserts that the chip has the contents and the non-volatile status bits from before the session.
     pub fn assert_as_before(&self, rt: &impl Abort, chip: &SimBus, number: u64) {
         let [one, two] = chip.status();
         assert_held(rt, chip.bytes() == self.before.as_slice(), number);
@@ -236,7 +227,6 @@ fn chip_of(rt: &impl Abort, config: Config, bytes: Vec<u8>, status: [u8; 2]) -> 
     SimBus::new(config, bytes, status, Start::IDLE.delays).expect(rt, "a size")
 }
 
-// What the layers are opened for. The program gives them other rules for each.
 #[derive(Clone, Copy)]
 enum Job {
     Change,
@@ -265,7 +255,7 @@ fn connected(rt: &impl Abort, port: SimPort) -> BatchingBus<SimPort> {
     let programmer = AnyProgrammer::identify(&mut link, None)
         .ok()
         .expect(rt, "a programmer");
-    // `BatchingBus::emulated` requires these.
+    // `BatchingBus::emulated` requires what these assertions check.
     assert!(rt; link.port().is_idle());
     assert!(rt; programmer.serial_buffer() <= SERIAL_BUFFER);
     BatchingBus::emulated(link, programmer)

@@ -1,6 +1,5 @@
-//! Runs over the ten layers of `flashnor-serprog` that are stopped twice: at each stop of a session that leaves its
-//! vault sealed, or of a restore, each stop of the restore after it is played, too. Then a restore without a stop
-//! follows.
+//! Runs over the ten layers of `flashnor-serprog` that are stopped twice: a session or a restore at each of its stops,
+//! and then the next restore at each of its stops. A restore without a stop follows.
 use crate::held::{assert_held, assert_that};
 use crate::row::Row;
 use crate::serprog_layers::{Bench, Left, MOST_CALLS, Stop, Undo, stops_at};
@@ -10,17 +9,14 @@ use nor_journal::MemVault;
 use std::alloc::Global;
 use std::process::Abort;
 
-// Has one included sector, which is erased and programmed.
+// The row has one included sector, which its session erases and programs.
 const ROW: Row = Row::ABitOf64BytesRises;
 
-// A restore identifies the chip with 7 transactions, and reads the sector. It sends no other frame if the session
-// changed nothing.
+// The least number of frames of a restore: seven transactions identify the chip, and one reads the sector.
 const FRAMES_OF_A_RESTORE: u64 = 8;
 
-// The first of two runs that are stopped.
 #[derive(Clone, Copy)]
 enum First<'a> {
-    // The session of the row.
     Change,
     // A restore of this chip from a sealed vault.
     Restore(&'a SimBus, &'a MemVault),
@@ -33,8 +29,7 @@ struct Twice {
     second: u64,
 }
 
-// Stops the restore after a stopped run at each call of the port. Returns the number of stops, or 0 if the vault isn't
-// sealed, or the run ended.
+// Returns the number of stops of the restore after a stopped run, or 0 if the run ended or its vault isn't sealed.
 fn stop_next(
     rt: &impl Abort,
     alloc: Global,
@@ -108,7 +103,6 @@ fn add(rt: &impl Abort, twice: Twice, (stopped, second): (Stopped, u64), calls: 
     }
 }
 
-// Stops the first run at one call of the port, and adds its stops and those of the restores after it to `twice`.
 fn stop_twice_at(
     rt: &impl Abort,
     alloc: Global,
@@ -145,7 +139,7 @@ fn stop_twice(rt: &impl Abort, alloc: Global, bench: &Bench, first: First<'_>) -
     twice
 }
 
-// The session has 8 transactions before the seal, and 7 after it, of which 2 are write enables.
+// The session sends 8 transactions before the seal and 7 after it, of which 2 are write enables.
 #[test]
 fn each_stop_of_a_session_with_each_stop_of_its_restore(rt: HostRuntime) {
     let alloc = rt.alloc();

@@ -1,10 +1,6 @@
-//! Sessions, restores, rewrites and backups over the ten layers of `flashnor-serprog`. The port fails at each of its
-//! calls in turn, and a restore without a stop follows. If the call sends a frame, the chip receives
-//! none, four or all bytes of it.
-//!
-//! The tests assert least numbers of stops, which follow from the transactions of the row. Each transaction needs a
-//! frame of its own, except a write enable, which may be sent together with the page program after it. A frame has four
-//! stops or more: three when it is sent, and one for each call that receives a part of its reply.
+//! Sessions, restores, rewrites and backups over the ten layers of `flashnor-serprog`, whose port fails at each call in
+//! turn. Each transaction is sent by a call of its own, except a write enable, which may be sent together with the page
+//! program after it.
 use crate::held::{assert_held, assert_that};
 use crate::row::Row;
 use crate::serprog_layers::{Bench, Left, MOST_CALLS, Stop, Undo, stops_at};
@@ -13,51 +9,44 @@ use nor_journal::MemVault;
 use std::alloc::Global;
 use std::process::Abort;
 
-/// The stops of a frame, at least.
+/// The least number of stops of a frame: three when it is sent, and at least one when its reply is received.
 pub const STOPS_OF_A_FRAME: u64 = 4;
 
 /// A run over the layers that is stopped.
 #[derive(Clone, Copy)]
 pub enum Run<'a> {
-    /// The session of the row.
     Change,
-    /// A backup of the row's chip.
     BackUp,
     /// A restore or a rewrite of this chip from a sealed vault.
     Undo(Undo, &'a SimBus, &'a MemVault),
 }
 
-/// What one run left.
+/// The result of one run over the layers.
 #[derive(Clone, Copy)]
 pub struct Stopped {
     pub is_sealed: bool,
-    /// True if the run was not stopped.
     pub ended: bool,
     /// True if the call that failed sends a frame.
     pub tears: bool,
 }
 
-/// The stops that were played.
+/// The numbers of stops that left the vault unsealed, and of those that left it sealed.
 #[derive(Clone, Copy)]
 pub struct Played {
-    /// The number of stops that left the vault unsealed.
     pub unsealed: u64,
-    /// The number of stops that left the vault sealed.
     pub sealed: u64,
     /// True if the last run was not stopped.
     pub ended: bool,
 }
 
 impl Played {
-    /// No stop.
     pub const NONE: Played = Played {
         unsealed: 0,
         sealed: 0,
         ended: false,
     };
 
-    /// Adds a run with this number of calls. Asserts that its vault is sealed if the run ended, or if a run with fewer
-    /// calls left its vault sealed.
+    /// Adds a run. Asserts that its vault is sealed if the run ended, or if an earlier stop left the vault sealed.
     pub fn add(self, rt: &impl Abort, run: Stopped, calls: u64) -> Played {
         let Stopped {
             is_sealed,
@@ -130,7 +119,6 @@ fn stop_run(rt: &impl Abort, alloc: Global, bench: &Bench, run: Run<'_>, stop: S
     }
 }
 
-// Stops the run at one call of the port, and adds its stops to `played`.
 fn stop_at(
     rt: &impl Abort,
     alloc: Global,
@@ -188,22 +176,21 @@ fn stop_undos(rt: &impl Abort, alloc: Global, row: Row, undo: Undo, frames: u64)
     played
 }
 
-// 23 transactions before the seal, and 7 after it, of which 2 are write enables.
+// The session sends 23 transactions before the seal and 7 after it, of which 2 are write enables.
 #[test]
 fn each_call_of_the_port_fails_in_a_session_over_all_layers(rt: HostRuntime) {
     let played = stop_sessions(&rt, rt.alloc(), Row::ABitRises, (23, 5));
     assert_that!(&rt; played.unsealed > played.sealed);
 }
 
-// 8 transactions before the seal, and 7 after it, of which 2 are write enables. The page program has enough bytes to be
-// sent together with its write enable.
+// The page program has enough bytes to be sent together with its write enable.
 #[test]
 fn each_call_of_the_port_fails_in_a_session_of_one_sector(rt: HostRuntime) {
     let played = stop_sessions(&rt, rt.alloc(), Row::ABitOf64BytesRises, (8, 5));
     assert_that!(&rt; played.unsealed != 0);
 }
 
-// 5 transactions before the seal, and 11 after it, of which 3 are write enables. The protection bits are written twice.
+// The session sends 5 transactions before the seal and 11 after it, of which 3 are write enables.
 #[test]
 fn each_call_of_the_port_fails_in_a_session_of_a_protected_sector(rt: HostRuntime) {
     let row = Row::AGuardedByteOfASectorIsProgrammed;
@@ -211,9 +198,7 @@ fn each_call_of_the_port_fails_in_a_session_of_a_protected_sector(rt: HostRuntim
     assert_that!(&rt; played.unsealed != 0);
 }
 
-// A restore or rewrite of a TINY64 identifies the chip with 7 transactions, programs a page, polls, and verifies the
-// sector: 10 frames or more. One of a W25Q64FV identifies the chip with 4, erases a sector and writes the status twice,
-// each with a poll after it, and verifies the sector: 11 frames or more.
+// Each row has a least number of frames of its restore and of its rewrite.
 const UNDONE: [(Row, u64); 3] = [
     (Row::ABitRises, 10),
     (Row::ABitOf64BytesRises, 10),

@@ -11,8 +11,7 @@ use std::alloc::Global;
 use std::process::Abort;
 use std::{fmt, mem};
 
-// The greatest number of bytes of an incomplete frame (`MOST_BEGUN`), and of reply bytes that weren't received yet
-// (`MOST_PENDING`): a sector, with stale bytes before it.
+// The most bytes of an incomplete frame, and of replies that weren't received yet (a sector after stale bytes).
 const MOST_BEGUN: usize = 300;
 
 const MOST_PENDING: usize = 5000;
@@ -66,7 +65,6 @@ pub struct Model {
     pub fault_at: u32,
     pub fault: Option<Fault>,
     pub operations: u32,
-    /// The number of bytes that were sent to the model.
     pub received: u32,
     begun: ArrayVec<u8, MOST_BEGUN>,
     pub pending: ArrayVec<u8, MOST_PENDING>,
@@ -74,7 +72,7 @@ pub struct Model {
 }
 
 impl Model {
-    /// Returns a programmer without faults, with an erased chip of 64 KiB. Its bus carries out `u64::MAX` transactions.
+    /// Returns a programmer without faults, with an erased chip of 64 KiB that carries out `u64::MAX` transactions.
     pub fn new(rt: &impl Abort, alloc: Global) -> Model {
         let idle = Delays { now: 0, each: 0 };
         let erased = vec![in alloc; 0xFF; 65536].expect(rt, "memory");
@@ -162,8 +160,7 @@ impl Model {
         self.reply(&answer);
     }
 
-    // Carries out an O_SPIOP command. Replies NAK, and makes no transaction, if the fault `Nak` occurs or the command
-    // exceeds a limit of the programmer.
+    // Carries out an O_SPIOP command. Replies NAK instead if the fault is `Nak`, or if the command exceeds a limit.
     fn operate(&mut self, out: &[u8], replies: u16) {
         let fault = if self.operations == self.fault_at {
             self.fault

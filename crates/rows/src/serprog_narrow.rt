@@ -9,8 +9,7 @@ use nor_serprog::{AnyProgrammer, BatchingBus, Link};
 use std::alloc::Global;
 use std::process::Abort;
 
-// Returns a programmer that sends and reads at most `limit` bytes in a transaction. Its chip shows BUSY in two polls
-// after each operation.
+// Returns a programmer that sends and reads at most `limit` bytes in a transaction.
 fn narrow(rt: &impl Abort, alloc: Global, bytes: Vec<u8>, limit: u16) -> Model {
     let delays = Delays { now: 0, each: 2 };
     let mut model = Model::new(rt, alloc);
@@ -32,7 +31,6 @@ fn open(rt: &impl Abort, model: Model) -> SplittingBus<BatchingBus<Model>> {
     SplittingBus::new(BatchingBus::over(link, programmer), writes, reads)
 }
 
-// Returns a page program of 256 different bytes at 1100h.
 fn page_program() -> [u8; 260] {
     let mut program = [0; 260];
     for (index, byte) in program.iter_mut().enumerate() {
@@ -49,8 +47,7 @@ fn are_erased(bytes: Option<&[u8]>) -> bool {
     bytes.is_some_and(|bytes| bytes.iter().all(|byte| *byte == 0xFF))
 }
 
-// A part has at most `limit - 4` data bytes, so a page needs 256, 5 or 2 parts. There are five operations for each
-// part: a write enable, the part, and three polls.
+// A part has at most `limit - 4` data bytes and takes five operations: a write enable, the part, and three polls.
 #[test]
 fn a_page_is_programmed_in_parts(rt: HostRuntime) {
     for (limit, reads, operations) in [
@@ -80,7 +77,6 @@ fn a_page_is_programmed_in_parts(rt: HostRuntime) {
     }
 }
 
-// Returns 65,536 bytes of which each differs from its neighbours.
 fn pattern(rt: &impl Abort, alloc: Global) -> Vec<u8> {
     let mut bytes = vec![in alloc; 0; 65536].expect(rt, "memory");
     for (address, byte) in bytes.iter_mut().enumerate() {
@@ -171,8 +167,7 @@ fn assert_limit(rt: &impl Abort, alloc: Global, model: Model, wanted: &str) {
     assert_that!(rt; limit.as_str() == wanted);
 }
 
-// A transaction must be able to send five bytes: opcode, address and one data byte. Without Q_WRNMAXLEN the limit is
-// the serial buffer, which also has to hold the 7 other bytes of the frame.
+// Without Q_WRNMAXLEN the limit is the size of the serial buffer, minus 7 for the other bytes of the frame.
 #[test]
 fn a_programmer_with_small_limits_is_identified(rt: HostRuntime) {
     let alloc = rt.alloc();

@@ -31,8 +31,7 @@ fn open(rt: &impl Abort, port: SimPort) -> SerprogBus<SimPort> {
     SerprogBus::new(link, programmer)
 }
 
-// After the handshake, `calls` calls of the port succeed. If sending a frame fails, the chip receives the first `cut`
-// bytes of the frame's transaction.
+// Returns a bus whose port fails `calls` calls after the handshake. If sending fails, the chip receives `cut` bytes.
 fn bus_to(
     rt: &impl Abort,
     alloc: Global,
@@ -65,8 +64,7 @@ fn handshake(rt: &impl Abort, alloc: Global) -> u64 {
     AMPLE.saturating_sub(bus.port().left())
 }
 
-// Returns how many bytes a simulated bus (`SimBus`) must send at its stop to match this port: `cut` if sending the
-// frame fails, and all if only the reply is lost.
+// Returns how many bytes a `SimBus` must send at its stop to match this port: all bytes if only the reply is lost.
 fn torn(calls: u64, cut: u32) -> u32 {
     if calls % CALLS == 0 { cut } else { u32::MAX }
 }
@@ -148,8 +146,7 @@ fn each_call_of_the_port_fails_in_a_session(rt: HostRuntime) {
     }
 }
 
-// The start, the stop of the session after its erase, and the length of the restore: 13, and on the slow chip four more
-// polls that show BUSY.
+// The start, the number of transactions after which the session is stopped, and the length of the restore.
 const RESTORES: [(Start, u64, u64); 2] = [(Start::IDLE, 25, 13), (Start::SLOW, 28, 17)];
 
 #[test]
@@ -219,8 +216,7 @@ fn refusals_change_nothing(rt: HostRuntime) {
     assert_same(&rt, bus.port().chip(), &before, 1);
 }
 
-// The power fails at a stop, after the opcode and the address or after the whole transaction. The bytes of the page or
-// erase block in progress become 00h or FFh.
+// At a stop the power fails, and the bytes of the page or erase block in progress become 00h or FFh.
 #[test]
 fn each_cut_of_the_port_may_cost_the_power(rt: HostRuntime) {
     for (row, start, length) in SESSIONS {

@@ -58,8 +58,7 @@ fn always_busy<'a>(
     )
 }
 
-// Each row has a command, its typical duration as `Paced` knows it, and the pause before the third poll after it, in
-// microseconds. A chip erase (C7h) counts as an erase of 64 KiB, and the last command begins no operation.
+// Each row has a command, its typical duration, and the pause before the third poll after it, both in microseconds.
 const COMMANDS: [(&[u8], u64, u64); 7] = [
     (&[0x02, 0, 0, 0, 0], 700, 100),
     (&[0x01, 0, 0], 10_000, 625),
@@ -70,9 +69,8 @@ const COMMANDS: [(&[u8], u64, u64); 7] = [
     (&[0x06], 0, 100),
 ];
 
-// The chip shows BUSY in 600 polls. Polls 1 and 2 have no pause, and polls 3 to 16 a pause of 0.1 ms each. Then come 16
-// polls with each of the pauses 0.2, 0.4, 0.8, 1.6 and 3.2 ms, and polls 97 to 601 with 6.25 ms. The poll after these
-// has no pause.
+// The chip shows BUSY in 600 polls. Polls 3 to 16 have a pause of 0.1 ms each. Then come 16 polls with each of the
+// pauses 0.2, 0.4, 0.8, 1.6 and 3.2 ms, and polls 97 to 601 with 6.25 ms.
 #[test]
 fn polls_of_a_busy_chip_are_paced(rt: HostRuntime) {
     let now = Cell::new(0);
@@ -95,8 +93,8 @@ fn polls_of_a_busy_chip_are_paced(rt: HostRuntime) {
     assert_that!(&rt; now.get() == 14 * 100 + 16 * 6200 + 505 * 6250);
 }
 
-// The pause before the second poll is the typical duration, minus the time since the command. If the clock fails, it is
-// the whole duration. Only after a page program, the first poll has the same pause. A poll has one or two reply bytes.
+// The second poll is sent when the typical duration has passed since the command or, if the clock can't be read, since
+// the first poll. Only after a page program, this duration also precedes the first poll.
 #[test]
 fn the_second_poll_comes_after_the_typical_time(rt: HostRuntime) {
     for (command, typical, third) in COMMANDS {
@@ -123,7 +121,6 @@ fn the_second_poll_comes_after_the_typical_time(rt: HostRuntime) {
     }
 }
 
-// If all 65,536 polls of a wait show BUSY, the pauses add up to 400 to 410 s.
 #[test]
 fn a_wait_without_end_takes_400_seconds(rt: HostRuntime) {
     for (command, _, _) in COMMANDS {
@@ -160,9 +157,8 @@ fn readings_that_differ_stop_the_bus(rt: HostRuntime) {
     }
 }
 
-// A poll is four transactions of the bus inside: a poll, the ID, a poll and the ID. In the second row the chip is lost
-// at the first ID. In the third row the chip seems to be busy from the second poll on, so an ID that was read after it
-// would be FFFFFFh. The polls differ, and the chip doesn't count as lost.
+// A poll is four transactions of the inner bus: a poll, the ID, a poll and the ID. A chip that seems to be busy in the
+// second poll doesn't count as lost.
 #[test]
 fn a_busy_chip_is_not_lost(rt: HostRuntime) {
     let id = [0xFE, 0x10, 0x10];

@@ -7,7 +7,7 @@ use nor_session::{Report, session};
 use std::alloc::Global;
 use std::process::Abort;
 
-// The chip is FFh, except for `cleared` bytes 00h from address 8000h on.
+// Runs a session whose image is all FFh, on a chip of FFh except for `cleared` bytes 00h from address 8000h on.
 fn blank(
     rt: &impl Abort,
     alloc: Global,
@@ -28,8 +28,8 @@ fn blank(
     session(&mut bus, &mut vault, &mut image, &request).expect(rt, "the session ends")
 }
 
-// Each row says whether the chip has erases of 32 and 64 KiB, and has the numbers of erases for sectors 8 to 39 and of
-// transactions: three for each erase, seven to identify the chip, 64 to scan it, and 32 to verify the sectors.
+// Each row says whether the chip has erases of 32 and 64 KiB, and has the numbers of erases and transactions. An erase
+// takes three transactions. Identification, scan, and verification of sectors 8 to 39 take 7, 64 and 32.
 const UNITS: [(bool, bool, u32, u64); 4] = [
     (false, true, 17, 154),
     (true, false, 4, 115),
@@ -49,7 +49,7 @@ fn sectors_are_erased_by_the_largest_units(rt: HostRuntime) {
     }
 }
 
-// 23 transactions, and 65,535 polls that show BUSY. The chip's operation clears the write enable latch at its end.
+// The session sends 65,535 polls that show BUSY, and 23 other transactions.
 #[test]
 fn a_busy_chip_is_waited_for(rt: HostRuntime) {
     let busy = Delays {

@@ -23,7 +23,6 @@ const SETS: &[(&[(u32, u32)], Option<&[(u32, u32)]>)] = &[
     (&[(1, u32::MAX), (0, 0)], Some(&[(0, u32::MAX)])),
 ];
 
-// Returns the set of these spans, or `None` if `Ranges::of` rejects the list or it has more than eight spans.
 fn set_of(ends: &[(u32, u32)]) -> Option<Ranges> {
     let mut spans = [Span::default(); 8];
     for (slot, (first, last)) in spans.iter_mut().zip(ends) {

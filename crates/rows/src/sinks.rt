@@ -28,8 +28,7 @@ const DIGEST: [u8; 32] = [
     0x83, 0xD5, 0xFA, 0x75, 0xB9, 0xC2, 0x79, 0x2D, 0x91, 0x66, 0x46, 0xFB, 0x18, 0x8C, 0x93, 0x13,
 ];
 
-/// Writes a journal into a fresh vault: with the ID, status and size of `chip`, the unique ID 0, and sector 0, whose
-/// bytes are FFh.
+/// Writes a journal with the ID, status and size of `chip`, the unique ID 0, and sector 0, whose bytes are FFh.
 fn save<V: Vault>(vault: &mut V, chip: &Journal<'_>) -> Result<(), VaultFault>
     requires { IsFresh (V.state vault.old) }
 {
@@ -42,7 +41,7 @@ fn is_whole(bytes: &[u8]) -> bool {
     bytes.len() == 4161 && bytes.ends_with(&DIGEST) && Journal::read(bytes).is_ok()
 }
 
-/// This test fails for an implementation that refuses every call.
+/// This test fails for a `MemVault` that refuses every call.
 #[test]
 fn mem_vault_refuses(rt: HostRuntime) {
     let mut vault = MemVault::new(rt.alloc());
@@ -58,8 +57,7 @@ fn mem_vault_refuses(rt: HostRuntime) {
     assert_that!(&rt; vault.bytes() == b"journal".as_slice());
 }
 
-// The calls for the header, the record, the end mark, the digest and the seal. Each row has the number of the call, and
-// the position and length of its piece.
+// Each row has the number of a call, and the position and length of its piece. Call 5 is the seal.
 const CALLS: [(u64, usize, usize); 5] = [
     (1, 0, 25),
     (2, 25, 4100),
@@ -68,9 +66,8 @@ const CALLS: [(u64, usize, usize); 5] = [
     (5, 4161, 0),
 ];
 
-// Asserts the result of `save` into a vault that refuses a call. `broken` is the number of this call, and how many
-// bytes of its piece the vault keeps. `told` is the result, the number of refusals, and whether the vault is sealed.
-// `beginning` is what the vault contains.
+// Asserts what `save` leaves in a vault that refuses call `broken.0` and keeps at most `broken.1` bytes of its piece.
+// `told` is the result, the number of refusals, and whether the vault is sealed. `beginning` is the vault's contents.
 fn assert_broken(
     rt: &impl Abort,
     alloc: Global,
@@ -180,20 +177,19 @@ impl OpenFile for SmallFile {
     }
 }
 
-// Each row has the greatest number of bytes that a write accepts, the number of writes that succeed, whether `sync_all`
-// succeeds, the expected result, and the expected length of the file.
+// Each row has `most`, `writes` and `syncs` of a `SmallFile`, the expected result, and the expected length of the file.
 const FILES: [(usize, u32, bool, Result<(), VaultFault>, usize); 9] = [
     (1, u32::MAX, true, Ok(()), 4161),
     (4096, u32::MAX, true, Ok(()), 4161),
     (usize::MAX, 4, true, Ok(()), 4161),
-    // In the first row no write succeeds. In the second row each write accepts no bytes.
+    // In the next row no write succeeds, and in the row after it each write accepts no bytes.
     (2, 0, true, Err(VaultFault { kept: 0 }), 0),
     (0, u32::MAX, true, Err(VaultFault { kept: 0 }), 0),
     // The second write of the first piece fails.
     (2, 1, true, Err(VaultFault { kept: 2 }), 2),
     // The third write fails, inside the record.
     (2050, 2, true, Err(VaultFault { kept: 2050 }), 2075),
-    // In the first row the write of the digest fails, in the second row the sync.
+    // In the next row the write of the digest fails, and in the last row the sync.
     (usize::MAX, 3, true, Err(VaultFault { kept: 0 }), 4129),
     (usize::MAX, 4, false, Err(VaultFault { kept: 0 }), 4161),
 ];
@@ -210,7 +206,6 @@ fn saved(chip: &Journal<'_>, file: SmallFile) -> (Result<(), VaultFault>, usize,
     )
 }
 
-// A write that accepts no bytes is an error, too. After a failed sync 0 bytes count as kept.
 #[test]
 fn files_that_refuse(rt: HostRuntime) {
     let chip = Journal::read(&EMPTY).expect(&rt, "a journal");

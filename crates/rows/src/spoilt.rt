@@ -9,8 +9,7 @@ use std::alloc::Global;
 use std::process::Abort;
 
 /// Returns a bound on the transactions of a session on `sectors` sectors, or of a restore of this number of saved
-/// sectors: 65,542 to identify the chip, three reads, an erase and sixteen programs for each sector, and two status
-/// writes. Each operation is a write enable, the command and at most 65,536 polls.
+/// sectors. The terms are the identification, the reads, and the operations with at most 65,538 transactions each.
 pub fn most(sectors: u32) -> u64 {
     let sectors = u64::from(sectors);
     65_542 + 3 * sectors + 65_538 * (17 * sectors + 2)
@@ -32,7 +31,7 @@ pub fn spoilt(mut bus: SimBus, spoil: Spoil) -> SpoiltBus<SimBus> {
     SpoiltBus::new(bus, spoil)
 }
 
-/// The error of a call on a faulty bus, the number of its transactions, and what it left.
+/// The error of a call on a faulty bus, the number of its transactions, and the chip and vault that it left.
 #[derive(Drop)]
 pub struct Lied {
     pub refusal: Option<Refusal>,
@@ -56,8 +55,7 @@ impl Lied {
         Lied { refusal, sent, cut }
     }
 
-    /// Runs a restore on a bus with this fault, from the journal of `cut`. Asserts that it sends at most `most`
-    /// transactions.
+    /// Runs a restore of `cut` on a bus with this fault. Asserts that it sends at most `most` transactions.
     pub fn restore(rt: &impl Abort, cut: Cut, spoil: Spoil) -> Lied {
         let Cut { bus, vault } = cut;
         let mut bus = spoilt(bus, spoil);
@@ -71,8 +69,7 @@ impl Lied {
         Lied { refusal, sent, cut }
     }
 
-    /// Restores without the fault if the vault is sealed. Asserts that the chip is then as before the session, even if
-    /// the vault isn't sealed.
+    /// Restores without the fault if the vault is sealed. Asserts in both cases that the chip is as before the session.
     pub fn assert_undone(self, rt: &impl Abort, alloc: Global, row: Row) {
         let Lied { mut cut, .. } = self;
         if cut.vault.is_sealed() {

@@ -14,21 +14,18 @@ use nor_session::{Refusal, Report, Request, What, restore, session};
 use std::alloc::Global;
 use std::process::Abort;
 
-/// A session on a chip that is erased, except for a byte 00h in each of some sectors. The image is FFh, except for four
-/// bytes.
+/// A session on a chip that is erased, except for a byte 00h in some sectors. The image is FFh, except for four bytes.
 #[derive(Clone, Copy)]
 pub enum Job {
-    /// Two blocks of 64 KiB. The session erases the last sector of the first block and the second block, and writes the
-    /// four bytes into the two sectors before.
+    /// A chip of two blocks of 64 KiB. The session erases the second block and the sector before it.
     OnTwoBlocks,
-    /// A W25Q64FV whose last 128 KiB are protected. The session lifts the protection, and writes two bytes into each of
-    /// the first two protected sectors. It erases the second of these sectors.
+    /// A W25Q64FV whose last 128 KiB are protected. The session lifts the protection and changes two of these sectors.
     OnW25q64fv,
 }
 
 fn two_blocks(rt: &impl Abort) -> Config {
     let mut sfdp = TINY64_SFDP;
-    // the size in bits, minus one (JESD216): 2^20 - 1
+    // The size in bits, minus one (JESD216): 2^20 - 1.
     sfdp[0x16] = 0x0F;
     Config::new([0xFE, 0x10, 0x11], 131_072, true, true, false, &sfdp).expect(rt, "a size")
 }
@@ -55,7 +52,7 @@ impl Job {
         }
     }
 
-    // The address of the first byte 00h, and the number of successive sectors that have one.
+    // Returns the address of the first byte 00h, and the number of successive sectors that have such a byte.
     fn cleared(self) -> (usize, usize) {
         match self {
             Job::OnTwoBlocks => (0xF010, 17),
@@ -70,7 +67,6 @@ impl Job {
         }
     }
 
-    // The line of a layout whose region `part` is included, if not the whole chip.
     fn part(self) -> Option<&'static [u8]> {
         match self {
             Job::OnTwoBlocks => None,
@@ -109,7 +105,6 @@ impl Job {
     }
 }
 
-/// A call that sends transactions.
 #[derive(Clone, Copy, PartialEq, Eq)]
 pub enum Call {
     Probe,
@@ -120,7 +115,6 @@ pub enum Call {
     Restore,
 }
 
-/// A job, and the arguments of its calls.
 #[derive(Drop)]
 pub struct Stage {
     alloc: Global,
@@ -225,7 +219,7 @@ impl Stage {
         length
     }
 
-    /// Runs a call once for each of its waits, and shows BUSY in all 65,536 polls of this wait. Asserts that the call
+    /// Runs a call for each of its waits, with BUSY set in all 65,536 polls of this wait. Asserts that the call
     /// returns a timeout and sends nothing more. The stage must have no delays. Returns the number of waits.
     pub fn time_out_each(&self, rt: &impl Abort, call: Call) -> u64 {
         let (_, length) = self.right(rt, call);
@@ -261,9 +255,8 @@ impl Stage {
     }
 }
 
-// Returns the expected error and number of transactions of a call if the reply of transaction `n`, counted from 0, is
-// spoilt, or `None` if `spoil_each` doesn't check it. `right` contains both without a fault, and `met` what transaction
-// `n` sent.
+// Returns the expected error and number of transactions of a call if the reply of transaction `n` is spoilt, or `None`
+// if `spoil_each` doesn't check it. `right` contains both without a fault, and `met` what transaction `n` sent.
 fn expected_of_spoilt(
     call: Call,
     touched: u64,

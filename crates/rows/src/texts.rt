@@ -28,8 +28,7 @@ fn fault_of(told: Option<(usize, LineFault)>) -> Option<LayoutFault> {
     in_line(line, fault)
 }
 
-// Each row has the bytes before a million equal bytes, the repeated byte, the bytes after them, and the expected fault
-// with its line.
+// Each row has the bytes before a million equal bytes, that byte, the bytes after them, and the fault with its line.
 const LAYOUTS: &[(&[u8], u8, &[u8], Option<(usize, LineFault)>)] = &[
     (b"", b':', b"", Some((1, LineFault::Line))),
     (b"", b' ', b"", Some((1, LineFault::Line))),
@@ -53,8 +52,7 @@ fn layouts_of_a_million_bytes(rt: HostRuntime) {
     }
 }
 
-// A name of one byte may be any byte from 21h to 7Eh, except comma and colon. An address of one byte must be a
-// hexadecimal digit. If the byte is a line feed, the name is empty, or line 2 has no start address.
+// If the byte is a line feed, the name in `name` is empty, and line 2 of `address` has no start address.
 #[test]
 fn a_name_and_an_address_of_each_byte(rt: HostRuntime) {
     for byte in 0..=255 {
@@ -101,8 +99,7 @@ fn each_name_of_two_bytes(rt: HostRuntime) {
 const HEAD: &[u8; 25] = b"NORUNDO2\xFE\x10\x10\0\0\0\0\0\0\0\0\0\0\0\0\x01\0";
 
 // Each row has a prefix, a byte that follows it a million times, and the expected fault. After a header, 00h makes two
-// records of sector 0, FFh makes an end mark with more bytes after it than a digest, and 10h makes a record of a sector
-// that the chip lacks.
+// records of sector 0, and 10h a record of a sector that the chip lacks.
 const JOURNALS: &[(&[u8], u8, JournalFault)] = &[
     (b"", 0x00, JournalFault::Magic),
     (b"", b'N', JournalFault::Magic),
@@ -132,9 +129,7 @@ fn journal_of_a_sector(rt: &impl Abort, alloc: Global) -> Vec<u8> {
     cut.vault.bytes().to_vec(alloc).expect(rt, "memory")
 }
 
-// Returns the fault if the lowest bit of the byte at `place` is inverted. At 25 sector 0 becomes sector 1, which only
-// the digest detects. In the other bytes of this number, or in the end mark, the result is a sector that the chip
-// lacks.
+// Returns the fault of a journal in which the lowest bit of the byte at `place` is inverted.
 const fn fault_of_change(place: usize) -> JournalFault {
     match place {
         0..=7 => JournalFault::Magic,

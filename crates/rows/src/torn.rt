@@ -1,21 +1,16 @@
-//! Sessions and restores that are stopped before, inside or after a transaction, on a chip that keeps its power or
-//! loses it. Each test asserts how many sessions or restores it stopped.
+//! Stops of sessions and restores before, inside or after a transaction, on chips that keep their power or lose it.
 use crate::held::assert_that;
 use crate::row::{Row, Start};
 use crate::runs::Runs;
 use std::alloc::Global;
 use std::process::Abort;
 
-// The numbers of bytes that a stop still sends, for rows that program at most two bytes of a page: such a program sends
-// six bytes, and any other transaction at most five.
+// The numbers of bytes that a stop still sends, for rows whose transactions send at most six bytes.
 const SHORT: [u32; 7] = [0, 1, 2, 3, 4, 5, 6];
 
-// The numbers of bytes that a stop still sends, for the row that programs whole pages. Such a program sends 260 bytes,
-// of which four precede the data. Testing every number would take minutes.
+// The numbers of bytes that a stop still sends, for the row that programs whole pages with transactions of 260 bytes.
 const LONG: [u32; 10] = [0, 1, 2, 3, 4, 5, 6, 132, 259, 260];
 
-// Two starts with a chip that keeps its power, the second one busy, and three with a chip that loses it: an interrupted
-// erase or program leaves 00h, 5Ah or FFh.
 fn starts() -> [Start; 5] {
     [
         Start::IDLE,
@@ -26,8 +21,7 @@ fn starts() -> [Start; 5] {
     ]
 }
 
-// The starts for the rows with protection, which take longest. With an even fill an interrupted status write is undone,
-// with an odd fill it is completed.
+// With an even fill an interrupted status write is undone, with an odd fill it is completed.
 fn few_starts() -> [Start; 3] {
     [Start::IDLE, Start::losing(0x5A), Start::losing(0xFF)]
 }
@@ -96,9 +90,8 @@ fn stop_all(rt: &impl Abort, alloc: Global, row: Row, counts: &[u32]) -> Stops {
     stops
 }
 
-// The numbers of stops on chips that keep their power, and on chips that lose it. On an idle chip the sessions send 28,
-// 30, 28, 31, 38 and 42 transactions. On the other chips each operation has two more polls, and on the slow chip the
-// first wait has three more.
+// The numbers of stops on chips that keep their power, and on chips that lose it. On each chip except the idle one an
+// operation has two more polls, and on the slow chip the first wait has three more.
 const SESSIONS: [(Row, u64, u64); 6] = [
     (Row::AByteIsProgrammed, 7 * 61, 7 * 3 * 30),
     (Row::ABitRises, 7 * 67, 7 * 3 * 34),
@@ -116,8 +109,7 @@ fn each_cut_of_a_session(rt: HostRuntime) {
     }
 }
 
-// The session has 57 transactions with 16 operations on an idle chip, 3 + 2 * 16 more on the slow chip (92), and 2 * 16
-// more on a chip that loses its power (89).
+// The session has 57 transactions on an idle chip, 92 on the slow chip, and 89 on a chip that loses its power.
 const SESSIONS_OF_PAGES: Stops = Stops {
     kept: 10 * 149,
     lost: 10 * 3 * 89,
@@ -130,8 +122,7 @@ fn each_cut_of_a_session_that_programs_pages(rt: HostRuntime) {
     assert_that!(&rt; stops == SESSIONS_OF_PAGES);
 }
 
-// The session has 112 transactions with three operations, and is sealed after 71. The first stop is three transactions
-// before the seal. On a chip that loses its power each operation has two more polls.
+// The first stop is three transactions before the seal. If the chip loses its power, each operation has two more polls.
 const SESSIONS_OF_LARGE_ERASES: Stops = Stops {
     kept: 7 * 44,
     lost: 7 * 50,
@@ -145,14 +136,13 @@ fn each_cut_of_a_session_with_large_erases(rt: HostRuntime) {
     assert_that!(&rt; stops == SESSIONS_OF_LARGE_ERASES);
 }
 
-// From three transactions before the seal on: 8 stops, and on a chip that loses its power 10, with two more polls.
+// There are 8 stops from three transactions before the seal on, and 10 on a chip that loses its power.
 const SESSIONS_BELOW_THE_RANGE: Stops = Stops {
     kept: 7 * 8,
     lost: 7 * 2 * 10,
 };
 
-// From three transactions before the seal on: 14 stops, and on a chip that loses its power 20, with two more polls
-// after each of the two status writes and the program.
+// There are 14 stops from three transactions before the seal on, and 20 on a chip that loses its power.
 const SESSIONS_IN_THE_RANGE: Stops = Stops {
     kept: 7 * 14,
     lost: 7 * 2 * 20,
@@ -169,15 +159,8 @@ fn each_cut_of_a_session_on_a_protected_chip(rt: HostRuntime) {
 }
 
 // The numbers of stopped restores on chips that keep their power, and on chips that lose it. Each restore is stopped at
-// each of its transactions, so these are the sums of the lengths. A stop of a restore sends the same number of bytes (0
-// to 6) as the stop of its session. For the first row the numbers were also calculated by hand:
-//
-// - Idle chip: of five stops after the seal, three leave the byte (a restore of 8 transactions) and two leave it
-//   programmed (12), which makes 48. With five or six bytes the third stop programs it, too: 5 * 48 + 2 * 52 = 344.
-// - Slow chip: two polls show BUSY after the program, and the next restore waits for those that remain. A stop that
-//   sends at least one byte of a poll uses this poll up. 83 + 4 * 81 + 2 * 89 = 585.
-// - Loss of power: a restore that erases has 14 transactions, any other 8. For each fill, 10 restores follow a failure
-//   in the page program, and erase unless the fill is FFh: 10 * (14 + 14 + 8). The others add up to 432 for each fill.
+// each of its transactions, so these are the sums of the lengths. For the first row they were also calculated by hand:
+// 344 on the idle chip, 585 on the slow chip, and 1,656 on the three chips that lose their power.
 const RESTORES: [(Row, u64, u64); 4] = [
     (Row::AByteIsProgrammed, 344 + 585, 3 * 432 + 10 * 36),
     (Row::ABitRises, 1688, 3402),
@@ -193,8 +176,7 @@ fn each_cut_of_a_restore(rt: HostRuntime) {
     }
 }
 
-// The stop of the session sends 4, 5 or 6 bytes of a page program: no data byte, one or both. The stop of the restore
-// sends each number in `SHORT`.
+// The session's stop sends no data byte of a page program, one or both. The restore's stop sends 0 to 6 bytes.
 const RESTORES_OF_TWO_PAGES: Stops = Stops {
     kept: 5_152,
     lost: 9_492,
@@ -216,8 +198,6 @@ fn each_cut_of_a_restore_after_a_part_of_a_page(rt: HostRuntime) {
     assert_that!(&rt; stops == RESTORES_OF_TWO_PAGES);
 }
 
-// A restore sends 8 transactions if the sector is as it was, otherwise 10, a page program for each page that differs,
-// and polls of a chip that is still busy.
 const RESTORES_OF_PAGES: Stops = Stops {
     kept: 60_106,
     lost: 127_387,
@@ -230,8 +210,7 @@ fn each_cut_of_a_restore_that_programs_pages(rt: HostRuntime) {
     assert_that!(&rt; stops == RESTORES_OF_PAGES);
 }
 
-// A run takes long, so the session is stopped at only three transactions: the two status writes and the page program.
-// An operation takes three transactions, and polls that show BUSY. No transaction sends more than five bytes.
+// The session is stopped at the two status writes and the page program. No transaction sends more than five bytes.
 const RESTORES_IN_THE_RANGE: Stops = Stops {
     kept: 172,
     lost: 408,

@@ -1,5 +1,4 @@
-//! If the log refuses a write or a flush, `TraceBus` reports the line of its trace as lost, but the transaction
-//! succeeds.
+//! Tests of `TraceBus` with a log that refuses a write or a flush: the line is lost, but the transaction succeeds.
 use crate::held::{assert_held, assert_that};
 use crate::row::{Start, erased};
 use nor_chip::{Bus, Config, Meter, SimBus, TraceBus};
@@ -105,8 +104,7 @@ fn a_line_is_lost_exactly_where_it_is_not_whole(rt: HostRuntime) {
     }
 }
 
-// The sink below the log's buffer accepts `good` writes, and flushes if `flushes` is true. Returns whether the line is
-// reported as lost before the bus is flushed, and afterwards.
+// Returns whether the line is reported as lost before the bus is flushed, and afterwards.
 fn flushed(
     rt: &impl Abort,
     alloc: Global,
@@ -127,7 +125,7 @@ fn flushed(
     (before, bus.lost())
 }
 
-// The flush fails if the sink refuses to write the line, and also if the sink accepts it and refuses to flush it.
+// The flush fails if the sink refuses to write the line, and also if the sink accepts the line but refuses to flush.
 #[test]
 fn what_the_sink_refuses_is_lost_at_the_latest_by_a_flush(rt: HostRuntime) {
     let alloc = rt.alloc();

@@ -3,12 +3,10 @@ use crate::held::assert_that;
 use nor_chip::Bus;
 use std::process::Abort;
 
-/// Carries out a transaction without a reply, and asserts that it succeeds.
 pub fn send(rt: &impl Abort, bus: &mut impl Bus, out: &[u8]) {
     assert_that!(rt; bus.transfer(out, &mut []).is_ok());
 }
 
-/// Carries out a transaction with `N` reply bytes, and asserts that it succeeds.
 pub fn read<const N: usize>(rt: &impl Abort, bus: &mut impl Bus, out: &[u8]) -> [u8; N] {
     let mut reply = [0; N];
     assert_that!(rt; bus.transfer(out, &mut reply).is_ok());

@@ -1,12 +1,6 @@
-//! Sessions that are stopped after each number of transactions (on the W25Q64FV from 2,049 on). If the stop follows the
-//! seal, the restore is also stopped after each number of its transactions, and then a second restore follows.
-//!
-//! Each test counts its runs. A stop before the seal is one run. A later stop, or the end of the session, counts one
-//! more than the length of its restore.
-//!
-//! A restore sends 7 transactions (4 on a W25Q64FV) to identify the chip, and reads the only saved sector. If something
-//! differs, its operations follow: a write enable, a command and a poll (three polls on a slow chip). It reads the
-//! sector again before a program without an erase, and to verify it.
+//! Sessions and their restores that are stopped after each number of transactions. After a stopped restore a second one
+//! follows. A stop of the session before its seal is one run. A later stop, or the session's end, counts one run more
+//! than its restore has transactions.
 use crate::held::assert_that;
 use crate::row::{Row, Start};
 use crate::runs::Runs;
@@ -16,20 +10,17 @@ use crate::runs::Runs;
 const BYTE: u64 = 23 + 3 * 9 + 3 * 13;
 
 // On a slow chip, 26 stops precede the seal. At the next three the byte is as it was (9 runs). At the last five it is
-// programmed, and two, one or no polls that show BUSY remain: 16, 15 and 14 transactions.
+// programmed, and two, one or no polls that show BUSY remain.
 const SLOW_BYTE: u64 = 26 + 3 * 9 + 17 + 16 + 3 * 15;
 
-// 23 stops precede the seal. At the next two the byte is as it was (9 runs). At the last six it is FFh or 01h, and one
-// program makes it 00h: 13 transactions (14 runs).
+// 23 stops precede the seal. At the next two the byte is as it was (9 runs). At the last six one program restores it.
 const BIT: u64 = 23 + 2 * 9 + 6 * 14;
 
-// On a slow chip, 26 stops precede the seal. At the next two the byte is as it was (9 runs). At the five stops from the
-// erase on, and at the five from the program on, two, one or no polls that show BUSY remain: 17, 16 and 15
-// transactions.
+// On a slow chip, 26 stops precede the seal. At the next two the byte is as it was. At the five stops from the erase
+// on, and at the five from the program on, two, one or no polls that show BUSY remain.
 const SLOW_BIT: u64 = 26 + 2 * 9 + 2 * (18 + 17 + 3 * 16);
 
-// 23 stops precede the seal. At the next three the bytes are as they were (9 runs). At the last six some are
-// programmed, so the sector is erased: 12 transactions (13 runs).
+// 23 stops precede the seal. The next three leave the bytes as they were, and the last six leave some programmed.
 const TWO_PAGES: u64 = 23 + 3 * 9 + 6 * 13;
 
 // 8 stops precede the seal. At the next two the sector is as it was (9 runs). At every three stops after that the

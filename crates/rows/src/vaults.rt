@@ -8,8 +8,7 @@ use nor_session::Refusal;
 use std::alloc::Global;
 use std::process::Abort;
 
-// Runs the session with a vault that refuses call `nth` and keeps `kept` bytes of its piece. Asserts that the chip is
-// unchanged after an error, and has the image otherwise.
+// Runs the session with a vault that refuses call `nth`. Asserts that the chip is changed only if the session succeeds.
 fn refuse(
     rt: &impl Abort,
     alloc: Global,
@@ -31,9 +30,8 @@ fn refuse(
     (refusal, vault.failures(), held.is_sealed(), holds_journal)
 }
 
-// Refuses each of the session's `calls` calls in turn. Asserts error 11, one refusal, and an unsealed vault, which
-// contains a whole journal only if call `whole_from` or a later one was refused. Refusing call `calls + 1` changes
-// nothing.
+// Refuses each of the vault's `calls` calls in turn. Asserts error 11 and an unsealed vault, which contains a whole
+// journal only if call `whole_from` or a later one was refused.
 fn refuse_each(rt: &impl Abort, alloc: Global, row: Row, calls: u64, kept: usize, whole_from: u64) {
     for nth in 1..=calls {
         let left = refuse(rt, alloc, row, nth, kept);

@@ -1,5 +1,4 @@
--- Lemmas: what nor_session promises for the chip of a bus over a port also holds for the programmer's chip at this
--- port. The bus is a `SerprogBus`, or the layers over a `BatchingBus`.
+-- The promises of nor_session for the chip of a bus over a port also hold for the programmer's chip at this port.
 use Rattle.std.proofs.Common.{◌≡◌, ◌∙◌, ◌<◌, ◌/◌, ℕ, Bool, true, false, List, [], length, refl, sym, ap, subst, arith, inl, inr}
 use Rattle.std.specs.Prelude.{Option, Result, Ok, Err}
 use Rattle.std.proofs.lemmas.List.{append-nil}
@@ -36,14 +35,11 @@ use Rattle.nor_serprog.specs.Bus.{over_port}
 use Rattle.nor_serprog.specs.Enabled.{enabled}
 use Rattle.serprog_session.specs.Headline.{ReachesGenuine, CanRestoreChip, CanRestoreChipFrom, HadFewCalls, SessionFails, KeepsOriginalChip, SessionResults, FailsBy, RefusesUnsent, RestoresOriginalChip, RewritesOriginalChip, BackupFails, SavesChipOver, uncounted}
 
--- The state of a bus to the chip at the port. `waits` is true if a write enable waits; then the chip's write enable
--- latch counts as set.
+-- The state of a bus to the port's chip. While a write enable waits (`waits`), the idle chip's latch counts as set.
 abbrev pub seen : BusState → (waits : Bool) → PortState → BusState
 seen state waits port = record state { chip = enabled waits port.device.chip }
 
--- Holds if a bus over a port may have the states `seen bus waits old` and `seen bus' waits' new` before and after a
--- call: no write enable waited before, the bus is well-behaved if the port is, it isn't steady, and if it ran out of
--- transactions, the port had too few calls left.
+-- Holds if a bus over a port may have the state `seen bus waits old` and later the state `seen bus' waits' new`.
 pub record IsOver (old new : PortState) (waits waits' : Bool) (bus bus' : BusState) : Type 0 where
   pub empty : waits ≡ false
   pub honest : old.honest ≡ true → bus.honest ≡ true
@@ -51,7 +47,6 @@ pub record IsOver (old new : PortState) (waits waits' : Bool) (bus bus' : BusSta
   pub few : (transactions : ℕ) → 0 < transactions
       → RanOut transactions (seen bus waits old) (seen bus' waits' new) → HadFewCalls transactions old
 
--- `IsOver` holds for a `SerprogBus`, whose transactions take three calls of the port each.
 pub serprog : (old new : PortState) (history history' : List Exchange)
     → IsOver old new false false (over_port old history) (over_port new history')
 serprog old new history history' = record {
@@ -61,8 +56,6 @@ serprog old new history history' = record {
   few = λ transactions some ran. let below = (ran refl).below in omega arith;
 }
 
--- `IsOver` also holds for any other bus with its first three fields, if the port counts as having no call left
--- (`uncounted`). Then its fourth field claims nothing, so a bus that isn't punctual may stop at any transaction.
 pub unpunctual : (old new : PortState) (waits waits' : Bool) (bus bus' : BusState) → waits ≡ false
     → (old.honest ≡ true → bus.honest ≡ true) → bus'.steady ≡ false
     → IsOver (uncounted old) new waits waits' bus bus'
@@ -94,8 +87,6 @@ target_seen waits wanted first chip made = record {
   latch = λ set. made.latch (or_right (waits && is_idle chip) chip.latch set);
 }
 
--- If a journal can restore `first` over one bus to the port's chip that isn't steady, it can restore `first` over every
--- bus to this chip. Whether a write enable waits doesn't matter.
 pub on_every_bus : (journal : Content) (first : Chip) (bus : BusState) (waits : Bool) (port : PortState)
     → bus.steady ≡ false → CanRestore journal first (seen bus waits port)
     → CanRestoreChip journal first port.device.chip
@@ -118,7 +109,6 @@ from_every_bus : (journal : Content) (first : Chip) (bus : BusState) (port : Por
     → CanRestoreChip journal first port.device.chip → CanRestore journal first (seen bus false port)
 from_every_bus journal first bus port can = can (seen bus false port) refl
 
--- Each content has its own encoding, so the journal that is read is the one that the bytes encode.
 pub read_from : (bytes : List ℕ) (first chip : Chip) (journal : Content) → CanRestoreChipFrom bytes first chip
     → IsContent journal → bytes ≡ text journal → CanRestoreChip journal first chip
 read_from bytes first chip journal from is read =
@@ -128,9 +118,6 @@ read_from bytes first chip journal from is read =
     let P : Content → Type 0 = λ j. CanRestoreChip j first chip in
     subst P same from.back
 
--- If a journal can restore `first` from `old`, it can also restore it from `new`, which is `old` without power.
--- `CanRestoreChip` holds for every bus to the chip, and so for one that isn't steady. For such a bus `lost_can_restore`
--- also covers a busy chip.
 pub lost_from_chip : (journal : Content) (first old new : Chip) → CanRestoreChip journal first old
     → PowerLost old new → CanRestoreChip journal first new
 lost_from_chip journal first old new can lost = λ state same.
@@ -147,8 +134,6 @@ some_reads sectors = omega arith
 
 waits_never : (old new : PortState) (waits' : Bool) (bus bus' : BusState) → IsOver old new true waits' bus bus' → ⊥
 waits_never old new waits' bus bus' over = false≢true (sym over.empty)
-
--- ---- a session
 
 pub keeps : (old new : PortState) (waits waits' : Bool) (bus bus' : BusState) (vault : VaultState)
     → IsOver old new waits waits' bus bus'
@@ -202,8 +187,6 @@ results request image old new false waits' bus bus' vault vault' (Err refusal) o
   unsealed = always.answers.unsealed;
   accepted = λ sealed. (made.undo sealed).accepted;
 }
-
--- ---- a restore
 
 pub refuses : (choice : Choice) (journal : Content) (old new : BusState) (result : Result Report Refusal)
     → AlwaysBy choice journal old new result → IfErr result (RefusesUnsent old.sent new.sent)
@@ -326,8 +309,6 @@ rewrites journal old new false waits' bus bus' (Err refusal) over back fair made
       (same_refused (most_of (length journal.saved)) (seen bus false old) (seen bus' waits' new) refusal
       fair.honest_errors checked);
 }
-
--- ---- a backup
 
 backup_fails : (named : Option ChipName) (old new : PortState) (waits' : Bool) (bus bus' : BusState)
     (refusal : Refusal) → IsOver old new false waits' bus bus'

@@ -10,13 +10,11 @@ use Rattle.nor_serprog.specs.Firmware.{Firmware, buffer_at}
 use Rattle.nor_serprog.specs.Frame.{IsFrame, frame_len, long_len, out_in}
 use Rattle.serprog_session.specs.SimPort.{simulated_firmware, IsOneFrame, AreOperations, ArePair}
 
--- If the length of a frame isn't known from `rest` (`long_len` is `None`), the bytes are no whole frame of O_SPIOP.
 short_frame : (opcode : ℕ) (rest : List ℕ) → long_len rest ≡ None → IsOneFrame (opcode ∷ rest) → ⊥
 short_frame opcode rest none is =
     let P : ℕ → Type 0 = λ o. frame_len (o ∷ rest) ≡ Some (length (opcode ∷ rest)) in
     none-some _ (sym none ∙ subst P is.1 is.0)
 
--- The length of a frame of O_SPIOP follows from its first bytes, even if other bytes follow the frame.
 pub len_before : (first second : List ℕ) → IsOneFrame first → frame_len (first ++ second) ≡ Some (length first)
 len_before [] second is = absurd (let zero : ⊥ = omega (arith, is.1) in zero)
 len_before (opcode ∷ []) second is = absurd (short_frame opcode [] refl is)
@@ -31,7 +29,6 @@ some_bytes : (frame : List ℕ) → IsOneFrame frame → 0 < length frame
 some_bytes [] is = omega (arith, is.1)
 some_bytes (opcode ∷ rest) is = omega arith
 
--- Two frames of O_SPIOP, joined, are not one frame.
 pub not_one : (first second bytes : List ℕ) → bytes ≡ first ++ second → IsOneFrame first → IsOneFrame second
     → IsFrame bytes → ⊥
 not_one first second bytes is former latter whole =
@@ -74,7 +71,6 @@ pub never_both : (bytes : List ℕ) (device : Device) → device.firmware ≡ si
     → CompletesBoth first second bytes device → ⊥
 never_both bytes device known none first second both = none first second (is_pair first second bytes device known both)
 
--- The first frame ends where its length says, so two pairs of frames with the same bytes are the same.
 lens_same : (first second bytes front back : List ℕ) → ArePair first second bytes → ArePair front back bytes
     → length first ≡ length front
 lens_same first second bytes front back pair other =
@@ -112,15 +108,12 @@ pub both_cut : (first second bytes front back : List ℕ) (old new : Device) →
 both_cut first second bytes front back old new =
     for_both (λ f s. IsCut (out_in f) old new ⊎ CutsSecond f s old new) first second bytes front back
 
--- If `out` and `sent` are equal, `StepsOnce` for `out` implies `StepsOnce` for `sent`.
 pub stepped : (out sent answer : List ℕ) (old new : Device) → out ≡ sent → StepsOnce out answer old new
     → StepsOnce sent answer old new
 stepped out sent answer old new same steps = subst (λ (o : List ℕ). StepsOnce o answer old new) same steps
 
 pub was_cut : (out sent : List ℕ) (old new : Device) → out ≡ sent → IsCut out old new → IsCut sent old new
 was_cut out sent old new same cut = subst (λ (o : List ℕ). IsCut o old new) same cut
-
--- ---- how `pair_in` finds the frames
 
 split_len : (first second bytes : List ℕ) (len : ℕ) → len ≡ unwrap_or (frame_len bytes) 18446744073709551615
     → ArePair first second bytes → len ≡ length first
@@ -156,7 +149,6 @@ split_pair bytes front back len split are fits = record {
   fits = fits;
 }
 
--- If the first of two frames requests no bytes, the replies to both are two ACKs and the bytes for the second frame.
 pub two_replies : (none reply : List ℕ) → length none ≡ 0 → 0x06 ∷ 0x06 ∷ reply ≡ (0x06 ∷ none) ++ 0x06 ∷ reply
 two_replies [] reply is = refl
 two_replies (x ∷ rest) reply is = absurd (let none : ⊥ = omega (arith, is) in none)

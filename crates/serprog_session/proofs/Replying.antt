@@ -12,8 +12,6 @@ use Rattle.nor_serprog.specs.Frame.{frame_of, frame_len, long_len, argument_coun
 use Rattle.nor_serprog.specs.Firmware.{ProgrammerSettings, HasReply, HaveReplies, reply_of, replies_of, settings_after, settings_after_all, frames_of}
 use Rattle.serprog_session.specs.SimPort.{simulated_firmware, simulated_reply, simulated_settings, bus_type_after}
 
--- Holds if the simulated programmer replies to the frame of a command as its firmware specifies, and this frame doesn't
--- begin with the opcode of O_SPIOP (13h).
 record IsAnswerable (command : Command) : Type 0 where
   reply : simulated_reply (slice_index (frame_of command) 0) ≡ reply_of simulated_firmware command
   selects : (bus_type : Option ℕ) → simulated_settings (bus_type_after (frame_of command) bus_type)
@@ -49,7 +47,6 @@ no_operation [] frames same have first =
 no_operation (command ∷ rest) frames same have first =
     (answerable command have.0).first (frames_of rest) (sym (ap (λ (f : List ℕ). slice_index f 0) same) ∙ first)
 
--- A frame has at least one byte, even if its length isn't known yet and counts as 2^64 - 1.
 long_some : (rest : List ℕ) → 0 < unwrap_or (long_len rest) 18446744073709551615
 long_some (a ∷ b ∷ c ∷ rest) = omega arith
 long_some _ = omega arith

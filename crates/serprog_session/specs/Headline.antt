@@ -42,12 +42,10 @@ pub record CanRestoreChipFrom (bytes : List ℕ) (first chip : Chip) : Type 0 wh
 abbrev pub HadFewCalls : (transactions : ℕ) → PortState → Type 0
 HadFewCalls transactions port = port.left < 3 * transactions
 
--- The state of the port, but with no call left, so that `HadFewCalls` holds for any positive number of transactions. It
--- is used for layers that aren't punctual: they may stop at any transaction, even if the port has calls left.
+-- The state of the port, but with no call left, so that `HadFewCalls` holds for any positive number of transactions.
+-- Layers that aren't punctual need it: they may stop at any transaction, even if the port has calls left.
 abbrev pub uncounted : PortState → PortState
 uncounted port = record port { left = 0 }
-
--- ---- a session
 
 -- Holds if the session made the chip what `request` asks for, including its non-volatile status bits.
 pub record IsTargetOf (request : Request) (image : List ℕ) (old new : Chip) : Type 0 where
@@ -63,22 +61,19 @@ SessionFails request image port vault vault' Vault = CountsRefusal vault vault'
 SessionFails request image port vault vault' Stopped = HadFewCalls (most_of (port.device.chip.config.size / 4096)) port
 SessionFails request image port vault vault' refusal = IsVerdict request image port.device.chip refusal
 
--- The promise of a session at every exit, even after a failure of the port. `sent` and `sent'` list the transactions
--- that may modify the chip and that the bus was asked to send, before the session and until its exit.
+-- Holds if a session left the original chip as it was or restorable, even after a failure of the port. `sent` and
+-- `sent'` list the transactions that may modify the chip, before the session and until its exit.
 pub record KeepsOriginalChip (old new : PortState) (sent sent' : Sent) (vault : VaultState) : Type 0 where
   -- on every port: if the vault isn't sealed, no modifying command was sent
   pub unsent : vault.sealed ≡ false → sent' ≡ sent
-  -- on a well-behaved port whose chip was idle at the start: if the vault isn't sealed, bytes and non-volatile status
-  -- bits of the chip are as they were. A busy chip is excluded, because a failure of the port may interrupt its
-  -- operation.
+  -- on a well-behaved port: if the vault isn't sealed, a chip that was idle at the start is as it was
   pub same : vault.sealed ≡ false → old.honest ≡ true → old.device.chip.busy ≡ 0
       → IsSame old.device.chip new.device.chip
-  -- on a well-behaved port to a genuine chip, idle or busy: if a faithful vault is sealed, its bytes are a journal that
-  -- can restore the original chip
+  -- on a well-behaved port to a genuine chip: the journal in a sealed faithful vault can restore the original chip
   pub restorable : vault.sealed ≡ true → vault.telling ≡ true → ReachesGenuine old
       → CanRestoreChipFrom vault.bytes old.device.chip new.device.chip
 
--- The result of a session on a well-behaved port to a genuine chip.
+-- Holds for the result of a session on a well-behaved port to a genuine chip.
 pub record SessionResults (request : Request) (image : List ℕ) (old new : PortState) (vault vault' : VaultState)
     (result : Result Report Refusal) : Type 0 where
   pub done : OnOk result (IsTargetOf request image old.device.chip new.device.chip)
@@ -86,8 +81,6 @@ pub record SessionResults (request : Request) (image : List ℕ) (old new : Port
   pub errors : IfErr result (SessionFails request image old vault vault')
   pub unsealed : IfErr result (λ refusal. refusal_number refusal ≤ 11 → vault'.sealed ≡ false)
   pub accepted : vault'.sealed ≡ true → IsAccepted request image old.device.chip
-
--- ---- a restore
 
 -- Holds if the error is 12, 13 or 14, or no modifying command was sent.
 abbrev pub RefusesUnsent : (sent sent' : Sent) → Refusal → Type 0
@@ -105,31 +98,26 @@ FailsBy choice journal port refusal = IsRestoreVerdict choice journal port.devic
 abbrev pub RestoreFails : Content → PortState → Refusal → Type 0
 RestoreFails journal port refusal = FailsBy differing journal port refusal
 
--- The promise of a restore on a well-behaved port to a genuine chip. The fields `within`, `back` and `only_stops` are
--- about each chip `first` that the journal can restore at the start. The other fields hold for every journal.
+-- Holds for the result of a restore on a well-behaved port to a genuine chip. The fields `within`, `back` and
+-- `only_stops` are about each chip `first` that the journal can restore at the start.
 pub record RestoresOriginalChip (journal : Content) (old new : PortState)
     (result : Result Report Refusal) : Type 0 where
   -- at every exit, even after a failure of the port, the journal can still restore `first`
   pub within : (first : Chip) → CanRestoreChip journal first old.device.chip
       → CanRestoreChip journal first new.device.chip
-  -- a restore that succeeds has restored the contents and the non-volatile status bits of `first`
   pub back : (first : Chip) → CanRestoreChip journal first old.device.chip
       → OnOk result (IsSame first new.device.chip)
   pub idle : OnOk result (new.device.chip.busy ≡ 0)
   -- if the journal can restore `first`, the only possible error is 12, because the port had too few calls left
   pub only_stops : (first : Chip) → CanRestoreChip journal first old.device.chip
       → IfErr result (λ refusal. (refusal ≡ Stopped) × HadFewCalls (most_of (length journal.saved)) old)
-  -- after success the chip has the saved bytes and non-volatile status bits
   pub made : OnOk result (IsTargetChip (restored journal old.device.chip.bytes) old.device.chip new.device.chip)
   pub kept : OnOk result (new.device.chip.kept ≡ kept_in journal.status)
   pub errors : IfErr result (RestoreFails journal old)
-  -- an error that is checked before the first change leaves the chip as it was
   pub same : IfErr result (λ refusal. IsCheckedFirst refusal → IsSame old.device.chip new.device.chip)
 
--- ---- a restore that rewrites every saved sector
-
--- The promise of a rewrite on a well-behaved port to a genuine chip. The fields are those of `RestoresOriginalChip`,
--- but `only_stops` has another premise, and `errors` is about every saved sector.
+-- Holds for the result of a rewrite on a well-behaved port to a genuine chip. The fields are those of
+-- `RestoresOriginalChip`, but `only_stops` has one more premise, and `errors` is about every saved sector.
 pub record RewritesOriginalChip (journal : Content) (old new : PortState)
     (result : Result Report Refusal) : Type 0 where
   pub within : (first : Chip) → CanRestoreChip journal first old.device.chip
@@ -145,8 +133,6 @@ pub record RewritesOriginalChip (journal : Content) (old new : PortState)
   pub errors : IfErr result (FailsBy every_saved journal old)
   pub same : IfErr result (λ refusal. IsCheckedFirst refusal → IsSame old.device.chip new.device.chip)
 
--- ---- a backup
-
 -- Holds if an error of a backup, on a well-behaved port to a genuine chip, is one of these: error 1, 2 or 3, and the
 -- chip's configuration implies it; error 11; or error 12, because the port had too few calls left.
 abbrev pub BackupFails : Option ChipName → PortState → Refusal → Type 0
@@ -157,13 +143,11 @@ BackupFails named port Stopped = HadFewCalls (most_reads (port.device.chip.confi
 BackupFails named port Vault = ⊤
 BackupFails named port _ = ⊥
 
--- The result of a backup on a well-behaved port to a genuine chip.
+-- Holds for the result of a backup on a well-behaved port to a genuine chip.
 pub record SavesChipOver (named : Option ChipName) (old new : PortState) (vault : VaultState)
     (result : Result Report Refusal) : Type 0 where
   pub errors : IfErr result (BackupFails named old)
-  -- after success the chip's contents and non-volatile status bits are as they were
   pub same : OnOk result (IsSame old.device.chip new.device.chip)
   pub saves : OnOk result (vault.telling ≡ true → IsBackupOf vault.bytes old.device.chip)
-  -- after success the journal in a faithful vault can restore the chip
   pub restorable : OnOk result (vault.telling ≡ true
       → CanRestoreChipFrom vault.bytes old.device.chip new.device.chip)

@@ -14,8 +14,7 @@ simulated_chip port = port.chip
 abbrev pub left_of : SimPort → ℕ
 left_of port = port.left
 
--- The firmware of the simulated programmer: version 1 of the protocol, SPI and a serial buffer of 512 bytes, without a
--- name or limits.
+-- The firmware of the simulated programmer, with SPI and a serial buffer of 512 bytes.
 abbrev pub simulated_firmware : Firmware
 simulated_firmware = record {
   version = 1;
@@ -49,8 +48,7 @@ pub record AreOperations (first second : List ℕ) : Type 0 where
   pub unanswered : replies_in first ≡ 0
   pub latter : IsOneFrame second
 
--- Holds if `bytes` consist of `first` and `second`, two frames of O_SPIOP (`AreOperations`), and fit into the serial
--- buffer.
+-- Holds if `bytes` are two frames of O_SPIOP (`AreOperations`) that fit into the serial buffer.
 pub record ArePair (first second bytes : List ℕ) : Type 0 where
   pub is : bytes ≡ first ++ second
   pub operations : AreOperations first second
@@ -71,8 +69,7 @@ simulated_reply opcode =
 abbrev pub bus_type_after : (frame : List ℕ) → (before : Option ℕ) → Option ℕ
 bus_type_after frame before = if slice_index frame 0 == 0x12 then Some (slice_index frame 1) else before
 
--- The settings of the simulated programmer with this type of bus selected. It has no S_PIN_STATE, so its pin drivers
--- are never switched on.
+-- The settings of the simulated programmer. Its pin drivers are never switched on, because it lacks S_PIN_STATE.
 abbrev pub simulated_settings : (bus_type : Option ℕ) → ProgrammerSettings
 simulated_settings bus_type = record { bus_type = bus_type; pins_on = false }
 
@@ -88,8 +85,7 @@ device_over bus bus_type pending = record {
   pending = pending;
 }
 
--- A well-behaved port to the simulated programmer with the chip of this bus, with `left` calls left. `asked` is what
--- the port was asked to send, and `received` what it returned.
+-- A well-behaved port to the simulated programmer with the chip of this bus.
 abbrev pub port_over : BusState → (bus_type : Option ℕ) → (pending : List ℕ) → (left : ℕ) → (asked : List (List ℕ))
     → (received : List ℕ) → PortState
 port_over bus bus_type pending left asked received = record {

@@ -28,7 +28,7 @@ use Rattle.nor_serprog.specs.declared.batching.BatchingBus.{BatchingBus}
 use Rattle.nor_serprog.specs.declared.port.Port.{Ghosts as PortGhosts}
 use Rattle.nor_serprog.specs.Batching.{port_in, waits_of, has_further}
 
--- The layers from `KnownStatus2` to the one that checks status reads, over a bus `S` that splits transactions.
+-- The layers `KnownStatus2`, `ReadTwice` and `CheckedStatus`, over a bus `S` that splits transactions.
 abbrev pub Known : (S : Type 0) (over : Ghosts S) → Ghosts (ReadTwice (CheckedStatus S over)) → Type 0
 Known S over twice = KnownStatus2 (ReadTwice (CheckedStatus S over)) twice
 
@@ -36,28 +36,26 @@ Known S over twice = KnownStatus2 (ReadTwice (CheckedStatus S over)) twice
 abbrev pub Adapted : (B : Type 0) → Ghosts B → Type 0
 Adapted B below = OtherMakers (KeptQuad B below)
 
--- The layer that changes replies of other makers' chips, below those that read ahead and compare the unique ID.
+-- The layer `OtherMakers`, which changes replies of other makers' chips, below `ReadAhead` and `SameChip`.
 abbrev pub other_below : {B : Type 0} {below : Ghosts B} {ahead : Ghosts (SameChip (Adapted B below))}
     → ReadAhead (SameChip (Adapted B below)) ahead → Adapted B below
 other_below stack = checked_by (ahead_of stack)
 
--- The layer that hides QE.
 abbrev pub kept_below : {B : Type 0} {below : Ghosts B} {ahead : Ghosts (SameChip (Adapted B below))}
     → ReadAhead (SameChip (Adapted B below)) ahead → KeptQuad B below
 kept_below stack = adapted_by (other_below stack)
 
--- The layer that reads status 2 only from a chip that has this register.
+-- The layer `KnownStatus2`, which sends 35h only to a chip that is known to return status 2 for it.
 abbrev pub known_in : {B : Type 0} {below : Ghosts B} {ahead : Ghosts (SameChip (Adapted B below))}
     → ReadAhead (SameChip (Adapted B below)) ahead → B
 known_in stack = kept_by (kept_below stack)
 
--- The layer that splits transactions, below the layers that check them.
+-- The layer `SplittingBus`, which splits transactions, below the layers that check them.
 abbrev pub splitting_in : {S : Type 0} {over : Ghosts S} {twice : Ghosts (ReadTwice (CheckedStatus S over))}
     {below : Ghosts (Known S over twice)} {ahead : Ghosts (SameChip (Adapted (Known S over twice) below))}
     → ReadAhead (SameChip (Adapted (Known S over twice) below)) ahead → S
 splitting_in stack = bus_of (twice_of (known_by (known_in stack)))
 
--- The bus to the programmer, below all layers.
 abbrev pub batching_below : {B C : Type 0} {over : Ghosts (SplittingBus (Watched (Paced B C)))}
     {twice : Ghosts (ReadTwice (CheckedStatus (SplittingBus (Watched (Paced B C))) over))}
     {below : Ghosts (Known (SplittingBus (Watched (Paced B C))) over twice)}
@@ -65,11 +63,10 @@ abbrev pub batching_below : {B C : Type 0} {over : Ghosts (SplittingBus (Watched
     → ReadAhead (SameChip (Adapted (Known (SplittingBus (Watched (Paced B C))) over twice) below)) ahead → B
 batching_below stack = paced_of (watched_by (split_of (splitting_in stack)))
 
--- The layers over the port `P`, down to the one that splits transactions.
+-- The layers from the port `P` up to `SplittingBus`.
 abbrev pub Split : (P X C : Type 0) → PortGhosts P X → Type 0
 Split P X C port = SplittingBus (Watched (Paced (BatchingBus P X port) C))
 
--- The port to the programmer.
 abbrev pub port_below : {P X C : Type 0} {port : PortGhosts P X} {over : Ghosts (Split P X C port)}
     {twice : Ghosts (ReadTwice (CheckedStatus (Split P X C port) over))}
     {below : Ghosts (Known (Split P X C port) over twice)}
@@ -77,10 +74,8 @@ abbrev pub port_below : {P X C : Type 0} {port : PortGhosts P X} {over : Ghosts 
     → ReadAhead (SameChip (Adapted (Known (Split P X C port) over twice) below)) ahead → P
 port_below stack = port_in (batching_below stack)
 
--- Holds if the layers over a well-behaved port are a well-behaved bus to the programmer's chip: the `BatchingBus` is
--- one that `BatchingBus::emulated` returned, the programmer takes a page program and reads a sector and the longest
--- block, the layers know the chip's ID and don't hide bit 6 of its status 1, the chip has a unique ID, and no write
--- enable waits.
+-- Holds if the stack fits the programmer and its chip, so that it is a well-behaved bus over a well-behaved port
+-- (`stack_is_well_behaved`), and no write enable waits.
 pub record IsFit {P X C : Type 0} {port : PortGhosts P X} {over : Ghosts (Split P X C port)}
     {twice : Ghosts (ReadTwice (CheckedStatus (Split P X C port) over))}
     {below : Ghosts (Known (Split P X C port) over twice)}
@@ -89,12 +84,9 @@ pub record IsFit {P X C : Type 0} {port : PortGhosts P X} {over : Ghosts (Split 
   pub emulated : has_further (batching_below stack) ≡ false
   pub whole : takes_whole (sends_most (splitting_in stack)) (receives_most (splitting_in stack)) ≡ true
   pub blocks : longest_of stack ≤ 4096 + reads_longer (receives_most (splitting_in stack)) true 0
-  -- status 2 is read from the chip
   pub known : is_listed_chip (ids_of (known_in stack)) (before_of (known_in stack))
       (port.state (port_below stack)).device.chip.config ≡ true
-  -- bit 6 of status 1 is returned as the chip returns it
   pub bit6 : keeps_bit6 (rows_of (kept_below stack)) (hides_of (kept_below stack))
       (port.state (port_below stack)).device.chip.config ≡ true
-  -- no reply of the chip is changed
   pub replies : keeps_replies (listed_by (other_below stack)) (port.state (port_below stack)).device.chip.config ≡ true
   pub empty : waits_of (batching_below stack) ≡ false

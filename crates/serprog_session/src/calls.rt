@@ -1,5 +1,4 @@
-//! The calls `session_over`, `restore_over`, `rewrite_over` and `backup_over`: a session, two kinds of restore, and a
-//! backup of the chip at a programmer.
+//! A session, two kinds of restore, and a backup of the chip at a programmer, over a `SerprogBus`.
 ghost use Rattle.std.specs.Prelude.{◌≡◌, true, IfErr, OnOk};
 ghost use Rattle.nor_journal.specs.Saved.{is_saved};
 ghost use Rattle.nor_journal.specs.Vault.{IsFresh, Completed};
@@ -15,16 +14,14 @@ use nor_probe::ChipName;
 use nor_serprog::{Port, SerprogBus};
 use nor_session::{Refusal, Report, Request, backup, restore, rewrite, session};
 
-/// Runs `session` of nor_session on the chip at a programmer: saves each sector that it will touch to `vault`, and then
-/// makes the chip what `request` asks for. `vault` must be empty and unsealed; `image` is as for `session`.
+/// Runs `session` of nor_session on the chip at a programmer: saves each sector that the session will touch to `vault`,
+/// and then changes the chip as `request` asks. `vault` must be empty and unsealed; `image` is as for `session`.
 ///
-/// The port may fail at any call, and inside any exchange. The promises depend on the port and its chip:
-///
-/// - On every port, no modifying command is sent before the vault is sealed. An error is one that `session` returns (1
-///   to 14). After an error from 1 to 11 the vault isn't sealed.
+/// - On every port, no modifying command is sent before the vault is sealed. After an error from 1 to 11 the vault
+///   isn't sealed. Errors 12, 13 and 14 are also possible.
 /// - On a well-behaved port whose chip was idle at the start, an exit before the seal leaves the chip's contents and
 ///   non-volatile status bits as they were.
-/// - On a well-behaved port to a genuine chip, the journal in a sealed `telling` vault can restore the original chip at
+/// - On a well-behaved port to a genuine chip, the journal in a sealed faithful vault can restore the original chip at
 ///   every exit. Success leaves the target bytes and protection bits. An error is the verdict on the request, 11 (the
 ///   vault failed), or 12 (the port failed).
 pub fn session_over<P: Port + Drop, V: Vault>(
@@ -43,18 +40,16 @@ pub fn session_over<P: Port + Drop, V: Vault>(
     session(bus, vault, image, request)
 }
 
-/// Runs `restore` of nor_session on the chip at a programmer: writes the saved sectors and the protection bits of
-/// `journal` back to the chip, and verifies the sectors that it changed.
-///
-/// The port may fail at any call, and inside any exchange. If it fails, connect again, and run the restore again. The
-/// promises depend on the port and the journal:
+/// Runs `restore` of nor_session on the chip at a programmer: writes back the sectors and the protection bits that
+/// differ from those in `journal`, and verifies the written sectors. If the port fails, connect again and run the
+/// restore again.
 ///
 /// - On every port, the modifying commands that are sent fit the journal (`SendsSaved`). A restore that returns another
 ///   error than 12, 13 or 14 has sent none.
 /// - On a well-behaved port to a genuine chip, success leaves the saved bytes and non-volatile status bits. An error is
 ///   12 (the port failed), or the verdict of `restore`, which leaves the chip as it was.
-/// - If in addition the journal can restore an original chip at the start, it can restore that chip at every exit. Then
-///   success restores that chip, and the only possible error is 12.
+/// - If in addition the journal can restore an original chip at the start, it still can at every exit. Success restores
+///   that chip, and the only possible error is 12.
 pub fn restore_over<P: Port + Drop>(
     bus: &mut SerprogBus<P>,
     journal: &Journal<'_>,
@@ -69,13 +64,9 @@ pub fn restore_over<P: Port + Drop>(
 }
 
 /// Runs `rewrite` of nor_session on the chip at a programmer: restores as `restore_over` does, but erases and programs
-/// every saved sector, even if the sector has its saved bytes already, and then verifies all of them.
-///
-/// The promises are those of `restore_over`, with two differences:
-///
-/// - On every port, after success each saved sector was the target of an erase, and no erase was sent after the first
-///   page program (`thorough`).
-/// - Error 9 is also possible if a locked status protects a saved sector of the original chip.
+/// every saved sector, even if it has its saved bytes already. On every port, after success each saved sector was the
+/// target of an erase, and all erases were sent before the first page program (`thorough`). The promises are those of
+/// `restore_over`, but error 9 is also possible if a locked status protects a saved sector of the original chip.
 pub fn rewrite_over<P: Port + Drop>(
     bus: &mut SerprogBus<P>,
     journal: &Journal<'_>,
@@ -91,15 +82,14 @@ pub fn rewrite_over<P: Port + Drop>(
     rewrite(bus, journal)
 }
 
-/// Runs `backup` of nor_session on the chip at a programmer: saves every sector of the chip, its protection bits and
-/// its unique ID to `vault`, and changes nothing. If `named` is given, the chip must have that name. `vault` must be
-/// empty and unsealed.
+/// Runs `backup` of nor_session on the chip at a programmer: saves every sector, the non-volatile status bits and the
+/// unique ID of the chip to `vault`, which must be empty and unsealed. If `named` is given, the chip must have that
+/// name.
 ///
 /// - On every port, no modifying command is sent, and the vault is sealed if and only if the call succeeds. An error is
-///   1 (no chip), 2 (unknown chip), 3 (other name), 11 (the vault failed), 12 (the port failed) or 13 (the chip stayed
-///   busy; not on a well-behaved port to a genuine chip).
-/// - On a well-behaved port to a genuine chip, success leaves the chip as it was, and a `telling` vault holds a journal
-///   that saves the whole chip and can restore it.
+///   1 (no chip), 2 (unknown chip), 3 (other name), 11 (vault failed), 12 (port failed) or 13 (chip stayed busy).
+/// - On a well-behaved port to a genuine chip, success leaves the chip as it was, and a faithful vault then holds a
+///   journal that saves the whole chip and can restore it. Error 13 does not occur.
 pub fn backup_over<P: Port + Drop, V: Vault>(
     bus: &mut SerprogBus<P>,
     vault: &mut V,

@@ -5,16 +5,16 @@ ghost use Rattle.nor_model.specs.Power.{PowerLost};
 ghost use Rattle.nor_journal.specs.Text.{Content, IsContent, text};
 ghost use Rattle.serprog_session.specs.Headline.{CanRestoreChip, CanRestoreChipFrom};
 
-/// States that a journal that is read from the bytes of a vault can restore the original chip `first` from `chip`, if
-/// these bytes can (`CanRestoreChipFrom`). Therefore the promise of `session_over` is the premise of `restore_over`.
+/// States that if the bytes of a vault can restore the original chip `first` from `chip`, so can the journal read from
+/// these bytes. The promise of `session_over` is thus the premise of `restore_over`.
 pub fn read_restores_chip()
     ensures { (bytes : List ℕ) (first chip : Chip) (journal : Content)
         → CanRestoreChipFrom bytes first chip → IsContent journal → bytes ≡ text journal
         → CanRestoreChip journal first chip }
 {}
 
-/// States that if a journal can restore the original chip `first` from a chip, it can still do so after this chip lost
-/// its power. Therefore you may disconnect the programmer from power between a session and its restores.
+/// States that if a journal can restore the original chip `first` from a chip, it still can after this chip lost its
+/// power: you may disconnect the programmer from power between a session and its restores.
 pub fn disconnected_restores_chip()
     ensures { (journal : Content) (first old new : Chip)
         → CanRestoreChip journal first old → PowerLost old new → CanRestoreChip journal first new }

@@ -1,6 +1,5 @@
-//! Sessions, restores and backups of a chip at a serial programmer that speaks serprog. The calls run `session`,
-//! `restore`, `rewrite` and `backup` of nor_session. Their promises are stated for the programmer's chip, and for a
-//! port that may fail at any call.
+//! Sessions, restores and backups of a chip at a serial programmer that speaks serprog. `specs/Headline.antt` states
+//! their promises, for the programmer's chip and for a port that may fail at any call.
 //!
 //! ```rust
 //! use nor_chip::{Config, Delays, SimBus};
@@ -27,13 +26,9 @@
 //! assert_eq!(rt; bus.port().chip().bytes(), before.as_slice());
 //! ```
 //!
-//! - `calls.rt`: a session, a restore, a rewrite and a backup over a `SerprogBus`
-//! - `laws.rt`: laws (theorems) about what happens between a session and its restores
+//! - `calls.rt`, `laws.rt`: the calls over a `SerprogBus`, and laws (theorems) about what happens between them
 //! - `sim_port.rt`: a simulated port to a simulated programmer with a simulated chip
-//! - `stack.rt`: the layers of nor_buses over a `BatchingBus`, and when they are together a well-behaved bus
-//! - `stacked.rt`: the calls of `calls.rt` over these layers
-//!
-//! `specs/Headline.antt` contains the promises of these calls.
+//! - `stack.rt`, `stacked.rt`: the layers of nor_buses over a `BatchingBus`, and the calls over these layers
 #![tactic(auto)]
 
 mod calls;

@@ -27,7 +27,6 @@ const MOST_READ: usize = 4096;
 // The greatest number of pending reply bytes: two ACKs and the bytes of a read, after two frames of O_SPIOP.
 const MOST_PENDING: usize = 2 + MOST_READ;
 
-// The size of the serial buffer.
 const SERIAL_BUFFER: usize = 512;
 
 // The reply to Q_SERBUF: ACK and the size of the serial buffer, low byte first.
@@ -51,18 +50,14 @@ pub enum SimFailure {
 /// A well-behaved port to a simulated serprog programmer with a simulated chip. It carries out at most the given number
 /// of calls, and then fails; after any failure no call succeeds.
 ///
-/// The programmer replies to the queries of a handshake (`Programmer::identify`), accepts any type of bus (S_BUSTYPE),
-/// and has a serial buffer of 512 bytes (Q_SERBUF). It carries out an O_SPIOP frame only if one call of `send` sends
-/// that frame and nothing else, or two such frames that fit into the buffer, of which the first requests no reply
-/// bytes. Its reply to any other O_SPIOP frame is NAK. If the port fails while it sends an O_SPIOP, the chip stops as
-/// `SimBus::tear` and `SimBus::lose` specify. If the port fails later, the chip has carried out the transaction.
+/// The programmer can be identified (`Programmer::identify`), and has a serial buffer of 512 bytes. It carries out an
+/// O_SPIOP frame only if one `send` sends nothing else, or sends two such frames that fit into the buffer, of which the
+/// first requests no reply bytes. Its reply to any other O_SPIOP frame is NAK.
 ///
-/// The last call that is left can't send two O_SPIOP frames: it carries out the first one and stops in the second. If
-/// no call is left, the chip stops in the first one.
-///
-/// A call also fails in these cases: an O_SPIOP frame is sent while a reply is pending; an O_SPIOP frame requests more
-/// than 4,096 bytes; other frames would make more than 4,098 reply bytes pending; or more bytes are received than are
-/// pending.
+/// If the port fails while it sends an O_SPIOP, the chip stops as `SimBus::tear` and `SimBus::lose` specify. The last
+/// call that is left can't send two O_SPIOP frames: the chip stops in the second. `send` also fails if an O_SPIOP reads
+/// more than 4,096 bytes or is sent while a reply is pending, or if more than 4,098 reply bytes would be pending.
+/// `receive` also fails if it requests more bytes than are pending.
 #[derive(Drop)]
 pub struct SimPort {
     chip: SimBus,
@@ -110,8 +105,7 @@ impl SimPort {
         self.pending.is_empty()
     }
 
-    // Carries out a frame of O_SPIOP with one transaction of the chip. If no call is left, a reply is pending, or the
-    // frame requests more than 4,096 bytes, stops the chip at the transaction (`cut`) and returns `Cut`.
+    // Carries out a frame of O_SPIOP, or stops the chip at the transaction (`cut`) and returns `Cut`.
     fn operate(&mut self, frame: &[u8]) -> Result<(), SimFailure>
         requires { IsOneFrame frame.now }
         ensures asked { (⟦<SimPort as Port>⟧.state self.new).asked
@@ -139,9 +133,7 @@ impl SimPort {
         Ok(())
     }
 
-    // Carries out two frames of O_SPIOP, which one call sends (`bytes`). If no call is left, a reply is pending, or
-    // the second frame requests more than 4,096 bytes, stops the chip at the first transaction. If one call is left,
-    // stops the chip at the second.
+    // Carries out two frames of O_SPIOP. If only one call is left, stops the chip at the second transaction.
     fn operate_both(&mut self, bytes: &[u8], first: &[u8], second: &[u8]) -> Result<(), SimFailure>
         requires { ArePair first.now second.now bytes.now }
         ensures asked { (⟦<SimPort as Port>⟧.state self.new).asked
@@ -226,7 +218,6 @@ impl Port for SimPort {
     }
 }
 
-// Returns whether `bytes` are one whole frame of O_SPIOP.
 fn is_operation(bytes: &[u8]) -> bool
     ensures operation { result ≡ true → IsOneFrame bytes.now }
     ensures other { result ≡ false → ¬ IsOneFrame bytes.now }
@@ -234,7 +225,6 @@ fn is_operation(bytes: &[u8]) -> bool
     bytes.first() == Some(&O_SPIOP) && frame_len(bytes) == Some(bytes.len())
 }
 
-// Returns whether `first` and `second` are whole frames of O_SPIOP and `first` requests no reply bytes.
 fn are_operations(first: &[u8], second: &[u8]) -> bool
     ensures operations { result ≡ true → AreOperations first.now second.now }
     ensures other { result ≡ false → ¬ AreOperations first.now second.now }
@@ -242,8 +232,6 @@ fn are_operations(first: &[u8], second: &[u8]) -> bool
     is_operation(first) && reply_len(first) == 0 && is_operation(second)
 }
 
-// Returns the two frames of O_SPIOP in `bytes`, if `bytes` consist of two such frames, the first one requests no reply
-// bytes, and both fit into the serial buffer.
 fn pair_in(bytes: &[u8]) -> Option<(&[u8], &[u8])>
     ensures { MatchOption result ((first second : List ℕ) → ¬ ArePair first second bytes.now)
         (λ pair. ArePair pair.0.now pair.1.now bytes.now) }
@@ -306,8 +294,7 @@ fn transact(chip: &mut SimBus, out: &[u8], reply: &mut [u8])
     let _ = chip.transfer(out, reply);
 }
 
-// Stops the chip in a transaction that sends `out`. `SimBus::tear` sets how many bytes the chip receives, and
-// `SimBus::lose` whether it then loses its power.
+// Stops the chip in a transaction that sends `out`, as `SimBus::tear` and `SimBus::lose` were set.
 fn cut(chip: &mut SimBus, out: &[u8])
     ensures { (bus_type : Option ℕ) (pending pending' : List ℕ) → IsCut out.now
         (device_over (⟦<SimBus as Bus>⟧.state chip.old) bus_type pending)
@@ -359,8 +346,7 @@ fn selected_by(frame: &[u8], before: Option<u8>) -> Option<u8>
     }
 }
 
-// Returns the reply to one frame (flashrom's Documentation/serprog-protocol.txt). An O_SPIOP gets NAK here, because the
-// frames of O_SPIOP that are carried out never get here.
+// Returns the reply to one frame. It is NAK for O_SPIOP, because frames of O_SPIOP that are carried out never get here.
 fn reply_to(frame: &[u8]) -> &'static [u8]
     ensures { result.now ≡ simulated_reply (slice_index frame.now 0) }
 {

@@ -1,4 +1,4 @@
-//! The layers of `flashnor-serprog` over a port, and that they are together a well-behaved bus.
+//! The layers of `flashnor-serprog` over a port, and the premises under which they are a well-behaved bus.
 ghost use Rattle.std.specs.Prelude.{◌≡◌, ◌≤◌, ◌+◌, true, false};
 ghost use Rattle.nor_buses.specs.Ahead.{longest_of};
 ghost use Rattle.nor_buses.specs.Adapted.{keeps_replies};
@@ -21,12 +21,12 @@ use std::time::Clock;
 pub type Stack<P, C> = Layered<BatchingBus<P>, C>;
 
 /// States that the layers are together a well-behaved bus if the port is well-behaved, the `BatchingBus` is one that
-/// `BatchingBus::emulated` returned, and the programmer and its chip fit them.
+/// `BatchingBus::emulated` returned, and the programmer and its chip fit.
 ///
-/// The programmer must take a page program, the read of a sector and that of the longest block. The chip must have an
-/// ID that `KnownStatus2` knows, an ID of the `rows` of `OtherMakers` and, if `KeptQuad` hides QE, one of its `rows`.
-/// Its unique ID must not be eight bytes FFh or 00h. The chip of the bus is the programmer's, with the write enable
-/// latch set while a write enable waits.
+/// The programmer must take a page program, the read of a sector and that of the longest block of `ReadAhead`. The chip
+/// must have an ID that `KnownStatus2` and `OtherMakers` know and, if `KeptQuad` hides QE, one that `KeptQuad` knows.
+/// Its unique ID must not be eight bytes FFh or 00h. The chip of the bus is the programmer's, but its write enable
+/// latch is set if a write enable waits and the chip is idle.
 pub fn stack_is_well_behaved<P: Port + Drop, C: Clock + Drop>(bus: &Stack<P, C>)
     ensures honest { let port = P.state (port_below bus.now) in
         let splitting = splitting_in bus.now in

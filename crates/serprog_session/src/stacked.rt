@@ -1,5 +1,4 @@
-//! The calls of `calls.rt` over the layers of `Stack`: a session, two kinds of restore, and a backup of the chip at a
-//! programmer.
+//! The calls of `calls.rt` over the layers of `Stack`.
 ghost use Rattle.std.specs.Prelude.{◌≡◌, false, IfErr, OnOk};
 ghost use Rattle.nor_journal.specs.Saved.{is_saved};
 ghost use Rattle.nor_journal.specs.Vault.{IsFresh, Completed};
@@ -18,15 +17,12 @@ use nor_serprog::Port;
 use nor_session::{Refusal, Report, Request, backup, restore, rewrite, session};
 use std::time::Clock;
 
-/// Runs a session over the layers of `Stack`, with the promises of `session_over`.
+/// Runs a session over the layers of `Stack`, with the promises of `session_over`. On every port, no modifying command
+/// is sent to the layers before the vault is sealed.
 ///
-/// The promises about the programmer's chip hold if the stack fits the programmer (`IsFit`): the `BatchingBus` is one
-/// that `BatchingBus::emulated` returned, the programmer takes a page program and the reads of a sector and of the
-/// longest block, the layers know the chip's ID and don't hide bit 6 of its status 1, the chip has a unique ID, and no
-/// write enable waits at the start. The layers may send several transactions for one, so they may stop at any
-/// transaction, and error 12 does not show that the port had few calls left (`uncounted`).
-///
-/// On every port, no modifying command is sent to the layers before the vault is sealed.
+/// The promises about the programmer's chip hold if the stack fits the programmer and its chip, and no write enable
+/// waits at the start (`IsFit`). The layers may send several transactions for one, so they may stop at any transaction,
+/// and error 12 does not show that the port had few calls left (`uncounted`).
 pub fn session_over_layers<P: Port + Drop, C: Clock + Drop, V: Vault>(
     bus: &mut Stack<P, C>,
     vault: &mut V,
@@ -49,8 +45,7 @@ pub fn session_over_layers<P: Port + Drop, C: Clock + Drop, V: Vault>(
     session(bus, vault, image, request)
 }
 
-/// Runs a restore over the layers of `Stack`, with the promises of `restore_over`. The promises about the programmer's
-/// chip have the premises of `session_over_layers`.
+/// Runs a restore over the layers of `Stack`, with the promises of `restore_over`. Those about the chip need `IsFit`.
 pub fn restore_over_layers<P: Port + Drop, C: Clock + Drop>(
     bus: &mut Stack<P, C>,
     journal: &Journal<'_>,
@@ -67,8 +62,7 @@ pub fn restore_over_layers<P: Port + Drop, C: Clock + Drop>(
     restore(bus, journal)
 }
 
-/// Runs a restore over the layers of `Stack` that rewrites every saved sector, with the promises of `rewrite_over`. The
-/// promises about the programmer's chip have the premises of `session_over_layers`.
+/// Runs a rewrite over the layers of `Stack`, with the promises of `rewrite_over`. Those about the chip need `IsFit`.
 pub fn rewrite_over_layers<P: Port + Drop, C: Clock + Drop>(
     bus: &mut Stack<P, C>,
     journal: &Journal<'_>,
@@ -87,8 +81,7 @@ pub fn rewrite_over_layers<P: Port + Drop, C: Clock + Drop>(
     rewrite(bus, journal)
 }
 
-/// Runs a backup over the layers of `Stack`, with the promises of `backup_over`. The promises about the programmer's
-/// chip have the premises of `session_over_layers`.
+/// Runs a backup over the layers of `Stack`, with the promises of `backup_over`. Those about the chip need `IsFit`.
 pub fn backup_over_layers<P: Port + Drop, C: Clock + Drop, V: Vault>(
     bus: &mut Stack<P, C>,
     vault: &mut V,

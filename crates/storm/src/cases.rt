@@ -144,7 +144,6 @@ fn what_for(dice: &mut Dice, chip: &Chip) -> What {
     dice.pick(What::Write, &[What::Write, What::Erase])
 }
 
-// Draws the requested name: of 24 requests, 19 have none, 4 have the right one, and 1 has some name.
 fn name_for(dice: &mut Dice, chip: &Chip) -> Option<ChipName> {
     let right = verdicts::name_of(&chip.config);
     let listed = chips::row(dice).map_or(right, |part| part.name);
@@ -164,8 +163,7 @@ fn spans_for(alloc: Global, dice: &mut Dice, chip: &Chip) -> Result<Vec<Span>, F
     Ok(spans)
 }
 
-// Draws a span. Its greatest length is 300 bytes, one sector, 40,000 bytes or half of the chip. One span in 40 may be
-// longer, and ends at the chip's last address or after it.
+// Draws a span of at most 300 bytes, one sector, 40,000 bytes or half of the chip; one span in 40 may be longer.
 fn span_for(dice: &mut Dice, size: u32) -> Span {
     let sector = contents::sector(dice, size / SECTOR_LEN);
     let offset = dice.pick(0, &[0, 0x800, 0xFFF, 0x100]);

@@ -59,8 +59,7 @@ fn is_quiet(bus: &SimBus, chip: &Chip) -> bool {
     now & 0x01 == 0 && (now & 0x02 == 0 || chip.status[0] & 0x02 != 0)
 }
 
-/// Checks a refused session: the error, the transactions without a modifying command, an idle chip as before, and an
-/// unsealed vault.
+/// Checks a refused session: its error and transactions, an idle chip as before, and an unsealed vault.
 pub fn check_refused(alloc: Global, case: &Case, refusal: Refusal, ran: &Ran) -> Result<(), Fault> {
     agree_all(&[
         (ran.answer == Err(refusal), "the refusal of a session"),
@@ -74,8 +73,7 @@ pub fn check_refused(alloc: Global, case: &Case, refusal: Refusal, ran: &Ran) ->
     traces::check_lines(sent, lines.text(), "a refused session")
 }
 
-/// Checks an accepted session: it sent `lines`, the chip is the target, the report counts the work, and the sealed
-/// journal has exactly the touched sectors.
+/// Checks an accepted session: its transactions, the target on the chip, its report, and its sealed journal.
 pub fn check_ended(case: &Case, wanted: &Wanted, lines: &str, ran: &Ran) -> Result<(), Fault> {
     let Ok(report) = ran.answer else {
         return Err(Fault::Differs("an accepted session ends"));

@@ -47,8 +47,7 @@ impl Chip {
     }
 }
 
-/// Draws a chip of 64, 128 or 256 KiB without a row. A few have SFDP bytes that a probe rejects, or an ID that means
-/// that there is no chip.
+/// Draws a chip of 64, 128 or 256 KiB without a row. A few have bad SFDP bytes, or an ID that means no chip.
 pub fn small(alloc: Global, dice: &mut Dice) -> Result<Chip, Fault> {
     let told = Told {
         size: dice.pick(65_536, &[131_072, 262_144]),
@@ -59,7 +58,7 @@ pub fn small(alloc: Global, dice: &mut Dice) -> Result<Chip, Fault> {
     if dice.hits(1, 20) {
         parameters::damage(dice, &mut shown);
     }
-    // A chip whose SFDP a probe accepts has the size and erase types that it describes.
+    // If a probe accepts the SFDP, the chip has the size and erase types that the SFDP describes.
     let told = parameters::read(&shown, told.size).unwrap_or(told);
     let id = id_for(dice);
     let Some(config) = Config::new(id, told.size, told.k32, told.k64, false, &shown) else {
@@ -105,8 +104,7 @@ pub fn large(alloc: Global, dice: &mut Dice) -> Result<Chip, Fault> {
     chip_of(alloc, dice, config, status)
 }
 
-/// Draws status bytes: about a third locked, at least a third without a protection bit or with BP0 only, and at least
-/// one in eight with protection bits that the datasheets don't define.
+/// Draws status bytes, of which about a third are locked and at least one in eight has undefined protection bits.
 pub fn protection(dice: &mut Dice) -> Status {
     let lock1 = dice.pick(0x80, &[0x00, 0x00, 0x00, 0x00]);
     let lock2 = dice.pick(0x01, &[0x00, 0x00, 0x00, 0x00]);

@@ -6,17 +6,13 @@ use nor_chip::SECTOR_LEN;
 /// How the bytes of each sector change, in a run of adjacent sectors.
 #[derive(Clone, Copy)]
 enum Style {
-    /// All bytes become FFh.
     Erased,
-    /// All bytes become 00h.
     Cleared,
-    /// All bytes become random.
     Any,
     /// Bits of up to 40 bytes change from 1 to 0.
     Falls,
     /// Bits of up to 40 bytes change from 0 to 1.
     Rises,
-    /// One byte becomes random.
     OneByte,
 }
 
@@ -48,8 +44,7 @@ pub fn sector_at(bytes: &[u8], number: u32) -> &[u8] {
         .unwrap_or(&[])
 }
 
-/// Fills a chip with FFh or 00h or, one time in five if it has at most 256 KiB, with random bytes. Then changes up to
-/// eight runs of sectors.
+/// Fills a chip with FFh, 00h or random bytes, and then changes up to eight runs of sectors.
 pub fn paint(dice: &mut Dice, bytes: &mut [u8]) {
     let base = dice.pick(Style::Erased, &[Style::Erased, Style::Cleared]);
     let small = bytes.len() <= 262_144;
@@ -67,8 +62,7 @@ pub fn paint(dice: &mut Dice, bytes: &mut [u8]) {
     }
 }
 
-/// Changes up to six runs of sectors in `image`. For about a fifth of the chips of up to 256 KiB, all bytes are
-/// replaced first.
+/// Changes up to six runs of sectors in `image`, in some images after all bytes were replaced.
 pub fn alter(dice: &mut Dice, image: &mut [u8]) {
     let small = image.len() <= 262_144;
     if small && dice.hits(1, 10) {

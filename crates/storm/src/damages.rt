@@ -12,8 +12,7 @@ enum Damage {
     Changed,
 }
 
-/// Truncates, lengthens or changes the journal. Checks that `Journal::read` rejects it: a truncated one with `Short`,
-/// and a longer one with `Long`.
+/// Truncates, lengthens or changes the journal. Checks that `Journal::read` rejects it.
 pub fn check(alloc: Global, dice: &mut Dice, journal: &[u8]) -> Result<(), Fault> {
     let mut bytes = journal.to_vec(alloc)?;
     let damage = make(dice, &mut bytes)?;

@@ -11,7 +11,6 @@ pub struct Dice {
 }
 
 impl Dice {
-    /// Returns the source for one case of a seed, which doesn't depend on the other cases.
     pub fn new(seed: u64, case: u64) -> Dice {
         let mixed = case.wrapping_mul(0x9E37_79B9_7F4A_7C15);
         Dice {
@@ -24,8 +23,7 @@ impl Dice {
         below(&mut self.words, n)
     }
 
-    /// Draws how many bytes of the interrupted transaction a stop still sends: at two stops in three none (`None`),
-    /// otherwise 0 to 6, 0 to 260 (a full page program), or `u32::MAX` for all.
+    /// Draws how many bytes of the interrupted transaction a stop still sends, from none to all (`u32::MAX`).
     pub fn cut(&mut self) -> Option<u32> {
         match below(&mut self.cuts, 12) {
             0 | 1 => Some(below(&mut self.cuts, 7)),

@@ -6,7 +6,6 @@ use nor_layout::LayoutFault;
 use std::alloc::{AllocError, AllocFailed};
 use std::io;
 
-/// The fault that ended a run: before its first case, at a case, or when a result was printed.
 #[derive(Debug, Drop)]
 pub enum Fault {
     System(io::Error),
@@ -15,8 +14,7 @@ pub enum Fault {
     Case,
     /// The result differs from that of the reference implementation, as the text says.
     Differs(&'static str),
-    /// The call that the text names sent other transactions than the reference implementation. The number is that of
-    /// the first difference, from 1.
+    /// The named call sent other transactions than the reference implementation, first at this number, counted from 1.
     Sends(&'static str, u64),
     /// A comparison did not detect the planted error that the text names.
     Untold(&'static str),

@@ -1,6 +1,5 @@
 //! The addresses that protection bits protect, by the table in the datasheets of W25Q64FV and W25Q128FV.
 
-/// Status 1 and status 2.
 pub type Status = [u8; 2];
 
 /// Returns the non-volatile bits: all except BUSY, WEL and SUS.
@@ -17,7 +16,7 @@ pub fn is_locked(status: Status) -> bool {
     status[0] & 0b1000_0000 != 0 || status[1] & 0b0000_0001 != 0
 }
 
-/// Returns the protection bits as a number below 64: CMP, SEC, TB, BP2, BP1, BP0.
+/// Returns the protection bits as a number below 64, with these bits from the highest on: CMP, SEC, TB, BP2, BP1, BP0.
 pub fn code_of(status: Status) -> u8 {
     let low = status[0] / 4 % 32;
     if status[1] & 0b0100_0000 == 0 {
@@ -88,8 +87,7 @@ pub fn guards_some(code: u8, size: u32, sector: u32) -> bool {
     false
 }
 
-/// Returns the least protection bits that protect exactly `len` bytes from `start` on, if any do. If `len` is 0, any
-/// start is accepted.
+/// Returns the least protection bits that protect exactly `len` bytes from `start` on (from anywhere if `len` is 0).
 pub fn least_code(start: u32, len: u32, size: u32) -> Option<u8> {
     (0..64).find(|code| !is_undefined(*code) && protects_exactly(*code, start, len, size))
 }

@@ -11,7 +11,6 @@ pub struct High {
     pub bit: u8,
 }
 
-/// A bus over `bus` that sets a bit in each reply byte to one opcode if `high` is `Some`.
 #[derive(Drop)]
 pub struct HighBus<B> {
     bus: B,

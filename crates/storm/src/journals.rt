@@ -80,8 +80,7 @@ pub fn check_refused(
     )
 }
 
-/// Checks the vault of a session that stopped before its seal: the header and the records so far, or nothing before the
-/// identification was complete.
+/// Checks the vault of a session that stopped before its seal: it has the header and the records so far, or nothing.
 pub fn check_stopped(
     alloc: Global,
     case: &Case,

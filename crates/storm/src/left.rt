@@ -28,7 +28,6 @@ pub struct Left {
     pub bus: SimBus,
     pub sent: Vec<u8>,
     pub ended: bool,
-    // The chip as the reference implementation expects it.
     model: Model,
 }
 
@@ -43,7 +42,6 @@ impl<'a> Call<'a> {
         self.stop.after >= lines::count(self.whole)
     }
 
-    // Returns the lines of the transactions before the stop. A transaction that the stop interrupts has no line.
     fn lines(self) -> &'a str {
         lines::first(self.whole, self.stop.after)
     }
@@ -58,8 +56,7 @@ fn restore_lines_on(alloc: Global, accepted: Accepted<'_>, chip: &Chip) -> Resul
     transactions::restore(alloc, chip, saved.sectors, &restored)
 }
 
-/// Runs an accepted session with a stop. Checks that it succeeds only if the stop is late enough, that it sends the
-/// transactions before the stop, and that the chip equals the model.
+/// Runs an accepted session with a stop. Checks its result, its transactions, and that the chip equals the model.
 pub fn run(alloc: Global, accepted: Accepted<'_>, stop: Stop) -> Result<(Left, MemVault), Fault> {
     let ran = checks::run(alloc, accepted.case, stop)?;
     let call = Call {
@@ -99,8 +96,7 @@ fn check_session(call: Call<'_>, ran: &Ran) -> Result<(), Fault> {
     traces::check_trace(ran.sent.as_slice(), call.lines(), "a stopped session")
 }
 
-/// Restores with a stop on the chip that the previous call left, with the checks of `run`. After a success, the chip
-/// must be the original chip.
+/// Restores with a stop on the chip that the previous call left, with the checks of `run`.
 pub fn restore(
     alloc: Global,
     accepted: Accepted<'_>,

@@ -14,8 +14,8 @@ fn sum(numbers: &[u64]) -> u64 {
     sum
 }
 
-/// Returns the number of transactions of a probe: polls, the ID, and three reads of SFDP if the ID has no row and means
-/// a chip.
+/// Returns the number of transactions of a probe: polls, the ID, and three reads of SFDP unless the ID is in the table
+/// of chips or means that there is no chip.
 pub fn probe(chip: &Chip) -> u64 {
     let polls = u64::from(chip.delays.now) + 1;
     let known = verdicts::is_in_table(&chip.config) || verdicts::is_no_chip(&chip.config);
@@ -44,8 +44,7 @@ pub fn saving(case: &Case) -> u64 {
     sum(&[identity(&case.chip), scanned])
 }
 
-/// Returns the number of transactions of a session that is refused: errors 1 to 3 follow the probe, errors 4 to 8 the
-/// identification, and errors 9 and 10 the scan, which a request for a range lacks.
+/// Counts the transactions of a refused session, which ends after the probe, the identification or the scan.
 pub fn refused(case: &Case, refusal: Refusal) -> u64 {
     match refusal {
         Refusal::NoChip | Refusal::UnknownChip(_) | Refusal::OtherName => probe(&case.chip),
@@ -54,8 +53,7 @@ pub fn refused(case: &Case, refusal: Refusal) -> u64 {
     }
 }
 
-/// Returns the number of transactions of the changes: a read of each touched sector that isn't erased, and for each
-/// operation a write enable, a command, and polls.
+/// Counts the transactions of the changes: a read of each touched sector that isn't erased, and the operations.
 pub fn changes(chip: &Chip, work: Work) -> u64 {
     let operations = sum(&[work.erases, work.programs, work.status_writes]);
     let each = u64::from(chip.delays.each) + 3;
@@ -68,7 +66,7 @@ pub fn session(case: &Case, work: Work) -> u64 {
     sum(&[saving(case), changes(&case.chip, work), checked])
 }
 
-/// A restore always verifies.
+/// Counts the transactions of a restore, which always verifies the touched sectors.
 pub fn restore(chip: &Chip, saved: u64, work: Work) -> u64 {
     sum(&[identity(chip), saved, changes(chip, work), work.touched])
 }

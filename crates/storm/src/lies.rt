@@ -69,7 +69,6 @@ fn tell_session(alloc: Global, bus: Faulty, case: &Case) -> (Told, Put) {
     (Told { answer, sent }, put)
 }
 
-/// Checks a restore of `chip` on a faulty bus. `count` is its number of transactions on a bus without a fault.
 pub fn check_restore(
     alloc: Global,
     dice: &mut Dice,
@@ -148,14 +147,13 @@ struct Read {
     sent: Vec<u8>,
 }
 
-// The trace of the reference implementation, and its result: an error, or the case with the chip as replied.
+// The trace of the reference implementation, and an error or the case with the chip that the replies describe.
 #[derive(Drop)]
 struct Known {
     answer: Result<Case, CallError>,
     sent: Vec<u8>,
 }
 
-/// Checks a reading call on a faulty bus. `count` is the call's number of transactions on a bus without a fault.
 pub fn check_reading(
     alloc: Global,
     dice: &mut Dice,
@@ -228,8 +226,7 @@ enum Lie {
 
 type Faulty = HighBus<SpoiltBus<SimBus>>;
 
-// Draws a fault. Unless `count` is a multiple of 4, a `Low`, which clears a bit in each reply, is replaced by a fault
-// that sets this bit in the replies to one opcode, half of the time 35h (status 2).
+// Draws a fault. Some faults that would clear a bit in each reply set this bit in the replies to one opcode instead.
 fn lie_for(dice: &mut Dice, count: u64) -> Lie {
     let opcodes = [0x35, 0x05, 0x35, 0x9F, 0x35, 0x03, 0x35, 0x4B];
     let high = usize::try_from(count / 4 % 8)
@@ -244,8 +241,7 @@ fn lie_for(dice: &mut Dice, count: u64) -> Lie {
     }
 }
 
-// Draws a fault. At least half of the time the transaction of `Drop` and `BusyFrom` is in the last quarter of the call.
-// A `Drop` at 0 has no effect.
+// Draws a fault. At least half of the time the transaction of `Drop` or `BusyFrom` is in the call's last quarter.
 fn spoil_for(dice: &mut Dice, count: u64) -> Spoil {
     let late = count / 4 * 3;
     let number = if dice.hits(1, 2) {

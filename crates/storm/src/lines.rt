@@ -19,7 +19,6 @@ pub struct Lines {
 }
 
 impl Lines {
-    /// Returns an empty list, for transactions that start with `chip` in its present state.
     pub fn new(alloc: Global, chip: &Chip) -> Lines {
         Lines {
             text: String::new(alloc),
@@ -41,7 +40,6 @@ impl Lines {
         self.text.as_str()
     }
 
-    /// Appends a wait: polls (05h) up to the first without BUSY.
     pub fn wait(&mut self) {
         for _ in 0..=self.pace.busy {
             let status1 = self.status[0] | self.pace.bits();
@@ -144,7 +142,6 @@ pub fn first(lines: &str, count: u64) -> &str {
     lines.get(..end).unwrap_or(lines)
 }
 
-/// Returns byte `place` of the hexadecimal digits `sent`, or 0 if there is none.
 pub fn byte_at(sent: &str, place: usize) -> u8 {
     let from = place.saturating_mul(2);
     let digits = sent.get(from..from.saturating_add(2)).unwrap_or("");

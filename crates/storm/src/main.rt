@@ -1,37 +1,6 @@
-//! A random differential test of sessions, restores, rehearsals and reading calls on simulated chips. A reference
-//! implementation, written from the specification, has no code of the engine except the table of chips.
-//!
-//! - `words.rt`: the command line
-//! - `runs.rt`: runs the cases of a seed
-//! - `dice.rt`: random numbers of a seed and a case
-//! - `cases.rt`: a random chip with a request and an image
-//! - `chips.rt`: random chips
-//! - `contents.rt`: random bytes of chips and images
-//! - `parameters.rt`: random SFDP bytes, and a reference parser for them
-//! - `guards.rt`: the addresses that protection bits protect
-//! - `verdicts.rt`: the error that a call must return
-//! - `wanted.rt`: the target of a session or restore, and its work
-//! - `lengths.rt`: the number of transactions that a call sends
-//! - `transactions.rt`: the transactions that a call sends, in order
-//! - `lines.rt`: the trace line of each transaction
-//! - `pace.rt`: BUSY and the write enable latch of a chip
-//! - `journals.rt`: the bytes that a session writes to its vault
-//! - `model.rt`: a reference model of the chip, its stops and power failures
-//! - `checks.rt`: compares sessions that are not stopped
-//! - `traces.rt`: compares traces
-//! - `stops.rt`: compares sessions that are stopped, and their restores
-//! - `left.rt`: runs calls on a chip and on its model
-//! - `rehearsals.rt`: compares rehearsals with the calls one by one
-//! - `restores.rt`: compares restores of random chips
-//! - `damages.rt`: checks that damaged journals are rejected
-//! - `readings.rt`: compares the calls that only read
-//! - `lies.rt`: compares calls on faulty buses
-//! - `high.rt`: a faulty bus that sets a bit in replies
-//! - `errors.rt`: why a call over a faulty bus does not succeed
-//! - `told.rt`: the reference implementation over a faulty bus
-//! - `tally.rt`: counts the cases of each kind
-//! - `wrongs.rt`: checks that the comparisons detect errors
-//! - `fault.rt`: the reasons why a run ends early
+//! A random differential test of sessions, restores, rehearsals and reading calls on simulated chips. The reference
+//! implementation, written from the specification, uses no code of the engine except the table of chips. `runs.rt` runs
+//! the cases of a seed, and `wrongs.rt` checks that the comparisons detect errors.
 #![tactic(auto)]
 
 mod cases;
@@ -106,7 +75,7 @@ fn run_all(rt: &HostRuntime, job: Job) -> Result<ExitCode, Fault> {
     }
 }
 
-// Returns the number of cases that agreed, and of failures (0 or 1): of a case, or of a tally that isn't sufficient.
+// Returns the number of cases that agreed, and 1 if a case failed or the tally isn't sufficient, otherwise 0.
 fn run(rt: &HostRuntime, job: Job, seed: u64) -> Result<(u64, u64), Fault> {
     let (tally, failed) = runs::run(rt.alloc(), job, seed);
     eprintln!(rt; "Seed {seed}. {tally}")?;

@@ -11,7 +11,6 @@ use std::alloc::Global;
 /// The transaction at which a bus stops, and the effect of the stop.
 #[derive(Clone, Copy)]
 pub struct Stop {
-    /// The number of transactions that are carried out before the stop.
     pub after: u64,
     /// The greatest number of bytes of the next transaction that are still sent. `None` sends none.
     pub cut: Option<u32>,
@@ -55,7 +54,6 @@ enum Work {
 }
 
 impl Model {
-    /// Returns a model of `chip`. If the chip is busy, its operation is `Unknown`.
     pub fn of(alloc: Global, chip: &Chip) -> Result<Model, Fault> {
         Ok(Model {
             chip: chip.copy(alloc)?,
@@ -63,8 +61,7 @@ impl Model {
         })
     }
 
-    /// Carries out the transactions of a call up to the stop, and then the stop. `whole` has the call's lines without a
-    /// stop.
+    /// Carries out the transactions of a call, whose lines are `whole`, up to the stop, and then the stop.
     pub fn call(&mut self, whole: &str, stop: Stop) {
         let first = lines::first(whole, stop.after);
         for line in first.lines() {
@@ -97,7 +94,6 @@ impl Model {
         ])
     }
 
-    // Stops at a transaction. `sent` has the hexadecimal digits that it would send without the stop.
     fn stop(&mut self, sent: &str, stop: Stop) {
         if let Some(count) = stop.cut {
             let digits = (count as usize).saturating_mul(2);
@@ -108,7 +104,7 @@ impl Model {
         }
     }
 
-    // Only polls and modifying commands change the model. A 04h is never sent.
+    // Only polls and modifying commands change the model.
     fn carry_out(&mut self, sent: &str) {
         let opcode = byte_at(sent, 0);
         match (opcode, sent.len() / 2) {

@@ -42,7 +42,6 @@ impl Pace {
         }
     }
 
-    // Returns the pace after a poll. The write enable latch is cleared when `busy` becomes 0.
     fn after_poll(self) -> Pace {
         let busy = self.busy.saturating_sub(1);
         Pace {

@@ -66,7 +66,6 @@ fn density(dice: &mut Dice, size: u32) -> [u8; 4] {
     }
 }
 
-// Puts the erase types in a random rotation, with others that `read` ignores.
 fn put_kinds(dice: &mut Dice, shown: &mut Shown, start: usize, told: Told) {
     let blank = dice.pick([0x00, 0x00], &[[0x0C, 0x21], [0x12, 0xDC], [0x00, 0x52]]);
     let half = if told.k32 { [0x0F, 0x52] } else { blank };
@@ -79,8 +78,7 @@ fn put_kinds(dice: &mut Dice, shown: &mut Shown, start: usize, told: Told) {
     }
 }
 
-/// Damages the bytes once or twice, so that `read` mostly returns a fault. A chip may still find a table whose address
-/// was changed, since it takes the address modulo its size.
+/// Damages the bytes once or twice, so that `read` mostly returns a fault.
 pub fn damage(dice: &mut Dice, shown: &mut Shown) {
     for _ in 0..dice.pick(1, &[1, 2]) {
         damage_once(dice, shown);
@@ -132,8 +130,7 @@ pub fn put(shown: &mut Shown, at: usize, piece: &[u8]) {
     }
 }
 
-/// Returns what the bytes describe, or the first fault of `SfdpFault` that they have. The chip takes the table's
-/// address modulo its `size`.
+/// Returns what the bytes describe, or their first fault. The chip takes the table's address modulo its `size`.
 pub fn read(shown: &Shown, size: u32) -> Result<Told, SfdpFault> {
     if shown[..4] != [0x53, 0x46, 0x44, 0x50] {
         return Err(SfdpFault::Signature);

@@ -196,8 +196,7 @@ fn first_difference(case: &Case) -> Option<Refusal> {
     None
 }
 
-/// Checks the result of a successful call on a faulty bus: a report on protection, or a copy, must fit the chip that
-/// the replies described. Other results are not checked.
+/// Checks a report on protection or a copy from a faulty bus against the chip that the replies described.
 pub fn check_known(alloc: Global, known: &Case, told: &Told) -> Result<(), Fault> {
     match told {
         Told::Found | Told::Comparison(_) => Ok(()),
@@ -294,8 +293,7 @@ fn copy_out(alloc: Global, case: &Case, bus: SimBus, (nth, kept): (u64, usize)) 
     Copied { answer, out, sent }
 }
 
-// Checks that the vault has the first `written` bytes of the copy, and that only sectors up to the end of the refused
-// piece (16 sectors each) were read.
+// Checks that the vault has the first `written` bytes of the copy, and that no sector after the refused piece was read.
 fn check_part(alloc: Global, case: &Case, written: u64, copied: &Copied) -> Result<(), Fault> {
     check_first(alloc, case, written, copied.out.inner().bytes())?;
     let piece = u32::try_from(written / 65_536).unwrap_or(u32::MAX);

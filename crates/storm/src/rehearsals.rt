@@ -13,7 +13,6 @@ use std::alloc::Global;
 
 #[derive(Clone, Copy)]
 struct Plan {
-    // The stops of the session and of two restores, in transactions.
     stops: [u64; 3],
     // How many bytes of the interrupted transaction each stop still sends.
     cut: Option<u32>,

@@ -52,8 +52,7 @@ struct Whole<'a> {
     refusal: Option<Refusal>,
 }
 
-/// Checks restores of a random chip: without a stop, with a stop, and on a faulty bus. Returns the error of a restore
-/// that is refused.
+/// Checks restores of a random chip: without a stop, with a stop, and on a faulty bus. Returns the error of a refusal.
 pub fn check(
     alloc: Global,
     dice: &mut Dice,
@@ -130,8 +129,7 @@ fn check_ended(whole: Whole<'_>, ran: &Restored) -> Result<(), Fault> {
     checks::check_wanted(whole.wanted, &ran.bus)
 }
 
-// Checks a stopped restore. If the stop is after all `lines`, the result is that without a stop, otherwise `Stopped`.
-// The chip must equal the model.
+// Checks a stopped restore: it returns `Stopped` if the stop is before its end, and the chip equals the model.
 fn check_stopped(
     alloc: Global,
     dice: &mut Dice,
@@ -173,8 +171,7 @@ fn check_stop(wanted: Option<Refusal>, lines: &str, ran: &Restored) -> Result<()
     traces::check_trace(ran.sent.as_slice(), lines, "a restore under a stop")
 }
 
-// Draws a chip: one time in twelve an unrelated small one, otherwise the original one, usually with changed bytes, and
-// half of the time with new status bits or another unique ID.
+// Draws an unrelated small chip, or the original chip, which may get other bytes, status bits or another unique ID.
 fn other_chip(alloc: Global, dice: &mut Dice, chip: &Chip) -> Result<Chip, Fault> {
     if dice.hits(1, 12) {
         return chips::small(alloc, dice);

@@ -31,8 +31,7 @@ pub fn run(alloc: Global, job: Job, seed: u64) -> (Tally, Option<FailedCase>) {
     (tally, None)
 }
 
-// Runs a case, one time in four also on a faulty bus, and one time in eight the reading calls. These draw from numbers
-// of their own, so that they don't change the rest of the case.
+// Runs a case, one time in four also on a faulty bus, and one time in eight the reading calls.
 fn run_case(alloc: Global, seed: u64, number: u64, tally: &mut Tally) -> Result<(), Fault> {
     let mut dice = Dice::new(seed, number);
     let case = Case::next(alloc, &mut dice)?;
@@ -117,8 +116,7 @@ fn check_accepted(
     go_on(alloc, dice, accepted, ran, tally)
 }
 
-// Checks an accepted session, also with a stop and restores after it. A rehearsal is checked one time in four, a
-// damaged journal and restores of another chip one time in three.
+// Checks an accepted session, with a stop and sometimes a rehearsal, a damaged journal and restores of another chip.
 fn go_on(
     alloc: Global,
     dice: &mut Dice,

@@ -16,8 +16,8 @@ use nor_journal::{Journal, MemVault};
 use nor_session::Refusal;
 use std::alloc::Global;
 
-/// Runs an accepted session with a random stop, and up to four restores with stops if it was sealed, until one
-/// succeeds. Returns how many stops were inside a transaction.
+/// Runs an accepted session with a random stop. If its vault was sealed, runs up to four restores with stops, and then
+/// one without, until a restore succeeds. Returns how many of these stops sent a drawn number of bytes.
 pub fn check(alloc: Global, dice: &mut Dice, accepted: Accepted<'_>) -> Result<Cuts, Fault> {
     let stop = Stop {
         after: stop_for(dice, accepted.case, accepted.wanted),
@@ -56,8 +56,7 @@ fn check_stop(
     }
 }
 
-/// Runs a refused session with a random stop: it returns `refusal` if the stop is after its transactions, otherwise
-/// `Stopped`. The vault must be unsealed, and the chip as before.
+/// Runs a refused session with a random stop. The vault must be unsealed, and the chip as before.
 pub fn check_refused(
     alloc: Global,
     dice: &mut Dice,
@@ -120,8 +119,7 @@ pub fn fill_for(dice: &mut Dice, case: &Case) -> Option<u8> {
     }
 }
 
-// Checks that untouched sectors, and status bits that flashnor never changes, are as before. Without block protection,
-// or with a locked status, all non-volatile status bits must be as before.
+// Checks that untouched sectors, and status bits that flashnor never changes, are as before.
 fn check_within(case: &Case, wanted: &Wanted, bus: &SimBus) -> Result<(), Fault> {
     check_outside(&case.chip, wanted, bus.bytes())?;
     let (before, after) = (guards::kept(case.chip.status), guards::kept(bus.status()));
@@ -144,8 +142,7 @@ fn check_outside(chip: &Chip, wanted: &Wanted, bytes: &[u8]) -> Result<(), Fault
     Ok(())
 }
 
-// Checks that in a sector that isn't raised, only bits that are 0 in the target have changed. A loss of power may do
-// more.
+// Checks, unless the chip lost its power, that only bits that are 0 in the target changed in sectors without an erase.
 fn check_gentle(case: &Case, wanted: &Wanted, bus: &SimBus, fill: Option<u8>) -> Result<(), Fault> {
     if fill.is_some() {
         return Ok(());
@@ -217,7 +214,7 @@ fn give_some(
     Ok(left)
 }
 
-/// Draws after how many transactions a restore stops: at most `most`, and half of the time at most 40.
+/// Draws after how many transactions a restore stops: at most `most`, and at least half of the time at most 40.
 pub fn stop_of_restore(dice: &mut Dice, most: u64) -> u64 {
     let most = if dice.hits(1, 2) { most } else { most.min(40) };
     dice.up_to(most)

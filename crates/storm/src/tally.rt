@@ -4,7 +4,7 @@ use crate::model::Stop;
 use nor_session::Refusal;
 use std::fmt;
 
-/// Returns the least count that is sufficient after `cases` cases: 5 from 500 cases on.
+/// Returns the least count that is sufficient after `cases` cases: 5 from 500 cases on, otherwise 0.
 pub fn least(cases: u64) -> u64 {
     if cases < 500 { 0 } else { 5 }
 }
@@ -19,17 +19,14 @@ pub struct Tally {
     pub restored: u64,
     /// The numbers of refused restores of the random chips of `restores.rt`, by the number of the error.
     pub kept_away: [u64; 21],
-    /// The number of accepted sessions that were also rehearsed.
     pub rehearsed: u64,
-    /// The number of cases whose chip was also read by each of the reading calls.
     pub read: u64,
     /// The number of sessions that were also run on a faulty bus.
     pub lied: u64,
     pub cuts: Cuts,
 }
 
-/// The stops inside a transaction, in the accepted sessions of `stops.rt` and their restores. A drawn number of bytes
-/// of the transaction was sent, which may be 0 or all.
+/// The numbers of stops of accepted calls that still sent a drawn number of bytes, from none to a whole transaction.
 #[derive(Clone, Copy)]
 pub struct Cuts {
     pub sessions: u64,
@@ -45,8 +42,7 @@ impl Cuts {
         losses: 0,
     };
 
-    /// Adds the stop of a session: to `sessions` if it was inside a transaction, and to `losses` if the chip lost its
-    /// power. A session that `ended` before adds nothing.
+    /// Adds a session's stop. A session that `ended` before its stop, or a stop between two transactions, adds nothing.
     pub fn with_session(self, stop: Stop, ended: bool) -> Cuts {
         let more = u64::from(!ended && stop.cut.is_some());
         Cuts {

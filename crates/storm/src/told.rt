@@ -1,5 +1,4 @@
-//! The reference implementation of calls over a bus that may be faulty. It knows the chip only by the replies of that
-//! bus.
+//! The reference implementation over a bus that may be faulty. It knows the chip only by the replies of that bus.
 
 use crate::cases::Case;
 use crate::chips::{self, Chip};
@@ -23,15 +22,13 @@ pub type Liar<'a> = TraceBus<HighBus<SpoiltBus<SimBus>>, &'a mut Vec<u8>>;
 
 const MOST_POLLS: u32 = 65_536;
 
-/// The bytes that a session must have written to its vault, without the end mark and the digest, and whether the vault
-/// is sealed.
+/// The bytes that a session must have written to its vault before the end mark, and whether the vault is sealed.
 #[derive(Drop)]
 pub struct Put {
     pub begun: Vec<u8>,
     pub sealed: bool,
 }
 
-/// The reference implementation, with its bus and the expected contents of the vault.
 #[derive(Drop)]
 pub struct Caller<'a> {
     pub bus: Liar<'a>,
@@ -78,7 +75,7 @@ impl Caller<'_> {
         Ok(())
     }
 
-    /// Runs a reading call. If it succeeds, returns `case` with the chip that the replies describe.
+    /// Runs a reading call. After success, returns `case` with the chip that the replies describe.
     pub fn reading(&mut self, reading: Reading, case: &Case) -> Result<Case, CallError> {
         let (config, status1) = self.find(case.request.named)?;
         let chip = unread(self.alloc, config, [status1, 0])?;
@@ -129,7 +126,6 @@ impl Caller<'_> {
         }
     }
 
-    // Polls until BUSY is clear, and returns status 1. Returns `Timeout` with `address` after `MOST_POLLS` polls.
     fn wait(&mut self, address: u32) -> Result<u8, CallError> {
         for _ in 0..MOST_POLLS {
             let mut status1 = [0];
@@ -240,7 +236,7 @@ impl Caller<'_> {
         self.play(lines)
     }
 
-    // Programs a sector. One that wasn't erased is read again, and only pages that then differ are programmed.
+    // Programs the pages of a sector that differ from the target. A sector that wasn't erased is read again first.
     fn program(&mut self, chip: &mut Chip, wanted: &Wanted, number: u32) -> Result<(), CallError> {
         if !wanted.raises_all(number, 1) {
             self.take_sector(number, chip)?;
@@ -250,8 +246,7 @@ impl Caller<'_> {
         self.play(lines)
     }
 
-    // Waits after each command except a write enable. Lines with a reply are skipped, since the caller has made the
-    // reads.
+    // Sends the lines without a reply, and waits after each command except a write enable.
     fn play(&mut self, lines: Lines) -> Result<(), CallError> {
         let lines = lines.whole()?;
         self.play_lines(lines.text())

@@ -8,8 +8,7 @@ use crate::wanted::Wanted;
 use nor_chip::SECTOR_LEN;
 use nor_session::Refusal;
 
-/// Checks that the trace `sent` has exactly the lines `wanted`. Otherwise `Sends` has the number of the first
-/// difference, from 1.
+/// Checks that the trace `sent` has exactly the lines `wanted`.
 pub fn check_lines(sent: &str, wanted: &str, call: &'static str) -> Result<(), Fault> {
     let mut number = 1_u64;
     for (line, other) in sent.lines().zip(wanted.lines()) {
@@ -77,7 +76,7 @@ fn erases_only_raised(sent: &str, sectors: u32, wanted: &Wanted) -> bool {
     true
 }
 
-// Returns the first sector that the line erases and the number of these sectors, on a chip of `sectors` sectors.
+// Returns the first sector that the line erases and the number of erased sectors, on a chip of `sectors` sectors.
 fn erased_by(line: &str, sectors: u32) -> Option<(u32, u32)> {
     let count = match byte_at(line, 0) {
         0xC7 => return Some((0, sectors)),

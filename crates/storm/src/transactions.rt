@@ -1,8 +1,6 @@
-//! The transactions that each call must send, in order, with one line for each: a part of the reference implementation.
-//!
-//! A wait is a number of polls (05h) until one shows BUSY clear, an operation a write enable (06h), a command and a
-//! wait. A transaction that a stop interrupts has no line. A session or restore has these steps:
-//!
+//! The trace lines of the transactions that each call must send, in order. A wait is polls (05h) up to the first one
+//! with BUSY clear. An operation is a write enable (06h), a command and a wait. A session or restore has these steps,
+//! with sectors in ascending order:
 //! 1. Find the chip: a wait, the ID, and three reads of SFDP, except for an ID that has a row or means no chip.
 //! 2. Identify the device: status 2 and the unique ID.
 //! 3. Read the sectors with an included address (session, unless it only sets a range) or the saved ones (restore).
@@ -11,8 +9,6 @@
 //! 6. Program the touched sectors. A sector that wasn't erased is read first.
 //! 7. Set the protection bits of the target, if they differ.
 //! 8. Verify: read the touched sectors again (for a session, only if the request asks for it).
-//!
-//! Sectors come in ascending order.
 
 use crate::cases::Case;
 use crate::chips::Chip;
@@ -34,8 +30,7 @@ pub fn session(alloc: Global, case: &Case, wanted: &Wanted) -> Result<Lines, Fau
     lines.whole()
 }
 
-// Appends steps 1 to 3 of a session. During step 3 the session writes each touched sector to the vault as soon as it
-// has read it, which adds no line.
+// Appends steps 1 to 3 of a session. Step 3 reads only sectors below `below`.
 fn save(lines: &mut Lines, case: &Case, below: u32) {
     find(lines, &case.chip);
     identify(lines);
@@ -44,8 +39,7 @@ fn save(lines: &mut Lines, case: &Case, below: u32) {
     }
 }
 
-/// Returns the lines of a session that is refused: with errors 1 to 3 after step 1, 4 to 8 after step 2, 9 and 10 after
-/// step 3.
+/// Returns the lines of a refused session: errors 1 to 3 follow step 1, 4 to 8 step 2, and 9 and 10 step 3.
 pub fn refused_session(alloc: Global, case: &Case, refusal: Refusal) -> Result<Lines, Fault> {
     let mut lines = Lines::new(alloc, &case.chip);
     match refusal.number() {
@@ -69,8 +63,7 @@ pub fn restore(
     lines.whole()
 }
 
-/// Returns the lines of a restore that is refused: with errors 1, 2 and 16 after step 1, 20 and 17 after step 2, 9
-/// after step 3.
+/// Returns the lines of a refused restore: errors 1, 2 and 16 follow step 1, 17 and 20 step 2, and 9 step 3.
 pub fn refused_restore(
     alloc: Global,
     chip: &Chip,
@@ -92,15 +85,14 @@ fn scan_saved(lines: &mut Lines, chip: &Chip, saved: &[Sector]) {
     read_touched(lines, saved);
 }
 
-/// Returns the trace lines of a probe. The chip name that the caller requires doesn't change them.
+/// Returns the lines of a probe. The chip name that the caller requires doesn't change them.
 pub fn probe(alloc: Global, chip: &Chip) -> Result<Lines, Fault> {
     let mut lines = Lines::new(alloc, chip);
     find(&mut lines, chip);
     lines.whole()
 }
 
-/// Returns the lines of a readout or a verification: step 1, and reads of the included sectors below `below`. A
-/// difference is returned after the last read, any other error before the first.
+/// Returns the lines of a readout or a verification: step 1, and reads of the included sectors below `below`.
 pub fn reading(alloc: Global, case: &Case, below: u32) -> Result<Lines, Fault> {
     let mut lines = Lines::new(alloc, &case.chip);
     find(&mut lines, &case.chip);
@@ -108,8 +100,7 @@ pub fn reading(alloc: Global, case: &Case, below: u32) -> Result<Lines, Fault> {
     lines.whole()
 }
 
-/// Returns the lines of a report on protection: step 1, and a read of status 2 if the probe returned no error
-/// (`is_found`).
+/// Returns the lines of a report on protection: step 1, and a read of status 2 if `is_found`.
 pub fn protection(alloc: Global, chip: &Chip, is_found: bool) -> Result<Lines, Fault> {
     let mut lines = Lines::new(alloc, chip);
     find(&mut lines, chip);
@@ -188,8 +179,8 @@ pub fn protect(lines: &mut Lines, chip: &Chip, wanted: &Wanted) {
     }
 }
 
-// Appends the erases. Each one takes the largest aligned block (64 KiB, 32 KiB or one sector) with only raised sectors
-// that the chip can erase at once.
+// Appends erases of the largest aligned blocks (64 KiB, 32 KiB or a sector) that have only raised sectors. Uses only
+// erase types that the chip has.
 fn erase_blocks(lines: &mut Lines, chip: &Chip, wanted: &Wanted) {
     for block in 0..chip.sectors() / 16 {
         let first = block.saturating_mul(16);
@@ -245,7 +236,7 @@ fn page_at(bytes: &Vec<u8>, start: u32) -> &[u8] {
         .unwrap_or(&[])
 }
 
-// Returns the first and the last position to program: of bytes other than FFh in an erased page, else of differences.
+// Returns the first and last position to program: of new bytes other than FFh in an erased page, else of differences.
 fn span(old: &[u8], new: &[u8], is_erased: bool) -> Option<(usize, usize)> {
     let mut found = None;
     for (place, (old, new)) in old.iter().zip(new).enumerate() {

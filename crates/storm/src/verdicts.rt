@@ -1,4 +1,4 @@
-//! The error that a call must return, if any, in the order in which the call must check.
+//! The error that a call must return, if any: the first one in the order in which the call must check.
 
 use crate::cases::Case;
 use crate::chips::Chip;
@@ -122,8 +122,7 @@ pub fn of_journal(config: &Config, saved: Saved<'_>) -> Option<Refusal> {
     }
 }
 
-/// Returns error 20 if the journal is for another device, or error 17 if status bits that no restore changes differ:
-/// those that flashnor never changes or, without block protection, all non-volatile ones.
+/// Returns error 20 for a journal of another device, or error 17 if status bits that no restore changes differ.
 pub fn of_unit(chip: &Chip, saved: Saved<'_>) -> Option<Refusal> {
     if chip.config.unique != saved.chip.config.unique {
         return Some(Refusal::OtherUnit);

@@ -11,9 +11,7 @@ use std::alloc::Global;
 
 #[derive(Clone, Copy)]
 pub struct Sector {
-    /// True if some byte must change.
     pub touched: bool,
-    /// True if some bit must rise from 0 to 1.
     pub raised: bool,
     pub pages: u32,
 }
@@ -93,8 +91,7 @@ impl Wanted {
         }
     }
 
-    // Counts the status writes: one clears the protection bits if a touched sector is protected, and one sets those of
-    // the target if they then differ.
+    // Counts the status writes: one that clears the protection bits if needed, and one that sets those of the target.
     fn status_writes(&self, chip: &Chip) -> u64 {
         let lifted = self.first_guarded(chip).is_some();
         let code = if lifted {
@@ -177,8 +174,7 @@ fn rises(old: &[u8], new: &[u8]) -> bool {
     old.iter().zip(new).any(|(old, new)| *new & !*old != 0)
 }
 
-// Counts the pages to program. In a raised sector, which is erased first, these are the pages whose target isn't all
-// FFh, otherwise those that change.
+// Counts the pages to program: in a raised sector those whose target isn't all FFh, otherwise those that change.
 fn pages_of(old: &[u8], new: &[u8], raised: bool) -> u32 {
     let mut pages = 0_u32;
     for (old, new) in old.chunks(256).zip(new.chunks(256)) {
@@ -192,8 +188,8 @@ fn pages_of(old: &[u8], new: &[u8], raised: bool) -> u32 {
     pages
 }
 
-// Returns 1 if all sectors are raised. Otherwise counts an erase for each aligned 64 KiB with only raised sectors, for
-// each other such 32 KiB, and for each other raised sector, as far as the chip has the erase types.
+// Returns the number of erases: one if all sectors are raised (a chip erase), otherwise one for each of the largest
+// aligned blocks that have only raised sectors and a size that the chip can erase.
 fn fewest_erases(sectors: &[Sector], chip: &Chip) -> u64 {
     if are_raised(sectors) {
         return 1;

@@ -2,7 +2,6 @@
 
 #[derive(Clone, Copy)]
 pub struct Job {
-    /// The first and the last seed.
     pub seeds: (u64, u64),
     /// The number of the first case of each seed.
     pub first: u64,
@@ -10,8 +9,7 @@ pub struct Job {
 }
 
 impl Job {
-    /// Parses `SEED COUNT` (cases from 0 on) or `SEED COUNT FIRST`; `SEED-LAST` in place of `SEED` selects these cases
-    /// for several seeds. Returns `None` for other arguments.
+    /// Parses `SEED COUNT` or `SEED COUNT FIRST`, in which `SEED-LAST` may replace `SEED`. Returns `None` otherwise.
     pub fn of(words: &[String]) -> Option<Job> {
         match words {
             [seeds, count] => Job::of_numbers(seeds.as_str(), count.as_str(), "0"),

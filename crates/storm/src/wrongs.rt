@@ -1,4 +1,4 @@
-//! Tests of this test: its comparisons must detect a wrong byte and a wrong line.
+//! Tests of the random test itself: its comparisons must detect a wrong byte and a wrong line.
 
 use crate::cases::Case;
 use crate::checks::{self, Ran};
@@ -26,7 +26,6 @@ fn must_tell(told: Result<(), Fault>, what: &'static str) -> Result<(), Fault> {
     }
 }
 
-// Checks that the number of a line that is wrong, missing or additional is reported.
 fn check_places() -> Result<(), Fault> {
     let rows = [
         ("05 > 00\n9f > fe1010\n", None),
@@ -96,7 +95,6 @@ fn check_byte(case: &Case, wanted: &mut Wanted, lines: &str, ran: &Ran) -> Resul
     must_tell(told, "the bytes at the end")
 }
 
-// Checks that a model that received one byte less is detected.
 fn check_cut(alloc: Global) -> Result<(), Fault> {
     let case = Case::next(alloc, &mut Dice::new(1, 0))?;
     let wanted = Wanted::of_case(alloc, &case)?;
@@ -114,8 +112,7 @@ fn check_cut_in(alloc: Global, case: &Case, lines: &str) -> Result<(), Fault> {
     }
 }
 
-// Compares a chip that received five bytes of a program (opcode, address, and a first data byte that differs from the
-// chip's) with a model that received four.
+// Compares a chip that received five bytes of a program with a model that received four.
 fn check_cut_after(alloc: Global, case: &Case, lines: &str, after: u64) -> Result<(), Fault> {
     let stop = Stop {
         cut: Some(5),

@@ -11,7 +11,6 @@ use std::alloc::Global;
 
 /// Performs the action on `bus`, and compares its result with the expected one. `came` must be empty; after the fault
 /// `Differs` it has the actual result. `Unread` also means that an argument breaks a premise of the called function.
-/// `Stopped` and `Replied` mean that the bus stopped a transaction that it must carry out, or the reverse.
 pub fn take(
     alloc: Global,
     bus: &mut Way<'_>,
@@ -44,7 +43,7 @@ fn call(
     agree(came, wanted)
 }
 
-// Sends a transaction. `words` has the bytes to send and, after `<`, the bytes that the reply buffer must have then.
+// Sends a transaction. `words` has the bytes to send and, after `<`, the bytes that the reply buffer must then have.
 fn exchange(
     alloc: Global,
     bus: &mut Way<'_>,
@@ -58,8 +57,8 @@ fn exchange(
     send(alloc, bus, came, stops, (&out, &wanted))
 }
 
-// The reply buffer first gets bytes that all differ from the expected ones, so that the comparison fails if the bus
-// doesn't write each of them. A bus that must stop must leave them, so they are then the expected ones.
+// Fills the reply buffer with bytes that all differ from the expected ones, so that the comparison fails if the bus
+// doesn't write each of them. If the transaction must stop, the buffer has the expected bytes, and must keep them.
 fn send(
     alloc: Global,
     bus: &mut Way<'_>,

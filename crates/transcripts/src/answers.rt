@@ -22,7 +22,6 @@ pub struct Answers<'a> {
     config: Config,
     left: Left,
     trace: Lines<'a>,
-    // whether a check of this case compared a line of the trace
     is_traced: bool,
     // the protectable ranges that no line `set` has checked yet
     sets: Offered,
@@ -97,8 +96,8 @@ impl<'a> Answers<'a> {
         }
     }
 
-    // Checks that the bytes of the range `words` have one value, and all others a second one: `bytes` is `ff else 00`,
-    // or `ff` for the whole chip.
+    // Checks all bytes: `ff else 00` stands for FFh in the range `words` and 00h elsewhere, and `ff` for FFh
+    // everywhere.
     fn check_array(&self, came: &mut String, words: &str, bytes: &str) -> Result<(), Fault> {
         let places = addresses_of(words)?;
         let (inside, outside) = bytes.split_once(" else ").unwrap_or((bytes, bytes));
@@ -109,7 +108,6 @@ impl<'a> Answers<'a> {
         }
     }
 
-    // Checks the protection only of the first and the last address of each sector.
     fn check_guards(&self, came: &mut String, words: &str, places: &str) -> Result<(), Fault> {
         let status = status_of(words)?;
         guards::check(came, &self.config, status, addresses_of(places)?)
@@ -125,8 +123,7 @@ impl<'a> Answers<'a> {
         Err(Fault::Differs)
     }
 
-    // Checks that the range `words` is the next protectable one, that `wanted` has the least protection bits for it
-    // (`code_for`), and that these protect exactly this range.
+    // Checks that `words` is the next protectable range, and that `wanted` has the least protection bits for it.
     fn check_set(&mut self, came: &mut String, words: &str, wanted: &str) -> Result<(), Fault> {
         let set = pair_of(words)?;
         let status = status_of(wanted)?;
@@ -153,8 +150,7 @@ fn tell_place(came: &mut String, (at, byte): (usize, u8)) -> Result<(), Fault> {
     Err(Fault::Differs)
 }
 
-// Returns the first address whose byte isn't the expected one, and this byte. `inside` is expected at `places`,
-// `outside` at all others.
+// Returns the first address whose byte isn't `inside` (within `places`) or `outside` (elsewhere), and this byte.
 fn unlike(bytes: &[u8], places: (u32, u32), (inside, outside): (u8, u8)) -> Option<(usize, u8)> {
     let (start, end) = (places.0 as usize, places.1 as usize);
     for (at, byte) in bytes.iter().enumerate() {

@@ -14,7 +14,7 @@ use std::alloc::Global;
 use std::fmt::Write;
 
 /// Calls the function that `word` names with the arguments in `words`, and writes its result to `came`: the number of
-/// transactions, `stop`, or `timeout ADDRESS`. A wait's text begins with the status 1 of its last poll.
+/// transactions, `stop`, or `timeout ADDRESS`. For a wait that succeeds, status 1 of its last poll comes first.
 pub fn call(
     alloc: Global,
     bus: &mut Way<'_>,

@@ -18,8 +18,7 @@ pub struct Case<'a> {
 }
 
 impl<'a> Case<'a> {
-    /// Splits the text of a case, which begins with its name in the line `number` of the input. Without a line `chip`
-    /// the case has no settings, and fails when it is played.
+    /// Splits the text of a case, whose name is in the line `number` of the input. Without a line `chip`, `play` fails.
     pub fn of(text: &'a str, number: usize) -> Case<'a> {
         let (name, rest) = text.split_once('\n').unwrap_or((text, ""));
         let (chip, steps) = rest.split_once('\n').unwrap_or((rest, ""));
@@ -31,8 +30,7 @@ impl<'a> Case<'a> {
         }
     }
 
-    /// Plays the case on a chip of its own, and returns the first failure. After the fault `Differs`, `came` has the
-    /// actual value. A case that has neither an action nor a check fails.
+    /// Plays the case on a chip of its own, and returns the first failure. A case without actions and checks fails.
     pub fn play(self, alloc: Global, came: &mut String) -> Result<(), LineFault> {
         let setup = match self.setup() {
             Ok(setup) => setup,
@@ -51,8 +49,7 @@ impl<'a> Case<'a> {
         }
     }
 
-    // Performs all actions on a new bus. Returns the chip and the number of transactions that the bus did not stop, or
-    // the first fault, which is `Lost` if a line of the trace was lost.
+    // Performs all actions on a new bus. Fails with the first fault, or with `Lost` if a line of the trace was lost.
     fn act(
         self,
         alloc: Global,

@@ -9,6 +9,7 @@ use std::num::ParseIntError;
 pub enum Fault {
     /// The line can't be parsed, a value in it isn't allowed, or the case has no steps.
     Unread,
+    /// The actual value, which is in `came`, isn't the expected one.
     Differs,
     /// The bus stopped a transaction that it must carry out.
     Stopped,

@@ -8,8 +8,8 @@ use crate::fault::Fault;
 use nor_chip::{Config, SECTOR_LEN, code_for, protected, unit_protected};
 use std::fmt::Write;
 
-/// Checks that `status` protects exactly the addresses from `start` up to, but not including, `end`: the first and the
-/// last address of each sector. Appends `guarded` or `free` and the address that is wrong to `came`.
+/// Checks that `status` protects exactly the addresses `start..end`, at the first and the last address of each sector.
+/// If not, appends `guarded` or `free` and the first wrong address to `came`.
 pub fn check(
     came: &mut String,
     config: &Config,
@@ -37,8 +37,7 @@ fn word(is_protected: bool) -> &'static str {
     if is_protected { "guarded" } else { "free" }
 }
 
-/// Appends `guarded` to `came` if `unit_protected` finds a protected address, otherwise `free`. `words` has the status,
-/// the first address, and the address after the last one.
+/// Appends `guarded` to `came` if the status protects an address of the range (both in `words`), otherwise `free`.
 pub fn put_unit(came: &mut String, config: &Config, words: &str) -> Result<(), Fault> {
     let (status, places) = words.split_once(' ').ok_or(Fault::Unread)?;
     let status = status_of(status)?;
@@ -50,8 +49,7 @@ pub fn put_unit(came: &mut String, config: &Config, words: &str) -> Result<(), F
     put_text(came, word(is_protected))
 }
 
-/// Appends to `came` the least value of the protection bits that protect exactly the range in `words` (first address
-/// and length), or `none`.
+/// Appends to `came` the least protection bits that protect exactly the range in `words`, or `none`.
 pub fn put_least(came: &mut String, config: &Config, words: &str) -> Result<(), Fault> {
     let (start, len) = pair_of(words)?;
     match code_for(start, len, config.size) {

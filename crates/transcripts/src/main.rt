@@ -1,12 +1,9 @@
 //! `transcripts` reads cases from standard input and plays each on a simulated chip. It compares the replies, the
-//! trace, and the state that the chip has at the end, with those that the case states. It prints a line for each case
-//! that fails, and how many passed and failed.
+//! trace and the final state of the chip with those that the case states. It prints a line for each case that fails,
+//! and how many passed and failed.
 //!
-//! Each line is parsed when it is played. If a line can't be parsed, its case fails, and the other cases are played.
-//!
-//! If a comparison fails, the actual value is in the string `came`, which the caller passes. The fault doesn't contain
-//! the value, so that a fault owns no memory: the prover must prove at each exit of a function that every value that
-//! owns memory is dropped.
+//! If a comparison fails, the actual value is in the caller's string `came`, not in the fault, so that a fault owns no
+//! memory. The prover must prove at each exit of a function that every value that owns memory is dropped.
 #![tactic(auto)]
 
 mod actions;
@@ -64,7 +61,7 @@ fn play(rt: &(impl Print + AllocGlobal), case: Case<'_>) -> io::Result<bool> {
     }
 }
 
-// Prints a failure. Prints `came` only for `Differs`, since after another fault `came` may contain a part of a text.
+// Prints a failure and, for `Differs`, the actual value `came`. After another fault, `came` may be incomplete.
 fn tell(rt: &impl Print, name: &str, failure: LineFault, came: &str) -> io::Result<()> {
     let LineFault { line, fault } = failure;
     let came = match fault {

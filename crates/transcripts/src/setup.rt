@@ -129,8 +129,7 @@ fn setting_of(setting: &str) -> Result<(Key, u64), Fault> {
     Err(Fault::Unread)
 }
 
-// Returns the configuration of an emulated chip, or of one of two chips of 128 KiB, on which an erase of 64 KiB doesn't
-// erase the whole chip. `BLOCKS` has erases of 32 and 64 KiB but no block protection, `SECTORS` the reverse.
+// Returns the configuration of a named chip. `BLOCKS` has erases of 32 and 64 KiB, and `SECTORS` has block protection.
 fn config_of(name: &str) -> Option<Config> {
     let id = [0xAA, 0x11, 0x22];
     match name {
