@@ -111,7 +111,8 @@ def take_names(page):
          manual=re.findall(r'(?m)^\.TH .*"flashnor ([^"]*)"', read(PAGE)),
          flashnor=re.findall(r'about: "flashnor ([\d.]+):', code("nor_args/src/options.rt")))
     modes = r"(?m)stty -F \S+ (raw .*?[0-9])(?:$|[`.])"
-    same("setting of the port", sources=re.findall(r'MODES: &str = "(.*)"', code("flashnor_serprog/src/trouble.rt")),
+    same("setting of the port",
+         sources=re.findall(r'STTY_ARGUMENTS: &str = "(.*)"', code("flashnor_serprog/src/run_fault.rt")),
          help=re.findall(modes, text), manual=re.findall(modes, "".join(part.text for part in page)),
          HARDWARE=re.findall(modes, read("docs/HARDWARE.md")))
 
@@ -122,13 +123,13 @@ def take_lines(page):
     steps = re.findall(r'Step::\w+ => "(.*?)(?::.*?)?"', code("board_progress/src/steps.rt"))
     output = " ".join("".join(part.text for part in page if part.section == "OUTPUT").split())
     same("steps of a job", sources=steps, manual=re.search(r"each step \((.*?)\)", output)[1].split(", "))
-    trouble = code("flashnor_serprog/src/trouble.rt")
+    faults = code("flashnor_serprog/src/run_fault.rt")
     derived = [(name, text) for path in ("link", "programmer") for text, name in re.findall(
         r'#\[error\("(.*?)"\)\]\s*(\w+)', code(f"nor_serprog/src/{path}.rt"))]
     known = {blank(text) for name, text in derived if name not in IMPOSSIBLE and text != "{0}"}
-    reasons = re.findall(r'ProgrammerFault::(?!Handshake)\w+(?:\([\w:]+\))? => (?:\{\s*)?"(.*?)"', trouble)
-    known |= {f"_ {text}" for text in reasons} | set(re.findall(r'write_str\("(the programmer is silent)"\)', trouble))
-    known |= {blank(text) for text in re.findall(r'"(the programmer .*?)\. \{advice\}"', trouble)}
+    reasons = re.findall(r'ProgrammerFault::(?!Handshake)\w+(?:\([\w:]+\))? => (?:\{\s*)?"(.*?)"', faults)
+    known |= {f"_ {text}" for text in reasons} | set(re.findall(r'write_str\("(the programmer is silent)"\)', faults))
+    known |= {blank(text) for text in re.findall(r'"(the programmer .*?)\. \{advice\}"', faults)}
     shown = {blank(re.sub(r"\bXX(?=h\b)|text of the system", "{}", text)).removesuffix(".")
              for cell in rows(page, "Programmer faults").values() for text in cell.split("\v")}
     same("texts of programmer faults", sources=known, manual=shown)
@@ -136,7 +137,7 @@ def take_lines(page):
 
 def take_numbers(page):
     """Compares the numbers of each kind of fault."""
-    trouble, lines = code("flashnor_serprog/src/trouble.rt"), code("nor_console/src/messages.rt")
+    faults, lines = code("flashnor_serprog/src/run_fault.rt"), code("nor_console/src/messages.rt")
     named = dict(zip(re.findall(r"(?m)^    (\w+)(?: = 1)?,$", re.search(r"(?s)enum FileFault \{(.*?)\n\}", lines)[1]),
                      rust.numbers_of_variants(tokens("nor_console/src/messages.rt"))))
     used = set(re.findall(r"FileFault::(\w+)", codes("nor_console", *OWN)))
@@ -145,7 +146,7 @@ def take_numbers(page):
         "Layout": map(str, rust.numbers_of_variants(tokens("nor_layout/src/fault.rt"))),
         "File": {str(number) for name, number in named.items() if name in used},
         "Chip": re.findall(r"Chip fault (\d+)", codes(*OWN)),
-        "Programmer": re.findall(r"Fault::\w+.* => (\d+),", trouble)}
+        "Programmer": re.findall(r"Fault::\w+.* => (\d+),", faults)}
     for kind, numbers in found.items():
         numbers = same(f"{kind} faults for hardware", sources=set(numbers), manual=rows(page, f"{kind} faults"))
         if kind in ("Chip", "Programmer"):

@@ -70,7 +70,8 @@ PLANTS = {
     "a programmer fault that HARDWARE invents": (
         "docs/HARDWARE.md", "programmer fault 8", "programmer fault 18", "HARDWARE has '18', the program hasn't"),
     "another number of a programmer fault": (
-        "crates/flashnor_serprog/src/trouble.rt", r"Version\(_\) => 6", "Version(_) => 16", "sources has '16', manual"),
+        "crates/flashnor_serprog/src/run_fault.rt", r"Version\(_\) => 6", "Version(_) => 16",
+        "sources has '16', manual"),
     "an exit status that the program lacks": (PAGE, r"(?m)^1\tThere was", "2\tThere was", "manual has '2'"),
 }
 

@@ -19,7 +19,7 @@ use Rattle.nor_console.specs.Tasks.{named_by}
 use Rattle.nor_console.specs.declared.messages.Fault.{Fault}
 use Rattle.nor_console.specs.declared.messages.Fault.TheVariants as end
 use Rattle.nor_console.specs.declared.messages.FileFault.TheVariants as file
-use Rattle.nor_console.specs.declared.roles.Named.{Named}
+use Rattle.nor_console.specs.declared.roles.FileNames.{FileNames}
 use Rattle.board_files.specs.declared.region_faults.RegionFault.{RegionFault}
 use Rattle.board_files.specs.declared.region_faults.RegionFault.TheVariants as wrong
 use Rattle.board_files.specs.declared.region_files.RegionFile.{RegionFile}
@@ -49,8 +49,8 @@ IsApartFromLayout nature None layout of = ⊤
 IsApartFromLayout nature (Some output) layout of = AreTwo nature layout (Some of)
 
 -- Holds if a region's file is apart from the device, the log and the journal and, for a read, from layout and output.
-pub record HasOneRole (nature : Nature) (device : Bor Text) (log : Option (Bor Text)) (named : Named) (of : Bor Text)
-    : Type 0 where
+pub record HasOneRole (nature : Nature) (device : Bor Text) (log : Option (Bor Text)) (named : FileNames)
+    (of : Bor Text) : Type 0 where
   pub from_device : AreTwo nature (Some device) (Some of)
   pub from_log : AreTwo nature log (Some of)
   pub from_journal : AreTwo nature named.journal (Some of)
@@ -75,7 +75,7 @@ FailsWrittenRole nature None layout of fault = ⊥
 FailsWrittenRole nature (Some output) layout of fault = FailsApart nature layout (Some of) fault
     ⊎ (FailsApart nature (Some output) (Some of) fault ⊎ FailsUnprinted nature (Some of) fault)
 
-abbrev pub FailsFileRole : Nature → Bor Text → (log : Option (Bor Text)) → Named → Bor Text → Fault → Type 0
+abbrev pub FailsFileRole : Nature → Bor Text → (log : Option (Bor Text)) → FileNames → Bor Text → Fault → Type 0
 FailsFileRole nature device log named of fault = FailsApart nature (Some device) (Some of) fault
     ⊎ (FailsApart nature log (Some of) fault
     ⊎ (FailsApart nature named.journal (Some of) fault ⊎ FailsWrittenRole nature named.output named.layout of fault))

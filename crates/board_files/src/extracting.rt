@@ -9,7 +9,7 @@ use crate::file_hints::print_hint;
 use crate::images::whole_image;
 use crate::journals::{Description, description_of, print_description};
 use crate::region_copies::write_file;
-use nor_console::{Escaped, apart, read_journal, unprinted};
+use nor_console::{Escaped, are_two_files, read_journal, unprinted};
 use nor_files::Store;
 use nor_jobs::journal_in;
 use std::io;
@@ -57,7 +57,7 @@ fn extract<'a, R: Store>(
     ensures ok { IfOk result (λ description. IsExtracted (R.state files.old).view name.now
         (R.state files.new).view image.now) }
 {
-    apart(files, Some(name), Some(image))?;
+    are_two_files(files, Some(name), Some(image))?;
     unprinted(files, Some(image))?;
     let bytes = read_journal(files, name)?;
     let journal = journal_in(&bytes)?;

@@ -9,7 +9,8 @@ use crate::region_files::RegionFile;
 use crate::region_roles::is_apart_from;
 use nor_args::{Operation, Task};
 use nor_console::{
-    Cause, Fault, MOST_IMAGE_BYTES, SystemReason, apart, empty, read_file, unmade_by, unread,
+    Cause, Fault, MOST_IMAGE_BYTES, SystemReason, are_two_files, create_output, read_fault,
+    read_file, unmade_by,
 };
 use nor_files::Store;
 use nor_journal::Vault;
@@ -66,10 +67,10 @@ fn copy_regions<'a, R: Store>(
     for index in 0..files.len() {
         let RegionFile { file, span, .. } = files[index];
         let Some(part) = part_in(&bytes, span) else {
-            return Err(unread(out));
+            return Err(read_fault(out));
         };
-        apart(rt, log, Some(file))?;
-        apart(rt, Some(out), Some(file))?;
+        are_two_files(rt, log, Some(file))?;
+        are_two_files(rt, Some(out), Some(file))?;
         is_apart_from(rt, &files[..index], file)?;
         write_file(rt, file, part)?;
     }
@@ -86,8 +87,8 @@ fn part_in(bytes: &[u8], span: Span) -> Option<&[u8]>
     Some(&bytes[first..end])
 }
 
-/// Creates or truncates the file `name` and writes `bytes`, without a sync. Returns a fault of `empty`, or file fault 2
-/// if the file can't be written.
+/// Creates or truncates the file `name` and writes `bytes`, without a sync. Returns a fault of `create_output`, or file
+/// fault 2 if the file can't be written.
 pub fn write_file<'a, R: Store>(rt: &mut R, name: &'a str, bytes: &[u8]) -> Result<(), Fault<'a>>
     ensures nature { (R.state rt.new).view.nature ≡ (R.state rt.old).view.nature }
     ensures others { is_lawful (R.state rt.old).view ≡ true
@@ -96,7 +97,7 @@ pub fn write_file<'a, R: Store>(rt: &mut R, name: &'a str, bytes: &[u8]) -> Resu
         → OnOk result ((R.state rt.new).view.seen name.now ≡ Some bytes.now) }
     ensures err { IfErr result (FailsToWrite name.entry bytes.now (R.state rt.old).view (R.state rt.new).view) }
 {
-    let mut file = empty(rt, name)?;
+    let mut file = create_output(rt, name)?;
     let outcome = file.put(bytes);
     rt.return_vault(file);
     match outcome {

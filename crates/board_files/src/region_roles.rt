@@ -13,7 +13,7 @@ use crate::early_ends::EarlyEnd;
 use crate::region_faults::RegionFault;
 use crate::region_files::RegionFile;
 use nor_args::{Change, Operation, Task, Wanted};
-use nor_console::{Cause, Fault, Named, apart, exists, named_by, reading, unprinted};
+use nor_console::{Cause, Fault, FileNames, are_two_files, exists, named_by, reading, unprinted};
 use nor_files::Store;
 use nor_journal::{FIRST_MAGIC, MAGIC};
 
@@ -115,7 +115,7 @@ fn are_distinct<'a, R: Store>(rt: &R, files: &[RegionFile<'a>]) -> Result<(), Fa
     Ok(())
 }
 
-/// Checks that `file` is apart from the file of each of the `earlier` regions. Returns a fault of `apart`.
+/// Checks that `file` is apart from the file of each of the `earlier` regions. Returns a fault of `are_two_files`.
 pub fn is_apart_from<'a, R: Store>(
     rt: &R,
     earlier: &[RegionFile<'a>],
@@ -127,7 +127,7 @@ pub fn is_apart_from<'a, R: Store>(
         FailsApart (R.state rt.now).view.nature (Some other.file) (Some file.entry) fault) earlier.now) }
 {
     for other in earlier {
-        apart(rt, Some(other.file), Some(file))?;
+        are_two_files(rt, Some(other.file), Some(file))?;
     }
     Ok(())
 }
@@ -188,7 +188,7 @@ fn is_magic(start: &[u8]) -> bool
 struct Others<'a> {
     device: &'a str,
     log: Option<&'a str>,
-    named: Named<'a>,
+    named: FileNames<'a>,
 }
 
 fn has_one_role<'a, R: Store>(rt: &R, others: &Others<'a>, file: &'a str) -> Result<(), Fault<'a>>
@@ -199,12 +199,12 @@ fn has_one_role<'a, R: Store>(rt: &R, others: &Others<'a>, file: &'a str) -> Res
 {
     let Others { device, log, named } = *others;
     let (device, file) = (Some(device), Some(file));
-    apart(rt, device, file)?;
-    apart(rt, log, file)?;
-    apart(rt, named.journal, file)?;
+    are_two_files(rt, device, file)?;
+    are_two_files(rt, log, file)?;
+    are_two_files(rt, named.journal, file)?;
     if named.output.is_some() {
-        apart(rt, named.layout, file)?;
-        apart(rt, named.output, file)?;
+        are_two_files(rt, named.layout, file)?;
+        are_two_files(rt, named.output, file)?;
         unprinted(rt, file)?;
     }
     Ok(())

@@ -3,7 +3,7 @@ ghost use Rattle.std.specs.Prelude.{IfErr, OnOk};
 ghost use Rattle.board_files.specs.Sources.{FailsLogRole, FailsRoles, HasOwnLog, HaveOneRole};
 
 use nor_args::{Operation, Task};
-use nor_console::{Fault, Named, apart, named_by, unprinted};
+use nor_console::{Fault, FileNames, are_two_files, named_by, unprinted};
 use nor_files::Store;
 
 /// Checks that the device and the files of the task (`named_by`) are apart, except that layout and image may be one
@@ -17,20 +17,20 @@ pub fn have_one_role<'a, R: Store>(
     ensures ok { OnOk result (HaveOneRole (R.state rt.now).view.nature device.entry task.now) }
     ensures err { IfErr result (FailsRoles (R.state rt.now).view.nature device.entry task.now) }
 {
-    let Named {
+    let FileNames {
         layout,
         wanted,
         output,
         journal,
     } = named_by(task);
     let device = Some(device);
-    apart(rt, device, layout)?;
-    apart(rt, device, wanted)?;
-    apart(rt, device, output)?;
-    apart(rt, device, journal)?;
-    apart(rt, layout, output)?;
-    apart(rt, layout, journal)?;
-    apart(rt, wanted, journal)?;
+    are_two_files(rt, device, layout)?;
+    are_two_files(rt, device, wanted)?;
+    are_two_files(rt, device, output)?;
+    are_two_files(rt, device, journal)?;
+    are_two_files(rt, layout, output)?;
+    are_two_files(rt, layout, journal)?;
+    are_two_files(rt, wanted, journal)?;
     unprinted(rt, output)?;
     unprinted(rt, journal)
 }
@@ -48,16 +48,16 @@ pub fn has_own_log<'a, R: Store>(
         (FailsLogRole (R.state rt.now).view.nature device.entry operation.now.task operation.now.log) }
 {
     let log = operation.log;
-    let Named {
+    let FileNames {
         layout,
         wanted,
         output,
         journal,
     } = named_by(&operation.task);
-    apart(rt, Some(device), log)?;
-    apart(rt, layout, log)?;
-    apart(rt, wanted, log)?;
-    apart(rt, output, log)?;
-    apart(rt, journal, log)?;
+    are_two_files(rt, Some(device), log)?;
+    are_two_files(rt, layout, log)?;
+    are_two_files(rt, wanted, log)?;
+    are_two_files(rt, output, log)?;
+    are_two_files(rt, journal, log)?;
     unprinted(rt, log)
 }

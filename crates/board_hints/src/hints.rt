@@ -1,7 +1,7 @@
 //! The line that follows the line of a fault: what to do, what was found and expected, or where the regions are.
 
+use crate::chip_after::ChipAfter;
 use crate::chip_names::{ChipText, Connected, Hex};
-use crate::left::Left;
 use crate::saved::Saved;
 use board_files::{Farthest, StatusBits, print_hint, reason_hint, regions_of};
 use board_progress::{Lock, Replies, SRP0, SRP1};
@@ -14,25 +14,25 @@ use std::io::Write;
 
 /// The facts about a chip and a job that the line after a fault may need.
 #[derive(Clone, Copy, Drop)]
-pub struct Known<'a> {
+pub struct Circumstances<'a> {
     pub saved: Option<Saved>,
     pub replies: Replies,
     /// True if the chip's SFDP says that its pages have fewer than 256 bytes.
     pub has_small_pages: bool,
-    pub left: Left<'a>,
+    pub left: ChipAfter<'a>,
     /// The reason why the last write or sync of the journal or the output failed, if this is known.
     pub unwritten: Option<SystemReason>,
     pub farthest: Option<Farthest<'a>>,
 }
 
-impl Known<'_> {
+impl Circumstances<'_> {
     /// Returns what is known before the first transaction of an operation.
-    pub fn before() -> Known<'static> {
-        Known {
+    pub fn before() -> Circumstances<'static> {
+        Circumstances {
             saved: None,
             replies: Replies::default(),
             has_small_pages: false,
-            left: Left::Reading,
+            left: ChipAfter::Reading,
             unwritten: None,
             farthest: None,
         }
@@ -44,7 +44,7 @@ pub fn print_operation_hint<E: Write>(
     errors: &mut E,
     fault: &Fault<'_>,
     operation: &Operation<'_>,
-    known: &Known<'_>,
+    known: &Circumstances<'_>,
 ) {
     match fault {
         Fault::Layout(_) | Fault::Map(_) | Fault::NoRegion { .. } => {
@@ -114,61 +114,61 @@ const IS_NO_LOG: &str = "It exists, and is no log, so it isn't overwritten: choo
 fn found_and_expected<'a>(
     refusal: Refusal,
     operation: &Operation<'_>,
-    known: &Known<'a>,
-) -> Option<Line<'a>> {
-    let Known {
+    known: &Circumstances<'a>,
+) -> Option<Hint<'a>> {
+    let Circumstances {
         saved,
         replies,
         left,
         ..
     } = *known;
     match refusal {
-        Refusal::NoChip => Some(Line::NoChip),
+        Refusal::NoChip => Some(Hint::NoChip),
         Refusal::UnknownChip(SfdpFault::NoSector) if replies.is_uneven => {
-            Some(Line::Uneven { id: replies.id? })
+            Some(Hint::Uneven { id: replies.id? })
         }
         Refusal::UnknownChip(SfdpFault::NoSector) if known.has_small_pages => {
-            Some(Line::SmallPages { id: replies.id? })
+            Some(Hint::SmallPages { id: replies.id? })
         }
         Refusal::UnknownChip(_) => Some(match replies.id {
-            Some(id) => Line::Unknown { id },
-            None => Line::NoStatus,
+            Some(id) => Hint::Unknown { id },
+            None => Hint::NoStatus,
         }),
-        Refusal::ImageSize { .. } if regions_of(&operation.task).is_some() => Some(Line::Image),
-        Refusal::RangeNotOffered => Some(Line::Ranges),
-        Refusal::NoProtection => Some(Line::UnknownProtection {
+        Refusal::ImageSize { .. } if regions_of(&operation.task).is_some() => Some(Hint::Image),
+        Refusal::RangeNotOffered => Some(Hint::Ranges),
+        Refusal::NoProtection => Some(Hint::UnknownProtection {
             status1: replies.status[0],
         }),
-        Refusal::StatusLocked => Some(Line::Locked(Lock::of(replies.status))),
-        Refusal::Timeout { .. } => Some(Line::Busy { left }),
+        Refusal::StatusLocked => Some(Hint::Locked(Lock::of(replies.status))),
+        Refusal::Timeout { .. } => Some(Hint::Busy { left }),
         Refusal::Mismatch { .. } => match left {
-            Left::Changed { .. } => {
+            ChipAfter::Changed { .. } => {
                 let [first, last] = advice_on_difference(&operation.task);
-                Some(Line::NotStored { first, left, last })
+                Some(Hint::NotStored { first, left, last })
             }
             _ => None,
         },
-        Refusal::OtherName => Some(Line::Name {
+        Refusal::OtherName => Some(Hint::Name {
             named: operation.named?,
             id: replies.id?,
         }),
         Refusal::Protected { .. } if !unlocks(&operation.task) => {
-            Some(Line::Protected(Lock::of(replies.status)))
+            Some(Hint::Protected(Lock::of(replies.status)))
         }
-        Refusal::OtherChip => Some(Line::Chip {
+        Refusal::OtherChip => Some(Hint::Chip {
             saved: saved?,
             id: replies.id?,
             size: replies.size(),
         }),
         Refusal::StatusDiffers => {
             let saved = saved?;
-            Some(Line::Status {
+            Some(Hint::Status {
                 saved: saved.status,
                 found: replies.status,
                 advice: lock_advice(&saved, replies.status),
             })
         }
-        Refusal::OtherUnit => Some(Line::Unique {
+        Refusal::OtherUnit => Some(Hint::Unique {
             saved: saved?.unique?,
             found: replies.unique?,
         }),
@@ -235,7 +235,7 @@ pub fn unlocks(task: &Task<'_>) -> bool {
 }
 
 #[derive(Clone, Copy, Drop)]
-enum Line<'a> {
+enum Hint<'a> {
     NoChip,
     Unknown {
         id: [u8; 3],
@@ -256,11 +256,11 @@ enum Line<'a> {
     Locked(Lock),
     Protected(Lock),
     Busy {
-        left: Left<'a>,
+        left: ChipAfter<'a>,
     },
     NotStored {
         first: &'static str,
-        left: Left<'a>,
+        left: ChipAfter<'a>,
         last: &'static str,
     },
     Name {
@@ -283,62 +283,62 @@ enum Line<'a> {
     },
 }
 
-impl fmt::Display for Line<'_> {
+impl fmt::Display for Hint<'_> {
     fn fmt<W: fmt::Write>(&self, f: &mut fmt::Formatter<W>) -> fmt::Result {
         match *self {
-            Line::NoChip => f.write_str(
+            Hint::NoChip => f.write_str(
                 "Check contacts, supply and wiring, and that cs= selects this chip. A chip in QPI mode looks the same: \
                 disconnect it from power.",
             ),
-            Line::Unknown { id } => write!(
+            Hint::Unknown { id } => write!(
                 f,
                 "Its ID is {}. If another run finds another ID, check contacts, supply and wiring, or lower the clock \
                 (spispeed=).",
                 Hex(id)
             ),
-            Line::NoStatus => f.write_str(
+            Hint::NoStatus => f.write_str(
                 "It replies an ID, but only FFh for status 1, so it isn't SPI NOR flash (but SPI NAND or DataFlash), \
                 or a contact is bad.",
             ),
-            Line::Uneven { id } => write!(
+            Hint::Uneven { id } => write!(
                 f,
                 "Its ID is {}. Its SFDP doesn't say that it erases sectors of 4 KiB everywhere, so a restore could \
                 fail: change this chip with another tool.",
                 Hex(id)
             ),
-            Line::SmallPages { id } => write!(
+            Hint::SmallPages { id } => write!(
                 f,
                 "Its ID is {}. Its SFDP says that its pages have fewer than 256 bytes, so a restore could fail: \
                 change this chip with another tool.",
                 Hex(id)
             ),
-            Line::Image => f.write_str(
+            Hint::Image => f.write_str(
                 "Give an image of the whole chip. -i NAME:FILE gives the bytes of a region.",
             ),
-            Line::Ranges => f.write_str("--wp-list lists the ranges that this chip can protect."),
-            Line::UnknownProtection { status1 } if status1 & PROTECTION != 0 => write!(
+            Hint::Ranges => f.write_str("--wp-list lists the ranges that this chip can protect."),
+            Hint::UnknownProtection { status1 } if status1 & PROTECTION != 0 => write!(
                 f,
                 "Status 1 of this chip is {status1:02X}h. On nearly every chip its bits 2 to 6 protect sectors, but \
                 this program doesn't know what they mean on this chip."
             ),
-            Line::UnknownProtection { .. } => {
+            Hint::UnknownProtection { .. } => {
                 f.write_str("This program doesn't know the protection bits of this chip.")
             }
-            Line::Locked(lock) => f.write_str(lock.advice()),
-            Line::Protected(lock) => write!(
+            Hint::Locked(lock) => f.write_str(lock.advice()),
+            Hint::Protected(lock) => write!(
                 f,
                 "Include only regions that aren't protected{}",
                 lock.advice_to_unlock()
             ),
-            Line::Busy { left } => write!(
+            Hint::Busy { left } => write!(
                 f,
                 "The chip stayed busy. Check contacts and supply: a chip without contact looks busy.{left}"
             ),
-            Line::NotStored { first, left, last } => write!(
+            Hint::NotStored { first, left, last } => write!(
                 f,
                 "The chip did not store all bytes, or they were misread: lower the clock (spispeed=){first}{left}{last}"
             ),
-            Line::Name {
+            Hint::Name {
                 named: ChipName::Other,
                 id,
             } => write!(
@@ -346,11 +346,11 @@ impl fmt::Display for Line<'_> {
                 "This program knows no chip with the name of -c; -L lists the names. {}",
                 Connected(id)
             ),
-            Line::Name { named, id } => {
+            Hint::Name { named, id } => {
                 let named = named.as_str();
                 write!(f, "-c names {named}. {}", Connected(id))
             }
-            Line::Chip { saved, id, size } => {
+            Hint::Chip { saved, id, size } => {
                 let (journal, chip) = (ChipText(saved.id), ChipText(id));
                 let bytes = saved.size;
                 write!(
@@ -362,7 +362,7 @@ impl fmt::Display for Line<'_> {
                     _ => f.write_str("."),
                 }
             }
-            Line::Status {
+            Hint::Status {
                 saved,
                 found,
                 advice,
@@ -372,7 +372,7 @@ impl fmt::Display for Line<'_> {
                 StatusBits(saved),
                 StatusBits(found)
             ),
-            Line::Unique { saved, found } => {
+            Hint::Unique { saved, found } => {
                 let (saved, found) = (u64::from_be_bytes(saved), u64::from_be_bytes(found));
                 write!(
                     f,

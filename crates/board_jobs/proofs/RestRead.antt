@@ -18,7 +18,7 @@ use Rattle.nor_driver.proofs.RestsInTurn.{HasOnlyRead, has_only_read-none, has_o
 use Rattle.nor_journal.specs.Saved.{IsWholeSector, is_saved}
 use Rattle.nor_journal.specs.Text.{Content as Journal}
 use Rattle.nor_plan.proofs.Parts.{HasPart, put_back}
-use Rattle.board_jobs.specs.Rest.{HasReadRest, HasStoppedInRest, IsRestRead}
+use Rattle.board_jobs.specs.UnsavedSectors.{HasReadRest, HasStoppedInRest, IsRestRead}
 
 names_other : (opcode at other : ℕ) → at ≢ other → (out : List ℕ) → names opcode at out ≡ true
     → names opcode other out ≡ false

@@ -5,7 +5,7 @@ use Rattle.nor_journal.specs.Text.{Content as Journal, IsContent, text}
 use Rattle.nor_request.specs.declared.refusal.Refusal.{Refusal}
 use Rattle.nor_args.specs.declared.job.Operation.{Operation}
 use Rattle.nor_console.specs.declared.answers.Answer.{Answer}
-use Rattle.board_jobs.specs.Rest.{FailsToFollowRestore, FollowsRestore, is_followed}
+use Rattle.board_jobs.specs.UnsavedSectors.{FailsToFollowRestore, FollowsRestore, is_compared_after}
 use Rattle.board_jobs.specs.Fitting.{HasRestoredFitting}
 use Rattle.board_jobs.specs.Restoring.{FailsBy, FailsCompared, FailsRestore, HasReadBefore, HasRestored}
 use Rattle.board_jobs.specs.Restoring.{HasRestoredAndCompared, HasRestoredBy}
@@ -29,7 +29,7 @@ module _ (operation : Operation) (journal : Journal) (rest : List ℕ) (old foun
     (ran : HasRestoredFitting operation.is_quick None journal found restored outcome)
     (result : Result (Result Answer Refusal) JobFault) where
   ends : (ended' : Result Answer Refusal)
-      → (ended' ≡ outcome) × FollowsRestore (is_followed outcome) journal rest restored new
+      → (ended' ≡ outcome) × FollowsRestore (is_compared_after outcome) journal rest restored new
       → HasRestoredAndCompared operation journal old new ended'
   ends ended' is = rw is.0 (record {
     rest = rest;
@@ -54,7 +54,7 @@ module _ (operation : Operation) (journal : Journal) (rest : List ℕ) (old foun
   lost _ fails = absurd fails
 
   pub compared : IfOk result (λ ended'. (ended' ≡ outcome)
-      × FollowsRestore (is_followed outcome) journal rest restored new)
+      × FollowsRestore (is_compared_after outcome) journal rest restored new)
       → IfOk result (HasRestoredAndCompared operation journal old new)
   compared does = IfOk-weaker result _ _ ends does
 

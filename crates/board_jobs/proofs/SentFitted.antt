@@ -18,7 +18,7 @@ use Rattle.nor_jobs.specs.Finding.{IsNamedFirst}
 use Rattle.nor_jobs.specs.Restoring.{HasRestoredNamed}
 use Rattle.board_jobs.specs.declared.chip_faults.JobFault.{JobFault}
 use Rattle.board_jobs.specs.declared.chip_faults.JobFault.TheVariants as ended
-use Rattle.board_jobs.specs.Rest.{FailsRest, FollowsRestore, is_followed}
+use Rattle.board_jobs.specs.UnsavedSectors.{FailsRest, FollowsRestore, is_compared_after}
 use Rattle.board_jobs.specs.Restoring.{FailsBy, FailsRestOf, FailsRestore, HasReadBefore, HasRestoredBy}
 use Rattle.board_jobs.specs.Sends.{KeepsSent, SendsRestore}
 
@@ -140,7 +140,7 @@ restored_sends operation journal old new outcome true does = fitting_before jour
     (fitting_after journal old does.found does.restored
     (before_reads operation.named journal does.rest old does.found does.first)
     (fitting_sends operation.is_quick None journal does.found does.restored outcome does.ran))
-    (rest_follows (is_followed outcome) journal does.rest does.restored new does.followed)
+    (rest_follows (is_compared_after outcome) journal does.rest does.restored new does.followed)
 
 rest_fails : (journal : Journal) (rest : List ℕ) (old new : BusState) (refusal : Refusal)
     → FailsRest journal rest old new refusal → KeepsSent old new

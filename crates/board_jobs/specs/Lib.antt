@@ -1,6 +1,6 @@
 pub mod Backups
 pub mod Following
-pub mod Rest
+pub mod UnsavedSectors
 pub mod Restoring
 pub mod Jobs
 pub mod Sends

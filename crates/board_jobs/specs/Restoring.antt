@@ -14,7 +14,7 @@ use Rattle.nor_console.specs.declared.messages.Fault.TheVariants as end
 use Rattle.nor_jobs.specs.Restoring.{IsNoJournal}
 use Rattle.nor_jobs.specs.Finding.{FailsToFind, HasIdentified}
 use Rattle.board_jobs.specs.Fitting.{HasRestoredFitting}
-use Rattle.board_jobs.specs.Rest.{FailsRest, FollowsRestore, HasReadRest, HasStoppedInRest, is_followed}
+use Rattle.board_jobs.specs.UnsavedSectors.{FailsRest, FollowsRestore, HasReadRest, HasStoppedInRest, is_compared_after}
 use Rattle.board_jobs.specs.declared.chip_faults.JobFault.{JobFault}
 use Rattle.board_jobs.specs.declared.chip_faults.JobFault.TheVariants as ended
 
@@ -36,7 +36,7 @@ pub record HasRestoredAndCompared (operation : Operation) (journal : Journal) (o
   pub restored : BusState
   pub first : HasReadBefore operation.named journal rest old found
   pub ran : HasRestoredFitting operation.is_quick None journal found restored outcome
-  pub followed : FollowsRestore (is_followed outcome) journal rest restored new
+  pub followed : FollowsRestore (is_compared_after outcome) journal rest restored new
 
 -- Holds after a restore from this journal: with the comparison if `compared` is true (no `-N`), otherwise without it.
 abbrev pub HasRestoredBy : (compared : Bool) → Operation → Journal → (old new : BusState) → Result Answer Refusal
@@ -77,7 +77,7 @@ pub record HasNotComparedRest (operation : Operation) (journal : Journal) (old n
   pub restored : BusState
   pub first : HasReadBefore operation.named journal rest old found
   pub ran : HasRestoredFitting operation.is_quick None journal found restored outcome
-  pub followed : is_followed outcome ≡ true
+  pub followed : is_compared_after outcome ≡ true
   pub fails : FailsRest journal rest restored new refusal
 
 -- Holds if a restore without `-N` failed with this fault: before its call to the engine, or in the comparison after it.

@@ -9,7 +9,7 @@ use nor_args::{Operation, Task};
 use nor_console::{Cause, Fault, Outcome, backup_in_file, exists};
 use nor_files::Store;
 use nor_geometry::SECTOR_LEN;
-use nor_jobs::find_first;
+use nor_jobs::identify_or_fault;
 use nor_probe::ChipName;
 
 /// Returns file fault 4 if the file that a backup is to create exists. Checks nothing for other jobs.
@@ -39,7 +39,7 @@ pub fn backup_chip<'a, R: Store, B: Progress>(
     ensures others { is_lawful (R.state rt.old).view ≡ true
         → OthersStay file.now (R.state rt.old) (R.state rt.new) }
 {
-    let found = find_first(bus, named)?;
+    let found = identify_or_fault(bus, named)?;
     bus.expect_reads((found.size / SECTOR_LEN) as usize);
     backup_in_file(rt, bus, named, file)
 }

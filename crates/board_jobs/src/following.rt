@@ -23,7 +23,7 @@ use std::alloc::Global;
 /// addresses and the chip's own bytes at all others. With `ranges`, reads the whole chip into memory, and returns error
 /// 4 (`image` isn't as long as the chip), 5 (an address isn't on the chip), 18 (out of memory) or another error of
 /// `read_out`.
-pub fn complete<'a, B: Progress>(
+pub fn fill_from_chip<'a, B: Progress>(
     bus: &mut B,
     named: Option<ChipName>,
     size: u32,
@@ -145,7 +145,7 @@ pub fn ranges_if(compared: bool, ranges: Option<&Ranges>) -> Option<&Ranges>
 
 /// Compares the whole chip with the target if the session succeeded and its change is `compared`. Returns the outcome
 /// of the session, or `NotCompared` with the error of the comparison.
-pub fn follow<'a, B: Progress>(
+pub fn compare_chip<'a, B: Progress>(
     bus: &mut B,
     outcome: Outcome,
     compared: bool,

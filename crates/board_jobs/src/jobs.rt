@@ -13,7 +13,9 @@ ghost use Rattle.board_files.specs.Tasks.{changes_bytes};
 
 use crate::backups::backup_chip;
 use crate::chip_faults::JobFault;
-use crate::following::{complete, follow, ranges_if, sectors_before_change, sectors_to_read};
+use crate::following::{
+    compare_chip, fill_from_chip, ranges_if, sectors_before_change, sectors_to_read,
+};
 use crate::restoring::restore_chip;
 use crate::status_bits::status_bits;
 use board_files::{changes_bytes, is_compared};
@@ -24,7 +26,7 @@ use nor_console::{
     session_in_file, verify_image,
 };
 use nor_files::Store;
-use nor_jobs::{Sources, asked_bytes, find_chip, find_first, report_size};
+use nor_jobs::{Sources, answer_probe, asked_bytes, identify_or_fault, report_size};
 use nor_layout::Ranges;
 use nor_model::Bus;
 use nor_probe::{ChipName, Found};
@@ -59,7 +61,7 @@ fn perform<'a, R: Store, B: Progress>(
         Task::Restore { .. } => {
             restore_chip(bus, terminal, operation, &sources.bytes, rt.alloc())
         }
-        Task::Probe => Ok(find_chip(bus, named)),
+        Task::Probe => Ok(answer_probe(bus, named)),
         Task::FlashSize => Ok(report_size(bus, named)),
         Task::WpStatus => Ok(report_protection(bus, named)),
         Task::WpList => Ok(list_ranges(bus, named)),
@@ -100,7 +102,7 @@ fn find_changeable<'a, B: Bus>(bus: &mut B, named: Option<ChipName>) -> Result<F
     ensures ok { IfOk result (IsChangeable named (B.state bus.old) (B.state bus.new)) }
     ensures err { IfErr result (FailsToAdmit named (B.state bus.old) (B.state bus.new)) }
 {
-    let found = find_first(bus, named)?;
+    let found = identify_or_fault(bus, named)?;
     if may_be_protected(&found) {
         return Err(JobFault::Protected {
             status1: found.status1,
@@ -130,7 +132,7 @@ fn read_chip<'a, R: Store, B: Progress>(
     ensures others { is_lawful (R.state rt.old).view ≡ true
         → OthersStay file.now (R.state rt.old) (R.state rt.new) }
 {
-    let found = find_first(bus, named)?;
+    let found = identify_or_fault(bus, named)?;
     bus.expect_reads(sectors_to_read(found.size as usize, included));
     read_to_file(rt, bus, named, file, included)
 }
@@ -183,7 +185,7 @@ fn change_chip<'a, R: Store, B: Progress>(
         terminal.print_session(announcement)
     })?;
     terminal.record_journal();
-    follow(bus, outcome, compared, named, &target)
+    compare_chip(bus, outcome, compared, named, &target)
 }
 
 fn copy_of(bytes: &[u8], alloc: Global) -> Result<Vec<u8>, AllocError>
@@ -224,5 +226,5 @@ fn fill_buffer<'a, B: Progress>(
     }
     let found = find_changeable(bus, named)?;
     let asked = asked_bytes(alloc, wanted, found.size, bytes)?;
-    Ok(complete(bus, named, found.size, ranges, asked, alloc)?)
+    Ok(fill_from_chip(bus, named, found.size, ranges, asked, alloc)?)
 }

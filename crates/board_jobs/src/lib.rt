@@ -8,11 +8,11 @@ mod fitting;
 mod following;
 mod jobs;
 mod lock_lines;
-mod rest;
 mod restoring;
 mod status_bits;
 mod status_lock;
 mod strays;
+mod unsaved_sectors;
 
 pub use backups::check_new;
 pub use chip_faults::JobFault;

@@ -2,19 +2,19 @@
 ghost use Rattle.std.specs.Prelude.{◌≡◌, ◌<◌, ◌^◌, IfErr, IfOk, MatchBool, OnOk, false, length, replicate, true};
 ghost use Rattle.nor_session.specs.Restore.{IsOfTypeFound};
 ghost use Rattle.nor_jobs.specs.Finding.{FailsToFind};
-ghost use Rattle.board_jobs.specs.Rest.{AreUnsaved, FailsToFollowRestore, FollowsRestore, is_followed};
+ghost use Rattle.board_jobs.specs.UnsavedSectors.{AreUnsaved, FailsToFollowRestore, FollowsRestore, is_compared_after};
 ghost use Rattle.board_jobs.specs.Restoring.{FailsBy, FailsCompared, FailsRestore, FailsToReadRest};
 ghost use Rattle.board_jobs.specs.Restoring.{HasReadBefore, HasRestored};
 ghost use Rattle.board_jobs.specs.Restoring.{HasRestoredAndCompared, HasRestoredBy};
 
 use crate::chip_faults::JobFault;
 use crate::fitting::restore_fitting;
-use crate::rest::{compare_rest, is_followed, read_rest};
+use crate::unsaved_sectors::{compare_rest, is_compared_after, read_rest};
 use board_files::sectors_of;
 use board_progress::{Progress, Terminal};
 use nor_args::Operation;
 use nor_console::{Fault, Outcome, erased};
-use nor_jobs::{find_first, journal_in};
+use nor_jobs::{identify_or_fault, journal_in};
 use nor_journal::Journal;
 use nor_probe::{ChipName, Found};
 use nor_session::Refusal;
@@ -93,7 +93,7 @@ fn read_before<'a, B: Progress>(
     ensures err { IfErr result
         (FailsToReadRest operation.now.named journal.now (B.state bus.old) (B.state bus.new)) }
 {
-    let found = find_first(bus, operation.named)?;
+    let found = identify_or_fault(bus, operation.named)?;
     if !is_of_type(journal, &found) {
         return Err(Fault::Refused(Refusal::OtherChip));
     }
@@ -130,11 +130,11 @@ fn follow_restore<'a, B: Progress>(
     requires read { AreUnsaved journal.now rest.now }
     requires short { length rest.now < 2 ^ 32 }
     ensures ok { IfOk result (λ ended. (ended ≡ outcome)
-        × FollowsRestore (is_followed outcome) journal.now rest.now (B.state bus.old) (B.state bus.new)) }
+        × FollowsRestore (is_compared_after outcome) journal.now rest.now (B.state bus.old) (B.state bus.new)) }
     ensures err { IfErr result (FailsToFollowRestore outcome journal.now rest.now
         (B.state bus.old) (B.state bus.new)) }
 {
-    if !is_followed(&outcome) {
+    if !is_compared_after(&outcome) {
         return Ok(outcome);
     }
     bus.expect_comparison(unsaved(journal));

@@ -8,7 +8,7 @@ ghost use Rattle.board_jobs.specs.StatusLocks.{SendsLock, WritesSrp0, bytes_with
 
 use crate::chip_faults::JobFault;
 use nor_driver::{OperationError, read_status2, wait, write_status};
-use nor_jobs::find_first;
+use nor_jobs::identify_or_fault;
 use nor_model::{Bus, Status};
 use nor_probe::{ChipName, Found};
 use nor_session::Refusal;
@@ -40,7 +40,7 @@ pub fn set_srp0<'a, B: Bus>(
     ensures ok { IfOk result (HasSetSrp0 named srp0 (B.state bus.old) (B.state bus.new)) }
     ensures err { IfErr result (FailsLock named srp0 (B.state bus.old) (B.state bus.new)) }
 {
-    let found = find_first(bus, named)?;
+    let found = identify_or_fault(bus, named)?;
     let before = read_open(bus, &found)?;
     if shows_srp0(before) == srp0 {
         return Ok(LockChange {

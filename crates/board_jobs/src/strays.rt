@@ -2,15 +2,15 @@
 ghost use Rattle.std.specs.Prelude.{◌≡◌, ◌≤◌};
 ghost use Rattle.nor_console.specs.Printing.{Prints};
 ghost use Rattle.board_jobs.specs.Strays.{IsAsBefore};
-ghost use Rattle.board_progress.specs.Shown.{notes_of};
+ghost use Rattle.board_progress.specs.ProgressBus.{notes_of};
 ghost use Rattle.board_jobs.specs.Ending.{AreJobLines};
 
 use crate::chip_faults::JobFault;
 use crate::ending::end_well;
 use board_files::{Before, UnknownLine, noting_journal, sums_name};
-use board_progress::{Notes, Shown};
+use board_progress::{Notes, ProgressBus};
 use nor_args::{Operation, Task};
-use nor_console::{Answer, Fault, named_by, unmade};
+use nor_console::{Answer, Fault, named_by, write_fault};
 use nor_driver::read_sector;
 use nor_files::Store;
 use nor_geometry::SECTOR_LEN;
@@ -26,11 +26,11 @@ use std::io::Write;
 /// line if the bus stops. Reads nothing after another fault or another job.
 pub fn report_strays<'b, B: Bus + Drop, E: Write>(
     errors: &mut E,
-    bus: &mut Shown<'b, B>,
+    bus: &mut ProgressBus<'b, B>,
     fault: &JobFault<'_>,
     operation: &Operation<'_>,
 )
-    ensures { (⟦<Shown<'b, B> as Bus>⟧.state bus.new).sent ≡ (⟦<Shown<'b, B> as Bus>⟧.state bus.old).sent }
+    ensures { (⟦<ProgressBus<'b, B> as Bus>⟧.state bus.new).sent ≡ (⟦<ProgressBus<'b, B> as Bus>⟧.state bus.old).sent }
 {
     if !is_examined(fault, operation) {
         return;
@@ -121,11 +121,11 @@ impl fmt::Display for Places {
 /// restore without `-N`. Does nothing for other operations. Prints a line if memory runs out.
 pub fn begin_notes<'b, B: Bus + Drop, E: Write>(
     errors: &mut E,
-    bus: &mut Shown<'b, B>,
+    bus: &mut ProgressBus<'b, B>,
     operation: &Operation<'_>,
     alloc: Global,
 )
-    ensures { ⟦<Shown<'b, B> as Bus>⟧.state bus.new ≡ ⟦<Shown<'b, B> as Bus>⟧.state bus.old }
+    ensures { ⟦<ProgressBus<'b, B> as Bus>⟧.state bus.new ≡ ⟦<ProgressBus<'b, B> as Bus>⟧.state bus.old }
 {
     match new_notes(operation, alloc) {
         Ok(Some(notes)) => bus.begin_notes(notes),
@@ -160,7 +160,7 @@ pub fn end_compared<'b, R: Store, B: Bus + Drop, O: Write, E: Write>(
     output: &mut O,
     errors: &mut E,
     files: &R,
-    bus: &Shown<'b, B>,
+    bus: &ProgressBus<'b, B>,
     answer: Answer,
     operation: &Operation<'_>,
     before: &Before,
@@ -180,7 +180,7 @@ pub fn end_compared<'b, R: Store, B: Bus + Drop, O: Write, E: Write>(
     report_lost_journal(errors, files, operation, status)
 }
 
-fn changed_since<B>(bus: &Shown<'_, B>, before: &Before) -> Changed
+fn changed_since<B>(bus: &ProgressBus<'_, B>, before: &Before) -> Changed
     ensures { result.count ≡ 0 → IsAsBefore before.now (notes_of bus.now) }
 {
     match (before, bus.notes()) {
@@ -233,7 +233,7 @@ pub fn report_lost_journal<R: Store, E: Write>(
 {
     match new_journal_of(operation) {
         Some(name) if !files.is_kept(name) => {
-            let fault = unmade(name);
+            let fault = write_fault(name);
             let _ = writeln!(errors, "{fault}");
             let _ = writeln!(errors, "{IS_LOST}");
             1

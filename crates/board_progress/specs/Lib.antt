@@ -2,4 +2,4 @@ pub mod Logging
 pub mod Estimates
 pub mod Notes
 pub mod Logged
-pub mod Shown
+pub mod ProgressBus

@@ -4,7 +4,6 @@
 
 mod change_lines;
 mod estimates;
-mod gauge;
 mod lock_bits;
 mod log;
 mod notes;
@@ -13,12 +12,13 @@ mod replies;
 mod run_log;
 mod status_line;
 mod step_lines;
+mod step_timer;
 mod steps;
 mod terminal;
 
 pub use lock_bits::{Lock, SRP0, SRP1};
 pub use notes::Notes;
-pub use progress::{Progress, Shown, StatusWrite};
+pub use progress::{Progress, ProgressBus, StatusWrite};
 pub use replies::Replies;
 pub use run_log::{Logged, RunLog, VERSION, check_log, check_started, start_log};
 pub use status_line::{ChangedLine, DIFFERED, OtherLine, StatusLine, keeps_srp0, protects};

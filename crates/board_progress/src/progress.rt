@@ -8,14 +8,14 @@ mod minutes;
 mod noting;
 
 use crate::change_lines::SealedLine;
-use crate::gauge::Gauge;
 use crate::lock_bits::Lock;
 use crate::notes::Notes;
 use crate::replies::Replies;
 use crate::status_line::{are_equally_protected, protects};
 use crate::step_lines::{Counts, PlainLine};
+use crate::step_timer::StepTimer;
 use crate::steps::{Phase, Step, Total, step_of};
-use crate::terminal::{Look, Terminal};
+use crate::terminal::{ProgressStyle, Terminal};
 use nor_model::{Bus, Stopped, is_changing};
 use std::time::Instant;
 
@@ -59,16 +59,17 @@ pub trait Progress: Bus {
         ensures { Self.state self.new ≡ Self.state self.old };
 }
 
-/// A bus that shows the progress of a job on standard error, as the `Look` of its `Terminal` requires:
-/// - `Look::Line` rewrites a `StepLine` at most ten times a second, and ends it when the step is complete.
-/// - `Look::Plain` prints a line for the first transaction of a step, and then after each `Step::stride` further ones.
-/// - `Look::Minutes` prints a `StepLine` at most once per minute.
-/// - `Look::Hidden` prints none of these lines.
+/// A bus that shows the progress of a job on standard error, as the `ProgressStyle` of its `Terminal` requires:
+/// - `ProgressStyle::Line` rewrites a `StepLine` at most ten times a second, and ends it when the step is complete.
+/// - `ProgressStyle::Plain` prints a line for the first transaction of a step, and then after each `Step::stride`
+///   further ones.
+/// - `ProgressStyle::Minutes` prints a `StepLine` at most once per minute.
+/// - `ProgressStyle::Hidden` prints none of these lines.
 ///
-/// The lines of `-V` are printed with any look. The log (`-o`) receives the lines of `Look::Plain` and `-V`, and how
-/// long the change takes and took. In contracts, the state of this bus is that of the bus inside.
+/// The lines of `-V` are printed in any style. The log (`-o`) receives the lines of `ProgressStyle::Plain` and `-V`,
+/// and how long the change takes and took. In contracts, the state of this bus is that of the bus inside.
 #[derive(Drop)]
-pub struct Shown<'a, B> {
+pub struct ProgressBus<'a, B> {
     bus: B,
     terminal: Terminal<'a>,
     in_session: bool,
@@ -78,7 +79,7 @@ pub struct Shown<'a, B> {
     // the number of sectors that the present scan or comparison reads, if known
     expected: Option<usize>,
     counts: Counts,
-    gauge: Gauge,
+    timer: StepTimer,
     // when the first modifying command was passed on
     changed: Option<Instant>,
     status_write: StatusWrite,
@@ -101,14 +102,14 @@ pub enum StatusWrite {
     Restoring([u8; 2]),
 }
 
-impl<'a, B: Bus + Drop> Shown<'a, B> {
-    ghost use Rattle.board_progress.specs.Shown.{shown_bus};
+impl<'a, B: Bus + Drop> ProgressBus<'a, B> {
+    ghost use Rattle.board_progress.specs.ProgressBus.{shown_bus};
 
     /// Returns a bus that shows the progress of the job on `bus`. `status_write` applies until `begin_job` replaces it.
-    pub fn new(bus: B, terminal: Terminal<'a>, status_write: StatusWrite) -> Shown<'a, B>
+    pub fn new(bus: B, terminal: Terminal<'a>, status_write: StatusWrite) -> ProgressBus<'a, B>
         ensures { shown_bus result ≡ bus }
     {
-        Shown {
+        ProgressBus {
             bus,
             terminal,
             in_session: false,
@@ -116,7 +117,7 @@ impl<'a, B: Bus + Drop> Shown<'a, B> {
             phase: Phase::Before,
             expected: None,
             counts: Counts::default(),
-            gauge: Gauge::new(terminal.now()),
+            timer: StepTimer::new(terminal.now()),
             changed: None,
             status_write,
             replies: Replies::default(),
@@ -162,7 +163,7 @@ impl<'a, B: Bus + Drop> Shown<'a, B> {
     }
 }
 
-impl<B> Shown<'_, B> {
+impl<B> ProgressBus<'_, B> {
     fn show(&mut self, out: &[u8])
         ensures { self.new.bus ≡ self.old.bus }
     {
@@ -186,7 +187,7 @@ impl<B> Shown<'_, B> {
     {
         self.phase = Phase::Changing;
         self.changed = self.terminal.now();
-        self.gauge.restart(self.changed);
+        self.timer.restart(self.changed);
         if self.has_power_lock() {
             self.terminal.print(&POWER_LOCKED);
         }
@@ -265,35 +266,38 @@ impl<B> Shown<'_, B> {
     fn measure(&mut self, out: &[u8], reply: &[u8])
         ensures { self.new.bus ≡ self.old.bus }
     {
-        let is_timed = matches!(self.terminal.look(), Look::Line | Look::Minutes);
+        let is_timed = matches!(
+            self.terminal.style(),
+            ProgressStyle::Line | ProgressStyle::Minutes
+        );
         if !is_timed && !self.terminal.log().is_open() {
             return;
         }
         let now = self.terminal.now();
         let step = self.step_of(out);
-        let Some(step) = self.gauge.record(step, out, reply, now) else {
+        let Some(step) = self.timer.record(step, out, reply, now) else {
             return;
         };
-        self.terminal.record_reads(self.gauge.scanned());
+        self.terminal.record_reads(self.timer.scanned());
         self.draw(step, now);
         let total = self.total_of(step);
-        let line = self.gauge.line(step, total, now);
+        let line = self.timer.line(step, total, now);
         self.print_each_minute(&line);
     }
 
     fn draw(&mut self, step: Step, now: Option<Instant>)
         ensures { self.new.bus ≡ self.old.bus }
     {
-        if self.terminal.look() != Look::Line {
+        if self.terminal.style() != ProgressStyle::Line {
             return;
         }
         let total = self.total_of(step);
-        let line = self.gauge.line(step, total, now);
+        let line = self.timer.line(step, total, now);
         if line.is_complete() {
             self.terminal.draw_last(&line);
-        } else if self.gauge.is_due(now) {
+        } else if self.timer.is_due(now) {
             self.terminal.draw(&line);
-            self.gauge.record_drawing(now);
+            self.timer.record_drawing(now);
         }
     }
 
@@ -308,7 +312,7 @@ impl<B> Shown<'_, B> {
     }
 }
 
-impl<B: Bus> Bus for Shown<'_, B> {
+impl<B: Bus> Bus for ProgressBus<'_, B> {
     ghost state = { λ shown. B.state shown.bus };
 
     ghost reaches = { λ shown honest. B.reaches shown.bus honest };

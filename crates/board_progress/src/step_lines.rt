@@ -31,7 +31,7 @@ impl Counts {
     }
 }
 
-/// The line of a step, as `Look::Plain` prints it and the log receives it.
+/// The line of a step, as `ProgressStyle::Plain` prints it and the log receives it.
 #[derive(Clone, Copy, Drop)]
 pub struct PlainLine {
     pub step: Step,
@@ -55,7 +55,7 @@ impl fmt::Display for PlainLine {
     }
 }
 
-/// The line that says how long a change took. `Look::Line` prints it, and the log receives it.
+/// The line that says how long a change took. `ProgressStyle::Line` prints it, and the log receives it.
 #[derive(Clone, Copy, Drop)]
 pub struct Took(pub Minutes);
 

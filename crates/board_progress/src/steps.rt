@@ -45,8 +45,8 @@ pub fn step_of(out: &[u8], phase: Phase) -> Option<Step> {
 }
 
 impl Step {
-    /// Returns the number of transactions of this step from one line of `Look::Plain` to the next. It is smaller for
-    /// erases, because one erase can take seconds (64 KiB: up to 2 seconds, W25Q64FV datasheet).
+    /// Returns the number of transactions of this step from one line of `ProgressStyle::Plain` to the next. It is
+    /// smaller for erases, because one erase can take seconds (64 KiB: up to 2 seconds, W25Q64FV datasheet).
     pub fn stride(self) -> u64
         ensures { 1 ≤ result }
     {

@@ -1,9 +1,9 @@
 //! Standard error, on which the progress of a job is shown, together with the log of the run.
 
 use crate::change_lines::{ExpectedTime, RestoreText, SessionText};
-use crate::gauge::micros_between;
 use crate::log::{CommandText, EventText, command_name};
 use crate::run_log::RunLog;
+use crate::step_timer::micros_between;
 use nor_args::ProgressMode;
 use nor_session::Announcement;
 use std::cell::Cell;
@@ -25,12 +25,12 @@ const WAITING: &str =
 /// The data that all copies of a `Terminal` share.
 #[derive(Drop)]
 pub struct Screen {
-    known: Cell<Known>,
+    state: Cell<ScreenState>,
     log: RunLog,
 }
 
 #[derive(Clone, Copy)]
-struct Known {
+struct ScreenState {
     has_waited: bool,
     row: Row,
     has_journal: bool,
@@ -56,7 +56,7 @@ impl Screen {
     /// Returns a screen without a progress line and without a file for the log.
     pub fn new() -> Screen {
         Screen {
-            known: Cell::new(Known {
+            state: Cell::new(ScreenState {
                 has_waited: false,
                 row: Row::Empty,
                 has_journal: false,
@@ -74,7 +74,7 @@ impl Screen {
 
 /// How the progress is shown.
 #[derive(Clone, Copy, PartialEq)]
-pub enum Look {
+pub enum ProgressStyle {
     Hidden,
     /// Lines below each other.
     Plain,
@@ -89,7 +89,7 @@ pub enum Look {
 pub struct Terminal<'a> {
     rt: &'a HostRuntime,
     screen: &'a Screen,
-    look: Look,
+    style: ProgressStyle,
     columns: usize,
     is_verbose: bool,
     started: Option<Instant>,
@@ -104,17 +104,17 @@ impl<'a> Terminal<'a> {
         mode: ProgressMode,
         is_verbose: bool,
     ) -> Terminal<'a> {
-        let look = match mode {
-            ProgressMode::Hidden => Look::Hidden,
-            ProgressMode::Plain => Look::Plain,
-            ProgressMode::Auto if rt.stderr().is_terminal() => Look::Line,
-            ProgressMode::Auto if is_device(rt) => Look::Plain,
-            ProgressMode::Auto => Look::Minutes,
+        let style = match mode {
+            ProgressMode::Hidden => ProgressStyle::Hidden,
+            ProgressMode::Plain => ProgressStyle::Plain,
+            ProgressMode::Auto if rt.stderr().is_terminal() => ProgressStyle::Line,
+            ProgressMode::Auto if is_device(rt) => ProgressStyle::Plain,
+            ProgressMode::Auto => ProgressStyle::Minutes,
         };
         Terminal {
             rt,
             screen,
-            look,
+            style,
             columns: columns_of(rt),
             is_verbose,
             started: Instant::now(rt).ok(),
@@ -129,8 +129,8 @@ impl<'a> Terminal<'a> {
         self.screen.log()
     }
 
-    pub fn look(&self) -> Look {
-        self.look
+    pub fn style(&self) -> ProgressStyle {
+        self.style
     }
 
     /// Returns when the terminal was created, or `None` if the clock failed.
@@ -145,25 +145,25 @@ impl<'a> Terminal<'a> {
 
     /// Returns the last announcement of `print_session` or `print_restore`, or `None` if there was none.
     pub fn announced(&self) -> Option<Announcement> {
-        self.screen.known.get().announced
+        self.screen.state.get().announced
     }
 
     /// Records that this run created the journal of a session.
     pub fn record_journal(&self) {
-        let known = self.screen.known.get();
-        self.screen.known.set(Known {
+        let state = self.screen.state.get();
+        self.screen.state.set(ScreenState {
             has_journal: true,
-            ..known
+            ..state
         });
     }
 
     pub fn has_journal(&self) -> bool {
-        self.screen.known.get().has_journal
+        self.screen.state.get().has_journal
     }
 
     pub fn record_reads(&self, read: Transfer) {
-        let known = self.screen.known.get();
-        self.screen.known.set(Known { read, ..known });
+        let state = self.screen.state.get();
+        self.screen.state.set(ScreenState { read, ..state });
     }
 
     /// Rewrites the progress line with as much of this ASCII text as fits into a row. Shows nothing if memory runs out.
@@ -184,7 +184,7 @@ impl<'a> Terminal<'a> {
 
     /// Ends the progress line with a newline, or clears the line of `print_waiting`, if one of these lines is shown.
     pub fn end_line(&self) {
-        match self.screen.known.get().row {
+        match self.screen.state.get().row {
             Row::Empty => {}
             Row::Waiting => self.clear_line(),
             Row::Progress => {
@@ -240,68 +240,70 @@ impl<'a> Terminal<'a> {
 
     /// Clears the progress line or the line of `print_waiting`, if one is shown.
     pub fn clear_line(&self) {
-        if self.screen.known.get().row != Row::Empty {
+        if self.screen.state.get().row != Row::Empty {
             let _ = eprint!(self.rt; "\r{ERASE_TO_END}");
             self.set_row(Row::Empty);
         }
     }
 
     fn set_row(&self, row: Row) {
-        let known = self.screen.known.get();
-        self.screen.known.set(Known { row, ..known });
+        let state = self.screen.state.get();
+        self.screen.state.set(ScreenState { row, ..state });
     }
 
-    /// Writes a line to the log. With `Look::Plain` and `Look::Line`, also prints it.
+    /// Writes a line to the log. With `ProgressStyle::Plain` and `ProgressStyle::Line`, also prints it.
     pub fn print<T: fmt::Display>(&self, text: &T) {
-        if matches!(self.look, Look::Plain | Look::Line) {
+        if matches!(self.style, ProgressStyle::Plain | ProgressStyle::Line) {
             self.end_line();
             let _ = eprintln!(self.rt; "{text}");
         }
         self.log().write_line(text);
     }
 
-    /// Prints a line with any look, and doesn't write it to the log.
+    /// Prints a line in any style, and doesn't write it to the log.
     pub fn print_shown<T: fmt::Display>(&self, text: &T) {
         self.end_line();
         let _ = eprintln!(self.rt; "{text}");
     }
 
-    /// Writes a line to the log. With `Look::Plain`, also prints it.
+    /// Writes a line to the log. With `ProgressStyle::Plain`, also prints it.
     pub fn print_plain<T: fmt::Display>(&self, text: &T) {
-        if self.look == Look::Plain {
+        if self.style == ProgressStyle::Plain {
             let _ = eprintln!(self.rt; "{text}");
         }
         self.log().write_line(text);
     }
 
     /// Logs that the run waits for its programmer, because a read from a port that isn't set up may wait forever. The
-    /// first time, also shows the line: with `Look::Plain` for good, and with `Look::Line` until the next output.
+    /// first time, also shows the line: with `ProgressStyle::Plain` for good, and with `ProgressStyle::Line` until the
+    /// next output.
     pub fn print_waiting(&self) {
         self.log().write_line(&WAITING);
-        let known = self.screen.known.get();
-        if known.has_waited {
+        let state = self.screen.state.get();
+        if state.has_waited {
             return;
         }
-        self.screen.known.set(Known {
+        self.screen.state.set(ScreenState {
             has_waited: true,
-            ..known
+            ..state
         });
-        match self.look {
-            Look::Plain => {
+        match self.style {
+            ProgressStyle::Plain => {
                 let _ = eprintln!(self.rt; "{WAITING}");
             }
-            Look::Line => {
+            ProgressStyle::Line => {
                 self.end_line();
                 let _ = eprint!(self.rt; "\r{WAITING}{ERASE_TO_END}");
                 self.set_row(Row::Waiting);
             }
-            Look::Hidden | Look::Minutes => {}
+            ProgressStyle::Hidden | ProgressStyle::Minutes => {}
         }
     }
 
-    /// Writes a line to the log that says how long the change will take or took. With `Look::Line`, also prints it.
+    /// Writes a line to the log that says how long the change will take or took. With `ProgressStyle::Line`, also
+    /// prints it.
     pub fn print_time<T: fmt::Display>(&self, text: &T) {
-        if self.look == Look::Line {
+        if self.style == ProgressStyle::Line {
             self.end_line();
             let _ = eprintln!(self.rt; "{text}");
         }
@@ -321,15 +323,15 @@ impl<'a> Terminal<'a> {
     }
 
     fn announce(&self, announcement: Announcement) {
-        let known = self.screen.known.get();
-        self.screen.known.set(Known {
+        let state = self.screen.state.get();
+        self.screen.state.set(ScreenState {
             announced: Some(announcement),
-            ..known
+            ..state
         });
         if announcement.touched > 0 {
             self.print_time(&ExpectedTime {
                 announcement,
-                read: known.read,
+                read: state.read,
             });
         }
     }

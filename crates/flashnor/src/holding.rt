@@ -17,7 +17,7 @@ use crate::chips::{Content, content_of, read_chip_file};
 use crate::tasks::journal_by;
 use nor_args::{Programmer, Task};
 use nor_chip::{Bus, SimBus};
-use nor_console::{Cause, Fault, SystemReason, unheld, unmade_by, unread_by};
+use nor_console::{Cause, Fault, SystemReason, lock_fault, unmade_by, unread_by};
 use nor_files::{LockFault, Store};
 use std::io;
 use std::io::ErrorKind;
@@ -91,7 +91,7 @@ fn hold_whole<'a, R: Store>(
             Ok(()) => Ok(None),
             Err(error) => Err(unsynced(&error, name)),
         },
-        Err(fault) => Err(unheld(fault, name)),
+        Err(fault) => Err(lock_fault(fault, name)),
     }
 }
 

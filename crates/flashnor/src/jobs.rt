@@ -20,7 +20,7 @@ use nor_args::{ChipJob, Task};
 use nor_chip::{Bus, Meter, SimBus, TraceBus};
 use nor_console::{Fault, Outcome, list_ranges, read_to_file, report_protection, verify_image};
 use nor_files::Store;
-use nor_jobs::{Sources, find_chip, journal_in, read_sources, report_size, restore_named};
+use nor_jobs::{Sources, answer_probe, journal_in, read_sources, report_size, restore_named};
 use std::io::{BufWriter, Write};
 
 /// A call to the engine that was made: the bus after it, its result, and the trace's name if the trace lost a line.
@@ -149,7 +149,7 @@ fn do_task<'a, R: Store, B: Meter>(
 {
     let named = job.named;
     match &job.task {
-        Task::Probe => Ok(find_chip(bus, named)),
+        Task::Probe => Ok(answer_probe(bus, named)),
         Task::FlashSize => Ok(report_size(bus, named)),
         Task::WpStatus => Ok(report_protection(bus, named)),
         Task::WpList => Ok(list_ranges(bus, named)),

@@ -19,7 +19,7 @@ mod run;
 mod streams;
 mod tasks;
 
-use nor_console::{Wording, by_line, keep_streams};
+use nor_console::{Wording, keep_streams, line_buffered};
 use printing::ErrorStream;
 use run::{end_without_streams, run_words};
 use std::env;
@@ -28,10 +28,10 @@ use std::process::ExitCode;
 
 fn main(rt: HostRuntime) -> ExitCode {
     let streams = keep_streams(&rt);
-    let mut output = by_line(rt.alloc(), rt.stdout());
+    let mut output = line_buffered(rt.alloc(), rt.stdout());
     let mut errors = ErrorStream {
         wording: wording_for(&rt),
-        writer: by_line(rt.alloc(), rt.stderr()),
+        writer: line_buffered(rt.alloc(), rt.stderr()),
     };
     let status = match &streams {
         Ok(_) => run_words(&rt, env::args(&rt), &mut output, &mut errors),

@@ -9,7 +9,8 @@ use crate::details::{Detail, DetailLine};
 use crate::holding::Unwritten;
 use crate::streams::Reports;
 use nor_console::{
-    Answer, Fault, Wording, help_of, lost_output, print_answer, print_help, print_worded, unmade,
+    Answer, Fault, Wording, help_of, lost_output, print_answer, print_help, print_worded,
+    write_fault,
 };
 use std::io::Write;
 
@@ -148,7 +149,7 @@ fn print_unwritten_file<W: Write>(errors: &mut W, name: Option<&str>) -> bool
     let Some(name) = name else {
         return true;
     };
-    print_worded(errors, &unmade(name), Wording::Numbered)
+    print_worded(errors, &write_fault(name), Wording::Numbered)
 }
 
 fn is_all_written(unwritten: Unwritten<'_>) -> bool

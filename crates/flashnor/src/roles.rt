@@ -7,7 +7,7 @@ ghost use Rattle.nor_request.specs.declared.refusal.Refusal.TheVariants as Refus
 
 use crate::tasks::writes_back;
 use nor_args::ChipJob;
-use nor_console::{Cause, Fault, Named, Role, apart_as, look_ahead, named_by};
+use nor_console::{Cause, Fault, FileNames, Role, apart_as, look_ahead, named_by};
 use nor_files::Store;
 
 /// Checks that the trace's file is none of the other files of a session. Returns the faults of `files_have_one_role`.
@@ -62,7 +62,7 @@ pub fn look_at_sources<'a, R: Store>(rt: &R, job: &ChipJob<'a>) -> Result<(), Fa
 pub fn file_with_role<'a>(job: &ChipJob<'a>, role: Role) -> Option<&'a str>
     ensures { result ≡ file_with_role job.now role }
 {
-    let Named {
+    let FileNames {
         layout,
         wanted,
         output,

@@ -23,7 +23,7 @@ use crate::roles::{files_have_one_role, look_at_sources};
 use crate::streams::{Reports, StreamFault, are_unprinted};
 use crate::tasks::writes_back;
 use nor_args::{ChipJob, Job, WrongArguments, explained_request_of};
-use nor_console::{Answer, DIRECTORY, Fault, or_fault, unread};
+use nor_console::{Answer, DIRECTORY, Fault, or_fault, read_fault};
 use nor_files::{Disk, LockFile, Store};
 use nor_jobs::arguments_after_name;
 use std::env::Args;
@@ -62,7 +62,7 @@ pub fn end_without_streams<O: Write, E: Write>(output: &mut O, errors: &mut Erro
     ensures { EndsWith (IsWithoutStreams errors.old.wording (O.contents output.old) (O.contents output.new)
         (E.contents errors.old.writer) (E.contents errors.new.writer)) result }
 {
-    let ending = end_before(unread(DIRECTORY), output, errors);
+    let ending = end_before(read_fault(DIRECTORY), output, errors);
     ending.status
 }
 

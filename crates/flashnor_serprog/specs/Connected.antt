@@ -2,7 +2,7 @@
 use Rattle.std.specs.Prelude.{ℕ, List, Option, string_bytes}
 use Rattle.nor_buses.specs.Ahead.{ahead_of}
 use Rattle.nor_args.specs.Text.{Text}
-use Rattle.board_progress.specs.Shown.{shown_bus}
+use Rattle.board_progress.specs.ProgressBus.{shown_bus}
 use Rattle.flashnor_serprog.specs.BoardBus.{asked_in, expected_in}
 use Rattle.flashnor_serprog.specs.declared.connect.Connected.{Connected}
 

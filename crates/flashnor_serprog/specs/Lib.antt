@@ -5,4 +5,4 @@ pub mod Connected
 pub mod Unused
 pub mod Run
 pub mod ChipLayouts
-pub mod Troubles
+pub mod RunFaults

@@ -34,8 +34,8 @@ use Rattle.board_jobs.specs.declared.chip_faults.JobFault.{JobFault}
 use Rattle.flashnor_serprog.specs.declared.connect.Connected.{Connected}
 use Rattle.flashnor_serprog.specs.declared.asked.Asked.{Asked}
 use Rattle.flashnor_serprog.specs.declared.asked.Asked.TheVariants as asked
-use Rattle.flashnor_serprog.specs.declared.trouble.Trouble.{Trouble}
-use Rattle.flashnor_serprog.specs.declared.trouble.Trouble.TheVariants as trouble
+use Rattle.flashnor_serprog.specs.declared.run_fault.RunFault.{RunFault}
+use Rattle.flashnor_serprog.specs.declared.run_fault.RunFault.TheVariants as run_fault
 
 abbrev pub program : Text
 program = codes "flashnor-serprog"
@@ -101,12 +101,12 @@ abbrev pub ArgumentsAskForHelp : List Text → Type 0
 ArgumentsAskForHelp words = IsAmong kind.DisplayHelp (hardware_refusals_of program words)
     ⊎ IsAmong kind.DisplayVersion (hardware_refusals_of program words)
 
-abbrev pub AsksForHelp : Trouble → Type 0
-AsksForHelp (trouble.Fault fault) = IsAnswered (Err fault) ⊎ AsksForVersion fault
+abbrev pub AsksForHelp : RunFault → Type 0
+AsksForHelp (run_fault.Fault fault) = IsAnswered (Err fault) ⊎ AsksForVersion fault
 AsksForHelp _ = ⊥
 
 -- Holds if the arguments ask for the help or the version whenever `ended` contains one of them.
-abbrev pub IsHelpAskedBy : List Text → Trouble → Type 0
+abbrev pub IsHelpAskedBy : List Text → RunFault → Type 0
 IsHelpAskedBy words ended = AsksForHelp ended → ArgumentsAskForHelp words
 
 -- Holds if an operation was run on a new bus to the device `name`. The state of the bus was first that of `start` and

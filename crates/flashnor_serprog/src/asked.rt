@@ -3,8 +3,8 @@ ghost use Rattle.std.specs.Prelude.{IfErr, IfOk, map, string_bytes};
 ghost use Rattle.flashnor_serprog.specs.Run.{IsAskedByArguments, IsHelpAskedBy};
 
 use crate::help::HELP;
+use crate::run_fault::RunFault;
 use crate::setting::Setting;
-use crate::trouble::Trouble;
 use nor_args::{HardwareJob, Operation, operation_of};
 use std::alloc::Global;
 
@@ -28,7 +28,7 @@ pub fn read_words<'a>(
     alloc: Global,
     words: &'a [String],
     names: &'a mut Option<String>,
-) -> Result<Asked<'a>, Trouble<'a>>
+) -> Result<Asked<'a>, RunFault<'a>>
     ensures ok { IfOk result (IsAskedByArguments (map string_bytes words.now)) }
     ensures help { IfErr result (IsHelpAskedBy (map string_bytes words.now)) }
 {

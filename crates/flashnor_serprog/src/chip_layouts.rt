@@ -8,14 +8,14 @@ ghost use Rattle.board_files.specs.Regions.{regions_of};
 use crate::connect::{ChipBus, connect_by};
 use crate::reports::{print_job_fault, report_changed_byte};
 use crate::rules::Rules;
+use crate::run_fault::RunFault;
 use crate::setting::Setting;
-use crate::trouble::Trouble;
 use board_files::regions_of;
 use board_jobs::{JobFault, read_to_memory, sectors_to_read};
 use board_progress::{Progress, Terminal};
 use nor_args::{LayoutForm, Operation, Regions, Task};
 use nor_console::Fault;
-use nor_jobs::find_first;
+use nor_jobs::identify_or_fault;
 use nor_journal::MemVault;
 use nor_layout::{Ranges, Span};
 use nor_model::Bus;
@@ -33,14 +33,14 @@ const READING: &str = "Reading the layout from the chip.";
 /// Returns a copy of the part of the chip that contains the task's layout: the first 4 KiB for a flash descriptor (FFh
 /// elsewhere), the whole chip for an FMAP. Returns `None` and uses no programmer if the layout isn't on the chip. Sends
 /// no modifying command, and reads all data twice. Returns the faults of `connect_by`. Any other fault is printed with
-/// its cause, and returned as `Trouble::Printed`.
-pub fn read_shown<'a, 'b, E: Write>(
+/// its cause, and returned as `RunFault::AlreadyPrinted`.
+pub fn read_chip_layout<'a, 'b, E: Write>(
     rt: &'b HostRuntime,
     terminal: Terminal<'b>,
     setting: &Setting<'a>,
     operation: &Operation<'a>,
     errors: &mut E,
-) -> Result<Option<MemVault>, Trouble<'a>>
+) -> Result<Option<MemVault>, RunFault<'a>>
     ensures { IfOk result (λ shown. IsShown (λ connected. ⟦<ChipBus<'b> as Bus>⟧.state connected.bus)
         setting.now.device.now operation.now.named (form_on_chip (regions_of operation.now.task))
         (option_map (λ chip. (held_by chip).bytes) shown)) }
@@ -74,7 +74,7 @@ fn read_first<'a, 'b, E: Write>(
     operation: &Operation<'a>,
     form: LayoutForm,
     errors: &mut E,
-) -> Result<MemVault, Trouble<'a>>
+) -> Result<MemVault, RunFault<'a>>
     ensures { IfOk result (λ chip. IsReadFirst (λ connected. ⟦<ChipBus<'b> as Bus>⟧.state connected.bus)
         setting.now.device.now operation.now.named form (held_by chip).bytes) }
 {
@@ -89,7 +89,7 @@ fn read_and_report<'a, 'b, E: Write>(
     form: LayoutForm,
     alloc: Global,
     errors: &mut E,
-) -> Result<MemVault, Trouble<'a>>
+) -> Result<MemVault, RunFault<'a>>
     ensures { IfOk result (λ chip. HasReadLayout operation.now.named form
         (⟦<ChipBus<'b> as Bus>⟧.state bus.old) (⟦<ChipBus<'b> as Bus>⟧.state bus.new) (held_by chip).bytes) }
 {
@@ -98,7 +98,7 @@ fn read_and_report<'a, 'b, E: Write>(
             bus.end_progress(true);
             match report_changed_byte(errors, bus, 0) {
                 0 => Ok(chip),
-                _ => Err(Trouble::Printed),
+                _ => Err(RunFault::AlreadyPrinted),
             }
         }
         Err(fault) => {
@@ -112,7 +112,7 @@ fn read_and_report<'a, 'b, E: Write>(
                 None,
                 None,
             );
-            Err(Trouble::Printed)
+            Err(RunFault::AlreadyPrinted)
         }
     }
 }
@@ -127,7 +127,7 @@ fn read_layout<'a, B: Progress>(
         HasReadLayout named form (B.state bus.old) (B.state bus.new) (held_by chip).bytes) }
     ensures err { IfErr result (FailsToReadShown named form (B.state bus.old) (B.state bus.new)) }
 {
-    let found = find_first(bus, named)?;
+    let found = identify_or_fault(bus, named)?;
     let ranges = ranges_for(form);
     bus.expect_reads(sectors_to_read(found.size as usize, ranges.as_ref()));
     let mut chip = MemVault::new(alloc);

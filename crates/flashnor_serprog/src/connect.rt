@@ -9,11 +9,11 @@ use crate::board_bus::BoardBus;
 use crate::contact::{Contact, look_for_chip};
 use crate::port::{DevicePort, PortFault};
 use crate::rules::Rules;
+use crate::run_fault::{ProgrammerFault, RunFault};
 use crate::setting::Setting;
 use crate::trial_reads::try_reads;
-use crate::trouble::{ProgrammerFault, Trouble};
 use crate::waking::wake;
-use board_progress::{Shown, Terminal};
+use board_progress::{ProgressBus, Terminal};
 use nor_buses::ReadAhead;
 use nor_console::{Fault, SystemReason};
 use nor_files::LockFile;
@@ -27,7 +27,7 @@ use std::os::unix::fs::FileTypeExt;
 use std::{fmt, fs, io};
 
 /// The bus of a job, which reads ahead and shows the progress of the job.
-pub type ChipBus<'a> = Shown<'a, ReadAhead<BoardBus<'a>>>;
+pub type ChipBus<'a> = ProgressBus<'a, ReadAhead<BoardBus<'a>>>;
 
 /// Returns the bus to the chip, which knows why a transaction failed.
 pub fn board_in<'b, 'a>(bus: &'b ChipBus<'a>) -> &'b BoardBus<'a> {
@@ -53,7 +53,7 @@ pub fn connect_by<'a, 'b>(
     setting: &Setting<'a>,
     image: Option<Vec<u8>>,
     rules: Rules,
-) -> Result<Connected<'b>, Trouble<'a>>
+) -> Result<Connected<'b>, RunFault<'a>>
     ensures fresh { IfOk result (λ connected. IsUnused (⟦<ChipBus<'b> as Bus>⟧.state connected.bus)) }
     ensures named { IfOk result (λ connected. device_of connected ≡ setting.now.device.now) }
     ensures expects { IfOk result (λ connected. expected_by connected ≡ option_map (λ image. image.items) image) }
@@ -73,9 +73,9 @@ pub fn connect_by<'a, 'b>(
         Err(unconnected) => {
             terminal.end_line();
             Err(match unconnected {
-                Unconnected::NoChip => Trouble::Fault(Fault::Refused(Refusal::NoChip)),
-                Unconnected::NoStatus => Trouble::Fault(Fault::Refused(NO_STATUS)),
-                Unconnected::Programmer(fault) => Trouble::Programmer {
+                Unconnected::NoChip => RunFault::Fault(Fault::Refused(Refusal::NoChip)),
+                Unconnected::NoStatus => RunFault::Fault(Fault::Refused(NO_STATUS)),
+                Unconnected::Programmer(fault) => RunFault::Programmer {
                     fault,
                     device: setting.device,
                 },
@@ -157,7 +157,7 @@ fn connect<'a>(
     let board = BoardBus::new(rt, link, programmer, image, rules);
     Ok(Connected {
         device,
-        bus: Shown::new(
+        bus: ProgressBus::new(
             ReadAhead::new(board, longest_read),
             terminal,
             rules.checks.status_write(),

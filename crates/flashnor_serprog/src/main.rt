@@ -15,14 +15,14 @@ mod preparing;
 mod reports;
 mod rules;
 mod run;
+mod run_fault;
 mod setting;
 mod stop_line;
 mod trial_reads;
-mod trouble;
 mod waking;
 
 use board_progress::{Logged, Screen};
-use nor_console::{by_line, keep_streams};
+use nor_console::{keep_streams, line_buffered};
 use run::{end_without_descriptors, run_words};
 use std::env;
 use std::process::ExitCode;
@@ -35,8 +35,8 @@ fn main(rt: HostRuntime) -> ExitCode {
 
 // Runs the program with a log of what it prints. Without descriptors 0, 1 and 2, opens no file and prints a fault.
 fn run_logged<'b>(rt: &'b HostRuntime, screen: &'b Screen, has_descriptors: bool) -> u8 {
-    let mut output = Logged::new(by_line(rt.alloc(), rt.stdout()), screen.log());
-    let mut errors = Logged::new(by_line(rt.alloc(), rt.stderr()), screen.log());
+    let mut output = Logged::new(line_buffered(rt.alloc(), rt.stdout()), screen.log());
+    let mut errors = Logged::new(line_buffered(rt.alloc(), rt.stderr()), screen.log());
     let mut used = None;
     if has_descriptors {
         let given = env::args(rt);

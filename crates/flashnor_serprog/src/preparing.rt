@@ -9,11 +9,11 @@ ghost use Rattle.board_files.specs.Regions.{regions_of};
 ghost use Rattle.flashnor_serprog.specs.Run.{IsPrepared};
 ghost use Rattle.board_files.specs.Sources.{ArePlainNames, MayExpectImage};
 
-use crate::chip_layouts::{form_on_chip, read_shown};
+use crate::chip_layouts::{form_on_chip, read_chip_layout};
 use crate::connect::{ChipBus, Connected, connect_by};
 use crate::rules::{Checks, Rules};
+use crate::run_fault::RunFault;
 use crate::setting::Setting;
-use crate::trouble::Trouble;
 use board_files::{
     Farthest, Included, RegionFile, check_region_files, find_included, find_region_files,
     has_own_log, have_one_role, image_of, is_session, named_regions, prepare_sources,
@@ -50,7 +50,7 @@ pub fn prepare<'a, 'b, R: Store<Log = LogFile<File>>, E: Write>(
     operation: &Operation<'a>,
     names: &'a str,
     errors: &mut E,
-) -> Result<Prepared<'a, 'b>, Trouble<'a>>
+) -> Result<Prepared<'a, 'b>, RunFault<'a>>
     requires { ArePlainNames (regions_of operation.now.task) names.now }
     ensures logged { CreatesLog operation.now.log (R.state files.old) (R.state files.new) }
     ensures ok { IfOk result (λ prepared. IsPrepared (λ connected. ⟦<ChipBus<'b> as Bus>⟧.state connected.bus)
@@ -90,7 +90,7 @@ struct JobFiles<'a> {
 }
 
 // Checks and reads the files of the operation, and returns the first fault. The roles of the files, the log, the file
-// of a backup, and the image or the journal are checked before a layout is read from the chip (`read_shown`).
+// of a backup, and the image or the journal are checked before a layout is read from the chip (`read_chip_layout`).
 fn read_files<'a, 'b, R: Store<Log = LogFile<File>>, E: Write>(
     rt: &'b HostRuntime,
     terminal: Terminal<'b>,
@@ -99,7 +99,7 @@ fn read_files<'a, 'b, R: Store<Log = LogFile<File>>, E: Write>(
     operation: &Operation<'a>,
     names: &'a str,
     errors: &mut E,
-) -> Result<JobFiles<'a>, Trouble<'a>>
+) -> Result<JobFiles<'a>, RunFault<'a>>
     requires { ArePlainNames (regions_of operation.now.task) names.now }
     ensures same { AreUntouched (R.state files.old) (R.state files.new) }
     ensures ok { IfOk result (λ read. IsPrepared (λ connected. ⟦<ChipBus<'b> as Bus>⟧.state connected.bus)
@@ -110,8 +110,8 @@ fn read_files<'a, 'b, R: Store<Log = LogFile<File>>, E: Write>(
     has_own_log(files, setting.device, operation)?;
     check_log(files, operation.log)?;
     check_new(files, operation)?;
-    try_sources(files, operation)?;
-    let chip = read_shown(rt, terminal, setting, operation, errors)?;
+    reject_wrong_sources(files, operation)?;
+    let chip = read_chip_layout(rt, terminal, setting, operation, errors)?;
     let shown = bytes_of(&chip);
     let included = find_included(files, named_regions(&operation.task, names), shown)?;
     let regions = find_region_files(files, &operation.task, shown)?;
@@ -189,7 +189,10 @@ fn keeps_log(operation: &Operation<'_>) -> bool {
 }
 
 // Checks the image or the journal before a layout is read from the chip, because that read may take minutes.
-fn try_sources<'a, R: Store>(files: &mut R, operation: &Operation<'a>) -> Result<(), Trouble<'a>>
+fn reject_wrong_sources<'a, R: Store>(
+    files: &mut R,
+    operation: &Operation<'a>,
+) -> Result<(), RunFault<'a>>
     ensures { AreUntouched (R.state files.old) (R.state files.new) }
 {
     if form_on_chip(&operation.task).is_some() {

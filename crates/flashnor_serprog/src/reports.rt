@@ -1,12 +1,12 @@
 //! The lines that a run prints about faults and hints, and the removal of an incomplete journal.
 ghost use Rattle.std.specs.Prelude.{◌≡◌, ◌≤◌, true};
-ghost use Rattle.board_hints.specs.declared.left.Left.TheVariants.{Unchanged};
+ghost use Rattle.board_hints.specs.declared.chip_after.ChipAfter.TheVariants.{Unchanged};
 
 use crate::connect::{ChipBus, board_in};
+use crate::run_fault::RunFault;
 use crate::stop_line::StopLine;
-use crate::trouble::Trouble;
 use board_files::{Farthest, MapLines};
-use board_hints::{Known, Left, Saved, print_operation_hint, unlocks};
+use board_hints::{ChipAfter, Circumstances, Saved, print_operation_hint, unlocks};
 use board_jobs::{JobFault, new_journal_of};
 use board_progress::{ChangedLine, Terminal, protects};
 use nor_args::{Operation, Task};
@@ -17,16 +17,20 @@ use std::fs;
 use std::io::Write;
 
 /// Prints the lines of a fault that ended a run before its job began, unless they were printed already.
-pub fn print_trouble<E: Write>(errors: &mut E, trouble: &Trouble<'_>, operation: &Operation<'_>) {
-    let _ = match trouble {
-        Trouble::Printed => return,
-        Trouble::Fault(Fault::Map(fault)) => {
+pub fn print_run_fault<E: Write>(
+    errors: &mut E,
+    run_fault: &RunFault<'_>,
+    operation: &Operation<'_>,
+) {
+    let _ = match run_fault {
+        RunFault::AlreadyPrinted => return,
+        RunFault::Fault(Fault::Map(fault)) => {
             writeln!(errors, "{}", MapLines::new(*fault, &operation.task))
         }
-        _ => writeln!(errors, "{trouble}"),
+        _ => writeln!(errors, "{run_fault}"),
     };
-    if let Trouble::Fault(fault) = trouble {
-        print_operation_hint(errors, fault, operation, &Known::before());
+    if let RunFault::Fault(fault) = run_fault {
+        print_operation_hint(errors, fault, operation, &Circumstances::before());
     }
 }
 
@@ -46,7 +50,7 @@ pub fn print_job_fault<E: Write>(
     let _ = writeln!(errors, "{fault}");
     let left = left_after(fault, bus, operation);
     if let JobFault::Fault(fault) = fault {
-        let known = Known {
+        let known = Circumstances {
             saved,
             replies: bus.replies(),
             has_small_pages: board_in(bus).has_small_pages(),
@@ -78,7 +82,7 @@ pub fn clear_journal<R: Store, E: Write>(
     let JobFault::Fault(Fault::Refused(_)) = fault else {
         return;
     };
-    if let Left::Changed { .. } = left_after(fault, bus, operation) {
+    if let ChipAfter::Changed { .. } = left_after(fault, bus, operation) {
         return;
     }
     let Some(name) = new_journal_of(operation) else {
@@ -164,7 +168,7 @@ const BOARD_BITS: u8 = 0x3E;
 const KEPT_BITS: &str =
     "All bytes and protection bits are restored, but not the status bits of the line \"Not restored\" above.";
 
-fn print_cause<E: Write>(errors: &mut E, bus: &ChipBus<'_>, left: Left<'_>) {
+fn print_cause<E: Write>(errors: &mut E, bus: &ChipBus<'_>, left: ChipAfter<'_>) {
     let line = StopLine {
         causes: board_in(bus).causes(),
         left,
@@ -172,13 +176,17 @@ fn print_cause<E: Write>(errors: &mut E, bus: &ChipBus<'_>, left: Left<'_>) {
     let _ = writeln!(errors, "{line}");
 }
 
-fn left_after<'a>(fault: &JobFault<'_>, bus: &ChipBus<'_>, operation: &Operation<'a>) -> Left<'a> {
+fn left_after<'a>(
+    fault: &JobFault<'_>,
+    bus: &ChipBus<'_>,
+    operation: &Operation<'a>,
+) -> ChipAfter<'a> {
     if fault.follows_completion() {
-        return Left::Completed;
+        return ChipAfter::Completed;
     }
     let begun = board_in(bus).has_begun();
     if begun && operation.srp0.is_some() {
-        return Left::EitherLock;
+        return ChipAfter::EitherLock;
     }
     let task = &operation.task;
     left_by(task, begun, unlocks(task) && protects(bus.replies().status))
@@ -186,15 +194,15 @@ fn left_after<'a>(fault: &JobFault<'_>, bus: &ChipBus<'_>, operation: &Operation
 
 // Returns the state in which a task that failed left the chip. `begun` is true if a modifying command may have been
 // sent. After a restore the chip counts as changed in any case, because an earlier run may have changed it.
-fn left_by<'a>(task: &Task<'a>, begun: bool, is_lifted: bool) -> Left<'a>
+fn left_by<'a>(task: &Task<'a>, begun: bool, is_lifted: bool) -> ChipAfter<'a>
     ensures { begun ≡ true → result ≡ Unchanged → ⊥ }
 {
     match task {
-        Task::Change(_) if !begun => Left::Unchanged,
-        Task::Change(_) | Task::Restore { .. } => Left::Changed {
+        Task::Change(_) if !begun => ChipAfter::Unchanged,
+        Task::Change(_) | Task::Restore { .. } => ChipAfter::Changed {
             journal: named_by(task).journal,
             may_be_unprotected: is_lifted,
         },
-        _ => Left::Reading,
+        _ => ChipAfter::Reading,
     }
 }

@@ -17,10 +17,10 @@ use crate::connect::{ChipBus, Connected};
 use crate::lock_job::run_lock;
 use crate::preparing::{Prepared, prepare};
 use crate::reports::{
-    clear_journal, print_job_fault, print_trouble, report_changed_byte, report_kept_bits,
+    clear_journal, print_job_fault, print_run_fault, report_changed_byte, report_kept_bits,
 };
+use crate::run_fault::RunFault;
 use crate::setting::Setting;
-use crate::trouble::Trouble;
 use board_files::{
     Farthest, RegionFile, check_journal, end_badly, extract_image, is_new, is_session, journal_of,
     plain_names, read_before, reads_out, reason_hint, status_of, unwritten_by, write_region_files,
@@ -31,7 +31,7 @@ use board_progress::{RunLog, Screen};
 use clap::Error as WordsError;
 use nor_args::{Operation, Task};
 use nor_console::{
-    Answer, DIRECTORY, Fault, help_of, print_fault, print_help, unmade, unread, version_of,
+    Answer, DIRECTORY, Fault, help_of, print_fault, print_help, read_fault, version_of, write_fault,
 };
 use nor_files::{Disk, LogFile, Store};
 use nor_jobs::{Sources, arguments_after_name};
@@ -89,7 +89,7 @@ pub fn run_words<'b, O: Write, E: Write>(
 pub fn end_without_descriptors<E: Write>(errors: &mut E) -> u8
     ensures { result ≡ 1 }
 {
-    end_badly(errors, &unread(DIRECTORY))
+    end_badly(errors, &read_fault(DIRECTORY))
 }
 
 /// Performs the job given by `words`, the arguments without the program's name, over any store of files. If the files
@@ -130,7 +130,7 @@ pub fn run_over<'b, R: Store<Log = LogFile<File>>, O: Write, E: Write>(
                 Err(_) => end_badly(errors, &Fault::out_of_memory()),
             }
         }
-        Err(trouble) => end_early(output, errors, &trouble),
+        Err(run_fault) => end_early(output, errors, &run_fault),
     }
 }
 
@@ -174,30 +174,30 @@ fn run_on_chip<'a, 'b, R: Store<Log = LogFile<File>>, O: Write, E: Write>(
             *used = Some(connected);
             status
         }
-        Err(trouble) => {
-            print_trouble(errors, &trouble, operation);
+        Err(run_fault) => {
+            print_run_fault(errors, &run_fault, operation);
             end_log(errors, screen.log(), operation.log, 1)
         }
     }
 }
 
-// Prints the help or the version if `trouble` requests one of them, otherwise the fault. Returns the exit status.
-fn end_early<O: Write, E: Write>(output: &mut O, errors: &mut E, trouble: &Trouble<'_>) -> u8
+// Prints the help or the version if `run_fault` requests one of them, otherwise the fault. Returns the exit status.
+fn end_early<O: Write, E: Write>(output: &mut O, errors: &mut E, run_fault: &RunFault<'_>) -> u8
     ensures few { result ≤ 1 }
-    ensures help { result ≡ 0 → AsksForHelp trouble.now }
+    ensures help { result ≡ 0 → AsksForHelp run_fault.now }
 {
-    if let Some(text) = asked_text(trouble) {
+    if let Some(text) = asked_text(run_fault) {
         return status_of(print_help(output, text), errors);
     }
-    let _ = writeln!(errors, "{trouble}");
+    let _ = writeln!(errors, "{run_fault}");
     1
 }
 
-// Returns the parser's error, which contains the text to print, if `trouble` requests the help or the version.
-fn asked_text<'a>(trouble: &'a Trouble<'_>) -> Option<&'a WordsError>
-    ensures { IsSome result → AsksForHelp trouble.now }
+// Returns the parser's error, which contains the text to print, if `run_fault` requests the help or the version.
+fn asked_text<'a>(run_fault: &'a RunFault<'_>) -> Option<&'a WordsError>
+    ensures { IsSome result → AsksForHelp run_fault.now }
 {
-    let Trouble::Fault(fault) = trouble else {
+    let RunFault::Fault(fault) = run_fault else {
         return None;
     };
     match help_of(fault) {
@@ -246,7 +246,7 @@ fn run_job<'b, R: Store, O: Write, E: Write>(
         (O.contents output.old) (O.contents output.new) result }
 {
     let saved = saved_by(&operation.task, &sources);
-    mark_job(bus, &operation.task, saved, files.alloc());
+    set_progress_job(bus, &operation.task, saved, files.alloc());
     begin_notes(errors, bus, operation, files.alloc());
     let before = read_before(files, operation, &sources.bytes);
     let terminal = bus.terminal();
@@ -295,7 +295,7 @@ pub fn end_log<E: Write>(errors: &mut E, log: &RunLog, name: Option<&str>, statu
 {
     match (name, log.lost()) {
         (Some(name), Some(reason)) => {
-            print_fault(errors, &unmade(name));
+            print_fault(errors, &write_fault(name));
             let hint = reason_hint(reason);
             let _ = writeln!(errors, "The log is incomplete, but the job went on. {hint}");
             1
@@ -324,7 +324,7 @@ fn end_with_files<R: Store, O: Write, E: Write>(
     match write_region_files(files, operation, regions) {
         Ok(()) => end_well(output, errors, answer, operation, status),
         Err(fault) => {
-            print_trouble(errors, &Trouble::Fault(fault), operation);
+            print_run_fault(errors, &RunFault::Fault(fault), operation);
             1
         }
     }
@@ -339,7 +339,7 @@ fn saved_by(task: &Task<'_>, sources: &Sources) -> Option<Saved> {
 }
 
 // Records in the bus the facts about the task for the lines that are printed before the first modifying command.
-fn mark_job<'b>(bus: &mut ChipBus<'b>, task: &Task<'_>, saved: Option<Saved>, alloc: Global)
+fn set_progress_job<'b>(bus: &mut ChipBus<'b>, task: &Task<'_>, saved: Option<Saved>, alloc: Global)
     ensures { ⟦<ChipBus<'b> as Bus>⟧.state bus.new ≡ ⟦<ChipBus<'b> as Bus>⟧.state bus.old }
 {
     let journal = journal_of(task).and_then(|file| String::from_str(alloc, file).ok());

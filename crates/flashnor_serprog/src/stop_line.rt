@@ -1,8 +1,8 @@
 //! The line that follows the line of error 12: the cause, what to do, and the state in which the job left the chip.
 
 use crate::board_bus::Causes;
-use crate::trouble::FailureText;
-use board_hints::Left;
+use crate::run_fault::FailureText;
+use board_hints::ChipAfter;
 use board_progress::{DIFFERED, OtherLine, StatusLine, keeps_srp0};
 use nor_buses::CheckFault;
 use std::fmt;
@@ -11,7 +11,7 @@ use std::fmt;
 #[derive(Drop)]
 pub struct StopLine<'a> {
     pub causes: Causes<'a>,
-    pub left: Left<'a>,
+    pub left: ChipAfter<'a>,
 }
 
 impl fmt::Display for StopLine<'_> {
@@ -21,10 +21,10 @@ impl fmt::Display for StopLine<'_> {
             return write!(f, "{}{}", OtherLine(other), self.left);
         }
         match (causes.failure, causes.status) {
-            (Some(failure), _) => write!(f, "Cause: {}. {UNPLUG}", FailureText(failure))?,
+            (Some(failure), _) => write!(f, "Cause: {}. {POWER_CYCLE}", FailureText(failure))?,
             (None, Some(fault)) => {
                 write!(f, "{}", StatusLine(fault))?;
-                if is_ignored(fault) && matches!(self.left, Left::EitherLock) {
+                if is_ignored(fault) && matches!(self.left, ChipAfter::EitherLock) {
                     return Ok(());
                 }
             }
@@ -47,6 +47,6 @@ const LOST: &str =
     "Cause: the chip has no contact or no supply any more: its status and its ID are FFh in all bits. Check contacts \
     and supply.";
 
-const UNPLUG: &str =
+const POWER_CYCLE: &str =
     "Disconnect the programmer from power for a second before the next run: it may wait for the rest of \
     a command, which the next run would complete.";

@@ -5,7 +5,7 @@ ghost use Rattle.nor_serprog.specs.Harmless.{StaysHarmless};
 ghost use Rattle.flashnor_serprog.specs.Ports.{asked_over};
 
 use crate::port::{DevicePort, PortFault};
-use crate::trouble::ProgrammerFault;
+use crate::run_fault::ProgrammerFault;
 use nor_serprog::{AnyProgrammer, Command, Failure, HandshakeFault, Link};
 
 // Read Data (03h) takes three address bytes. Read Status Register-1 (05h) returns status 1 until the chip is deselected

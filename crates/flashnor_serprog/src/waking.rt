@@ -4,7 +4,7 @@ ghost use Rattle.nor_serprog.specs.Harmless.{ModifiesNothing, StaysHarmless};
 ghost use Rattle.flashnor_serprog.specs.Ports.{asked_over};
 
 use crate::port::{DevicePort, PortFault};
-use crate::trouble::ProgrammerFault;
+use crate::run_fault::ProgrammerFault;
 use nor_serprog::{AnyProgrammer, Command, Failure, HandshakeFault, Link};
 
 // ABh, and 12 bytes that the chip ignores. If the port changes their number, 0Dh, to 0Ah, the programmer takes the last

@@ -9,7 +9,7 @@ use Rattle.nor_args.specs.declared.job.Task.{Task}
 use Rattle.nor_args.specs.declared.job.Task.TheVariants as task
 use Rattle.nor_args.specs.declared.job.Wanted.{Wanted}
 use Rattle.nor_args.specs.declared.job.Wanted.TheVariants as wanted
-use Rattle.nor_console.specs.declared.roles.Named.{Named}
+use Rattle.nor_console.specs.declared.roles.FileNames.{FileNames}
 
 abbrev pub journal_of : JournalUse → Option (Bor Text)
 journal_of (uses.Journal file) = Some file
@@ -28,7 +28,7 @@ abbrev pub image_of : Wanted → Option (Bor Text)
 image_of (wanted.Write image) = Some image
 image_of _ = None
 
-abbrev pub named_by : Task → Named
+abbrev pub named_by : Task → FileNames
 named_by (task.Read file regions) =
     record { layout = layout_of regions; wanted = None; output = Some file; journal = None }
 named_by (task.Verify file regions) =

@@ -9,7 +9,7 @@ ghost use Rattle.nor_console.specs.Readings.{HasReadInto, HasReadOut, HasReporte
 ghost use Rattle.nor_console.specs.Sessions.{HasAnnounced, HasBackedUp, HasBackedUpInFile, HasRunInFile, HasRunSession};
 
 use crate::answers::{Answer, Outcome};
-use crate::files::{empty, make};
+use crate::files::{create_journal, create_output};
 use crate::messages::Fault;
 use nor_files::Store;
 use nor_journal::Vault;
@@ -36,9 +36,9 @@ pub fn list_ranges<B: Bus>(bus: &mut B, named: Option<ChipName>) -> Outcome
     Ok(Answer::Ranges(offered(protection.size)))
 }
 
-/// Reads the chip into `file`, which `empty` creates or truncates before the first transaction. Addresses that aren't
-/// included get FFh. The outer error is a fault of `empty`. After an inner error, which is one of `read_out`, the file
-/// may hold a prefix of the copy. If `included` is `None`, every address is included.
+/// Reads the chip into `file`, which `create_output` creates or truncates before the first transaction. Addresses that
+/// aren't included get FFh. The outer error is a fault of `create_output`. After an inner error, which is one of
+/// `read_out`, the file may hold a prefix of the copy. If `included` is `None`, every address is included.
 pub fn read_to_file<'a, R: Store, B: Bus>(
     rt: &mut R,
     bus: &mut B,
@@ -54,7 +54,7 @@ pub fn read_to_file<'a, R: Store, B: Bus>(
     ensures unsent { OnErr result (B.state bus.new ≡ B.state bus.old) }
     ensures err { IfErr result (IsMaking (R.state rt.old).view file.now) }
 {
-    let mut out = empty(rt, file)?;
+    let mut out = create_output(rt, file)?;
     let outcome = read_into(bus, named, included, &mut out);
     rt.return_vault(out);
     Ok(outcome)
@@ -94,9 +94,9 @@ pub fn erased(alloc: Global, size: u32) -> Result<Vec<u8>, AllocError>
     vec![in alloc; 0xFF; size as usize]
 }
 
-/// Runs the session that `request` asks for, with its journal in `file`, which `make` creates before the first
-/// transaction. `announce` must accept every announcement. The outer error is a fault of `make`, the inner error one of
-/// `session_announced`.
+/// Runs the session that `request` asks for, with its journal in `file`, which `create_journal` creates before the
+/// first transaction. `announce` must accept every announcement. The outer error is a fault of `create_journal`, the
+/// inner error one of `session_announced`.
 pub fn session_in_file<'a, R: Store, B: Bus, F: FnOnce(Announcement) + Drop>(
     rt: &mut R,
     bus: &mut B,
@@ -118,7 +118,7 @@ pub fn session_in_file<'a, R: Store, B: Bus, F: FnOnce(Announcement) + Drop>(
     ensures announces { IfOk result (HasAnnounced (λ announcement. F.post announce announcement tt)
         (B.state bus.old) (B.state bus.new)) }
 {
-    let mut journal = make(rt, file)?;
+    let mut journal = create_journal(rt, file)?;
     let outcome = run_session(bus, &mut journal, image, request, announce);
     rt.return_vault(journal);
     Ok(outcome)
@@ -142,8 +142,9 @@ fn run_session<B: Bus, V: Vault, F: FnOnce(Announcement) + Drop>(
     Ok(Answer::Done(report))
 }
 
-/// Saves the whole chip in a journal in `file`, which `make` creates before the first transaction. The outer error is a
-/// fault of `make`. After an inner error, which is one of `backup`, the file may hold a prefix of the journal.
+/// Saves the whole chip in a journal in `file`, which `create_journal` creates before the first transaction. The outer
+/// error is a fault of `create_journal`. After an inner error, which is one of `backup`, the file may hold a prefix of
+/// the journal.
 pub fn backup_in_file<'a, R: Store, B: Bus>(
     rt: &mut R,
     bus: &mut B,
@@ -160,7 +161,7 @@ pub fn backup_in_file<'a, R: Store, B: Bus>(
     ensures unsent { OnErr result (B.state bus.new ≡ B.state bus.old) }
     ensures err { IfErr result (IsMaking (R.state rt.old).view file.now) }
 {
-    let mut journal = make(rt, file)?;
+    let mut journal = create_journal(rt, file)?;
     let outcome = run_backup(bus, &mut journal, named);
     rt.return_vault(journal);
     Ok(outcome)

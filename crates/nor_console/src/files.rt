@@ -54,7 +54,7 @@ pub fn reading(error: io::Error, name: &str) -> Fault<'_>
     }
 }
 
-pub fn unread(name: &str) -> Fault<'_>
+pub fn read_fault(name: &str) -> Fault<'_>
     ensures { result ≡ Faults.File FileFaults.Read name.entry Causes.Unknown }
 {
     unread_by(name, Cause::Unknown)
@@ -68,7 +68,7 @@ pub fn unread_by(name: &str, cause: Cause) -> Fault<'_>
 }
 
 /// Creates or truncates the file `name`, and returns a vault that writes to it. `making` lists the faults.
-pub fn empty<'a, R: Store>(rt: &mut R, name: &'a str) -> Result<R::Filed, Fault<'a>>
+pub fn create_output<'a, R: Store>(rt: &mut R, name: &'a str) -> Result<R::Filed, Fault<'a>>
     ensures nature { (R.state rt.new).view.nature ≡ (R.state rt.old).view.nature }
     ensures fresh { IfOk result (λ vault. IsFresh (R.Filed.state vault)) }
     ensures borrows { is_lawful (R.state rt.old).view ≡ true
@@ -84,7 +84,7 @@ pub fn empty<'a, R: Store>(rt: &mut R, name: &'a str) -> Result<R::Filed, Fault<
 }
 
 /// Creates the file `name`, which must not exist, and returns a vault that writes to it. `making` lists the faults.
-pub fn make<'a, R: Store>(rt: &mut R, name: &'a str) -> Result<R::Filed, Fault<'a>>
+pub fn create_journal<'a, R: Store>(rt: &mut R, name: &'a str) -> Result<R::Filed, Fault<'a>>
     ensures nature { (R.state rt.new).view.nature ≡ (R.state rt.old).view.nature }
     ensures fresh { IfOk result (λ vault. IsFresh (R.Filed.state vault)) }
     ensures borrows { is_lawful (R.state rt.old).view ≡ true
@@ -149,7 +149,7 @@ pub fn taken_by(name: &str, cause: Cause) -> Fault<'_>
     Fault::File { fault, name, cause }
 }
 
-pub fn unmade(name: &str) -> Fault<'_>
+pub fn write_fault(name: &str) -> Fault<'_>
     ensures { result ≡ Faults.File FileFaults.Write name.entry Causes.Unknown }
 {
     unmade_by(name, Cause::Unknown)
@@ -166,7 +166,7 @@ pub fn unmade_by(name: &str, cause: Cause) -> Fault<'_>
 pub fn lost_output() -> Fault<'static>
     ensures { IsLostOutput result }
 {
-    unmade("standard output")
+    write_fault("standard output")
 }
 
 /// Locks the file `journal` against changes by other runs, if the file system has locks, and returns up to
@@ -181,7 +181,7 @@ pub fn read_journal<'a, R: Store>(rt: &mut R, journal: &'a str) -> Result<Vec<u8
 {
     match rt.share(journal) {
         Ok(()) => {}
-        Err(fault) => return Err(unheld(fault, journal)),
+        Err(fault) => return Err(lock_fault(fault, journal)),
     }
     match read_file(rt, journal, MOST_JOURNAL_BYTES) {
         Ok(bytes) => Ok(bytes),
@@ -192,7 +192,7 @@ pub fn read_journal<'a, R: Store>(rt: &mut R, journal: &'a str) -> Result<Vec<u8
 /// Returns the fault of a file that can't be opened or locked: error 18 if memory ran out, file fault 1 if the file
 /// can't be looked up, opened or read, file fault 5 if another process has locked it, or file fault 2 if it exists but
 /// can't be overwritten or locked.
-pub fn unheld(fault: LockFault, name: &str) -> Fault<'_>
+pub fn lock_fault(fault: LockFault, name: &str) -> Fault<'_>
     ensures { IsNotLocked fault name.now result }
 {
     match fault {

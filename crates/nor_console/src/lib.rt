@@ -27,8 +27,9 @@ pub use calls::{
 pub use causes::{Cause, SystemReason};
 pub use escapes::Escaped;
 pub use files::{
-    MOST_IMAGE_BYTES, MOST_JOURNAL_BYTES, create_log, empty, exists, lost_output, make, read_file,
-    read_journal, reading, taken_by, unheld, unmade, unmade_by, unread, unread_by,
+    MOST_IMAGE_BYTES, MOST_JOURNAL_BYTES, create_journal, create_log, create_output, exists,
+    lock_fault, lost_output, read_fault, read_file, read_journal, reading, taken_by, unmade_by,
+    unread_by, write_fault,
 };
 pub use messages::{Fault, FileFault, Wording, or_fault};
 pub use printing::{
@@ -37,7 +38,7 @@ pub use printing::{
 pub use reasons::text_of_flaw;
 pub use requests::{include_regions, read_included, read_layout, request_for};
 pub use roles::{
-    Named, Role, apart, apart_as, found_streams, is_printed, journal_of, look_ahead, named_by,
-    unprinted,
+    FileNames, Role, apart_as, are_two_files, found_streams, is_printed, journal_of, look_ahead,
+    named_by, unprinted,
 };
-pub use streams::{DIRECTORY, Streams, by_line, keep_streams};
+pub use streams::{DIRECTORY, Streams, keep_streams, line_buffered};

@@ -30,7 +30,7 @@ pub enum Role {
 }
 
 #[derive(Clone, Copy)]
-pub struct Named<'a> {
+pub struct FileNames<'a> {
     /// The file of the layout that names the regions; `None` also if the layout is read from the chip.
     pub layout: Option<&'a str>,
     pub wanted: Option<&'a str>,
@@ -38,33 +38,33 @@ pub struct Named<'a> {
     pub journal: Option<&'a str>,
 }
 
-pub fn named_by<'a>(task: &Task<'a>) -> Named<'a>
+pub fn named_by<'a>(task: &Task<'a>) -> FileNames<'a>
     ensures { result ≡ named_by task.now }
 {
-    let none = Named {
+    let none = FileNames {
         layout: None,
         wanted: None,
         output: None,
         journal: None,
     };
     match task {
-        Task::Read { file, regions } => Named {
+        Task::Read { file, regions } => FileNames {
             layout: layout_of(*regions),
             output: Some(*file),
             ..none
         },
-        Task::Verify { file, regions } => Named {
+        Task::Verify { file, regions } => FileNames {
             layout: layout_of(*regions),
             wanted: Some(*file),
             ..none
         },
-        Task::Change(change) => Named {
+        Task::Change(change) => FileNames {
             layout: layout_of(change.regions),
             wanted: image_of(change),
             journal: journal_of(change),
             ..none
         },
-        Task::Restore { journal } => Named {
+        Task::Restore { journal } => FileNames {
             journal: Some(*journal),
             ..none
         },
@@ -102,7 +102,7 @@ pub fn journal_of<'a>(change: &Change<'a>) -> Option<&'a str>
 
 /// Checks that two names, if both are given, refer to different files. Returns file fault 5 with the name `later` if
 /// they don't, or file fault 1 with the name that can't be looked up.
-pub fn apart<'a, R: Store>(
+pub fn are_two_files<'a, R: Store>(
     rt: &R,
     earlier: Option<&'a str>,
     later: Option<&'a str>,
@@ -113,7 +113,7 @@ pub fn apart<'a, R: Store>(
     apart_as(rt, earlier, later, Cause::Unknown)
 }
 
-/// Checks the two names as `apart` does. A file fault 5 gets this cause.
+/// Checks the two names as `are_two_files` does. A file fault 5 gets this cause.
 pub fn apart_as<'a, R: Store>(
     rt: &R,
     earlier: Option<&'a str>,

@@ -8,44 +8,47 @@ use nor_model::Bus;
 use nor_probe::{ChipName, Found, probe};
 use nor_session::Refusal;
 
-/// Identifies the chip, with the errors of `find`.
-pub fn find_chip<B: Bus>(bus: &mut B, named: Option<ChipName>) -> Outcome
+/// Returns the identified chip as an answer, with the errors of `identify_chip`.
+pub fn answer_probe<B: Bus>(bus: &mut B, named: Option<ChipName>) -> Outcome
     ensures { HasLookedUp ReportsFound named (B.state bus.old) (B.state bus.new) result }
 {
-    let found = find(bus, named)?;
+    let found = identify_chip(bus, named)?;
     Ok(Answer::Found(found))
 }
 
-/// Returns the chip's size in bytes, with the errors of `find`.
+/// Returns the chip's size in bytes, with the errors of `identify_chip`.
 pub fn report_size<B: Bus>(bus: &mut B, named: Option<ChipName>) -> Outcome
     ensures { HasLookedUp ReportsSize named (B.state bus.old) (B.state bus.new) result }
 {
-    let found = find(bus, named)?;
+    let found = identify_chip(bus, named)?;
     Ok(Answer::Size(found.size))
 }
 
 /// Identifies the chip. Returns error 1 if there is no chip, error 2 if it is unknown, error 3 if its name isn't
 /// `named`, error 12 if the bus stopped, and error 13 if the chip stayed busy (never on a well-behaved bus).
-pub fn find<B: Bus>(bus: &mut B, named: Option<ChipName>) -> Result<Found, Refusal>
+pub fn identify_chip<B: Bus>(bus: &mut B, named: Option<ChipName>) -> Result<Found, Refusal>
     ensures { HasIdentified named (B.state bus.old) (B.state bus.new) result }
 {
     Ok(probe(bus, named)?)
 }
 
-pub fn find_first<'a, B: Bus>(bus: &mut B, named: Option<ChipName>) -> Result<Found, Fault<'a>>
+pub fn identify_or_fault<'a, B: Bus>(
+    bus: &mut B,
+    named: Option<ChipName>,
+) -> Result<Found, Fault<'a>>
     ensures ok { IfOk result (λ found. HasIdentified named (B.state bus.old) (B.state bus.new) (Ok found)) }
     ensures err { IfErr result (FailsToFind named (B.state bus.old) (B.state bus.new)) }
 {
-    or_fault(find(bus, named))
+    or_fault(identify_chip(bus, named))
 }
 
-/// Identifies the chip if a name is given, which the chip must have. Returns the errors of `find`.
+/// Identifies the chip if a name is given, which the chip must have. Returns the errors of `identify_chip`.
 pub fn check_name<B: Bus>(bus: &mut B, named: Option<ChipName>) -> Result<(), Refusal>
     ensures ok { OnOk result (IsNamedFirst named (B.state bus.old) (B.state bus.new)) }
     ensures err { IfErr result (FailsToName named (B.state bus.old) (B.state bus.new)) }
 {
     if named.is_some() {
-        find(bus, named)?;
+        identify_chip(bus, named)?;
     }
     Ok(())
 }

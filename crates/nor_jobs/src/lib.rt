@@ -8,6 +8,6 @@ mod restoring;
 mod sources;
 
 pub use arguments::arguments_after_name;
-pub use finding::{find_chip, find_first, report_size};
+pub use finding::{answer_probe, identify_or_fault, report_size};
 pub use restoring::{journal_in, restore_named};
 pub use sources::{Sources, asked_bytes, read_image, read_sources};

@@ -1,14 +1,14 @@
 //! The last lines of a change: the final numbers of its steps, and the time that it took.
 
-use super::Shown;
+use super::ProgressBus;
 use crate::estimates::Minutes;
-use crate::gauge::micros_between;
 use crate::step_lines::Took;
+use crate::step_timer::micros_between;
 use crate::steps::{Phase, Step, Total};
-use crate::terminal::Look;
+use crate::terminal::ProgressStyle;
 use std::time::Instant;
 
-impl<B> Shown<'_, B> {
+impl<B> ProgressBus<'_, B> {
     // Does nothing before the first modifying command, or after a comparison began.
     pub(super) fn show_duration(&self) {
         if self.phase != Phase::Changing {
@@ -18,7 +18,7 @@ impl<B> Shown<'_, B> {
         self.show_last(Step::Program, self.counts.program);
         self.show_last(Step::ReadBack, self.counts.read_back);
         let now = self.terminal.now();
-        if self.terminal.look() == Look::Line {
+        if self.terminal.style() == ProgressStyle::Line {
             self.terminal.clear_line();
             self.draw_last(Step::Program, now);
             self.draw_last(Step::ReadBack, now);
@@ -35,7 +35,7 @@ impl<B> Shown<'_, B> {
     }
 
     fn draw_last(&self, step: Step, now: Option<Instant>) {
-        let line = self.gauge.line(step, Total::Done, now);
+        let line = self.timer.line(step, Total::Done, now);
         if line.tally.done > 0 {
             self.terminal.draw_last(&line);
         }

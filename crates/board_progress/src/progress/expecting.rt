@@ -1,18 +1,18 @@
-//! Implements `Progress` for a `Shown` over a `ReadAhead`.
+//! Implements `Progress` for a `ProgressBus` over a `ReadAhead`.
 
-use super::{Progress, Shown};
+use super::{Progress, ProgressBus};
 use crate::steps::Phase;
 use nor_buses::ReadAhead;
 use nor_model::Bus;
 
-impl<B: Bus + Drop> Progress for Shown<'_, ReadAhead<B>> {
+impl<B: Bus + Drop> Progress for ProgressBus<'_, ReadAhead<B>> {
     fn expect_reads(&mut self, sectors: usize) {
         let known = self.expected.unwrap_or(0);
         if known > 0 && self.counts.scan >= known as u64 && sectors > known {
             // All reads that were recorded before are done, so the further reads are a second scan.
             self.expected = Some(sectors - known);
             self.counts.scan = 0;
-            self.gauge.restart_scan();
+            self.timer.restart_scan();
         } else {
             // A job may record the same reads again, or only those that are left, so the greatest number counts.
             self.expected = Some(sectors.max(known));
@@ -23,7 +23,7 @@ impl<B: Bus + Drop> Progress for Shown<'_, ReadAhead<B>> {
         self.show_duration();
         self.expected = Some(sectors);
         self.phase = Phase::After;
-        self.gauge.restart(self.terminal.now());
+        self.timer.restart(self.terminal.now());
     }
 
     fn end_blocks_at(&mut self, address: u32) {

@@ -1,18 +1,18 @@
 //! Prints a progress line at most once per minute.
 ghost use Rattle.std.specs.Prelude.{◌≡◌};
 
-use super::Shown;
-use crate::gauge::micros_between;
-use crate::terminal::Look;
+use super::ProgressBus;
+use crate::step_timer::micros_between;
+use crate::terminal::ProgressStyle;
 use std::fmt;
 
 const MINUTE: u64 = 60_000_000;
 
-impl<B> Shown<'_, B> {
+impl<B> ProgressBus<'_, B> {
     pub(super) fn print_each_minute<T: fmt::Display>(&mut self, line: &T)
         ensures { self.new.bus ≡ self.old.bus }
     {
-        if self.terminal.look() != Look::Minutes {
+        if self.terminal.style() != ProgressStyle::Minutes {
             return;
         }
         let now = self.terminal.now();

@@ -1,11 +1,11 @@
 //! Notes the sums of the sectors that are read over the bus of `progress.rt`.
 ghost use Rattle.std.specs.Prelude.{◌≡◌, option_copied};
 
-use super::Shown;
+use super::ProgressBus;
 use crate::notes::Notes;
 
-impl<B> Shown<'_, B> {
-    ghost use Rattle.board_progress.specs.Shown.{notes_of, shown_bus};
+impl<B> ProgressBus<'_, B> {
+    ghost use Rattle.board_progress.specs.ProgressBus.{notes_of, shown_bus};
 
     /// Begins to note the sums of the sectors that are read from now on.
     pub fn begin_notes(&mut self, notes: Notes)

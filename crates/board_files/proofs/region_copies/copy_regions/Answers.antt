@@ -12,7 +12,8 @@ loop-index-preserved g c =
       nature = c.write_file.ensures.nature ∙ before.nature;
       output = λ is.
           let lawful = lawful_after before.nature is in
-          stays_on (before.output is) (c.write_file.ensures.others lawful c.args.out.now c.in_ok-apart-2.ensures.ok);
+          stays_on (before.output is)
+          (c.write_file.ensures.others lawful c.args.out.now c.in_ok-are_two_files-2.ensures.ok);
       copied = copied_more c.in_ok-bytes.bytes.items c.deref.result.now c.in-Some.part.now
           (g.R.Store.state c.loop-index.rt) (g.R.Store.state c.write_file.new.rt)
           c.args.files.now c.loop-index.index _ c.loop-index-test.true c.deref.ensures.value
@@ -28,7 +29,8 @@ returns-clause-ok g c =
 
 pub returns-in_default-clause-err : goal.returns-in_default-clause-err
 returns-in_default-clause-err g c =
-    rw c.unread.ensures (region_fails c.args.out c.args.log c.args.files.now c.in_ok-bytes.bytes.items c.loop-index.index _
+    rw c.read_fault.ensures (region_fails c.args.out c.args.log c.args.files.now c.in_ok-bytes.bytes.items
+    c.loop-index.index _
     (g.R.Store.state c.args.rt.now).view (g.R.Store.state c.loop-index.rt).view _ c.loop-index-test.true
     c.in_ok-bytes.ensures.ok
     (inl (record {
@@ -36,21 +38,23 @@ returns-in_default-clause-err g c =
       ends = part_outside _ c.in_ok-bytes.bytes.items (rw c.deref.ensures.value at c.in_default.ensures);
     })))
 
-pub returns-in_err-apart-clause-err : goal.returns-in_err-apart-clause-err
-returns-in_err-apart-clause-err g c =
-    let p = err_from_is_err_and c.from_residual-in_err-apart.result c.from_residual-in_err-apart.ensures.1 in
+pub returns-in_err-are_two_files-clause-err : goal.returns-in_err-are_two_files-clause-err
+returns-in_err-are_two_files-clause-err g c =
+    let p = err_from_is_err_and c.from_residual-in_err-are_two_files.result
+    c.from_residual-in_err-are_two_files.ensures.1 in
     rw (p.1, p.2) (region_fails c.args.out c.args.log c.args.files.now c.in_ok-bytes.bytes.items c.loop-index.index _
     (g.R.Store.state c.args.rt.now).view (g.R.Store.state c.loop-index.rt).view _ c.loop-index-test.true
     c.in_ok-bytes.ensures.ok
-    (inr (inl (rw c.loop-index.invariant.nature at c.in_err-apart.ensures.err))))
+    (inr (inl (rw c.loop-index.invariant.nature at c.in_err-are_two_files.ensures.err))))
 
-pub returns-in_err-apart-2-clause-err : goal.returns-in_err-apart-2-clause-err
-returns-in_err-apart-2-clause-err g c =
-    let p = err_from_is_err_and c.from_residual-in_err-apart-2.result c.from_residual-in_err-apart-2.ensures.1 in
+pub returns-in_err-are_two_files-2-clause-err : goal.returns-in_err-are_two_files-2-clause-err
+returns-in_err-are_two_files-2-clause-err g c =
+    let p = err_from_is_err_and c.from_residual-in_err-are_two_files-2.result
+    c.from_residual-in_err-are_two_files-2.ensures.1 in
     rw (p.1, p.2) (region_fails c.args.out c.args.log c.args.files.now c.in_ok-bytes.bytes.items c.loop-index.index _
     (g.R.Store.state c.args.rt.now).view (g.R.Store.state c.loop-index.rt).view _ c.loop-index-test.true
     c.in_ok-bytes.ensures.ok
-    (inr (inr (inl (rw c.loop-index.invariant.nature at c.in_err-apart-2.ensures.err)))))
+    (inr (inr (inl (rw c.loop-index.invariant.nature at c.in_err-are_two_files-2.ensures.err)))))
 
 pub returns-in_err-is_apart_from-clause-err : goal.returns-in_err-is_apart_from-clause-err
 returns-in_err-is_apart_from-clause-err g c =

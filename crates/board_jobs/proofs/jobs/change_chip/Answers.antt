@@ -25,8 +25,8 @@ returns-in_err-outcome-clause-err g c =
     (rw (c.ranges_if-ranges.ensures, c.as_ref.ensures.value, c.request_for-request.ensures, c.is_compared-compared.ensures) at c.in_ok-target.ensures.ok) c.in_err-outcome.ensures.err)
 
 pub returns-clause-ok : goal.returns-clause-ok
-returns-clause-ok g c = IfOk-weaker c.follow.result _ _ (λ outcome followed. changed_by c.args.operation.now c.args.change.now
-    _ _ _ c.in-Journal.file c.in-Journal.is _ _ _ (g.B.Bus.state c.session_in_file.new.bus) _ outcome
+returns-clause-ok g c = IfOk-weaker c.compare_chip.result _ _ (λ outcome followed. changed_by c.args.operation.now
+    c.args.change.now _ _ _ c.in-Journal.file c.in-Journal.is _ _ _ (g.B.Bus.state c.session_in_file.new.bus) _ outcome
     (rw followed.0 (record {
       changed = g.B.Bus.state c.session_in_file.new.bus;
       session = record {
@@ -36,10 +36,10 @@ returns-clause-ok g c = IfOk-weaker c.follow.result _ _ (λ outcome followed. ch
         ran = rw (c.request_for-request.ensures, c.deref_mut.ensures.value, c.in_ok-image.ensures, c.deref.ensures.value, c.expect_reads.ensures) at c.in_ok-outcome.ensures.ok;
       };
       followed = rw (c.is_compared-compared.ensures, c.deref-2.ensures.value) at followed.1;
-    }))) c.follow.ensures.ok
+    }))) c.compare_chip.ensures.ok
 
 pub returns-clause-err : goal.returns-clause-err
-returns-clause-err g c = MatchResult-weaker c.follow.result c.follow.ensures.err (λ outcome is. is)
+returns-clause-err g c = MatchResult-weaker c.compare_chip.result c.compare_chip.ensures.err (λ outcome is. is)
     (λ fault fails. follow_fails c.args.operation.now c.args.change.now _ _ _ c.in-Journal.file c.in-Journal.is _ _ _ _ _
     c.in_ok-outcome.outcome fault (record {
       found = g.B.Bus.state c.fill_buffer.new.bus;

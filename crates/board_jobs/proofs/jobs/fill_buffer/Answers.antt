@@ -30,10 +30,11 @@ returns-in_err-asked-clause-err g c =
       refl,
     )))
 
-pub returns-in_err-complete-clause-err : goal.returns-in_err-complete-clause-err
-returns-in_err-complete-clause-err g c =
-    let p = err_from_is_err_and c.from_residual-in_err-complete.result c.from_residual-in_err-complete.ensures.1 in
-    let e = rw c.in_ok-asked.ensures.ok at c.in_err-complete.ensures.err in
+pub returns-in_err-fill_from_chip-clause-err : goal.returns-in_err-fill_from_chip-clause-err
+returns-in_err-fill_from_chip-clause-err g c =
+    let p = err_from_is_err_and c.from_residual-in_err-fill_from_chip.result
+    c.from_residual-in_err-fill_from_chip.ensures.1 in
+    let e = rw c.in_ok-asked.ensures.ok at c.in_err-fill_from_chip.ensures.err in
     rw (p.1, p.2) (target_fails c.args.named _ _ _ _ c.args.wanted _
     (sym (rw c.if-not-changes_bytes.false at c.changes_bytes.ensures)) (inr (
       e.0,
@@ -52,5 +53,5 @@ returns-clause-ok g c = target_filled c.args.named _ _ _ _ c.args.wanted _
       chip = c.in_ok-found.found;
       found = g.B.Bus.state c.find_changeable.new.bus;
       changeable = c.in_ok-found.ensures.ok;
-      is = rw c.in_ok-asked.ensures.ok at c.in_ok-complete.ensures.ok;
+      is = rw c.in_ok-asked.ensures.ok at c.in_ok-fill_from_chip.ensures.ok;
     })

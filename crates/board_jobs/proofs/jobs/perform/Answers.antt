@@ -33,7 +33,7 @@ returns-in-Restore-clause-err g c = restore_failed c.args.operation.now _ _ _ _ 
     c.in-Restore.is c.restore_chip.result (rw c.deref.ensures.value at c.restore_chip.ensures.err)
 
 pub returns-in-Probe : goal.returns-in-Probe
-returns-in-Probe g c = rw c.in-Probe.is (search (rules, stays_same, c.find_chip.ensures))
+returns-in-Probe g c = rw c.in-Probe.is (search (rules, stays_same, c.answer_probe.ensures))
 
 pub returns-in-FlashSize : goal.returns-in-FlashSize
 returns-in-FlashSize g c = rw c.in-FlashSize.is (search (rules, stays_same, c.report_size.ensures))

@@ -7,7 +7,7 @@ returns-then-not-is_of_type-clause-err g c = inr (
   OtherChip,
   record {
     chip = c.in_ok-found.found;
-    found = g.B.Bus.state c.find_first.new.bus;
+    found = g.B.Bus.state c.identify_or_fault.new.bus;
     identified = c.in_ok-found.ensures.ok;
     fails = (refl, rw c.if-not-is_of_type.true at c.is_of_type.ensures);
   },
@@ -17,7 +17,7 @@ returns-then-not-is_of_type-clause-err g c = inr (
 pub returns-in-Ok-clause-ok : goal.returns-in-Ok-clause-ok
 returns-in-Ok-clause-ok g c = record {
   chip = c.in_ok-found.found;
-  found = g.B.Bus.state c.find_first.new.bus;
+  found = g.B.Bus.state c.identify_or_fault.new.bus;
   identified = c.in_ok-found.ensures.ok;
   kind = rw c.if-not-is_of_type.false at c.is_of_type.ensures;
   read = rw c.expect_reads.ensures at c.in-Ok.ensures.ok;
@@ -28,7 +28,7 @@ returns-in-Err-clause-err g c = inr (
   Stopped,
   record {
     chip = c.in_ok-found.found;
-    found = g.B.Bus.state c.find_first.new.bus;
+    found = g.B.Bus.state c.identify_or_fault.new.bus;
     identified = c.in_ok-found.ensures.ok;
     fails = rw c.expect_reads.ensures at c.in-Err.ensures.err;
   },

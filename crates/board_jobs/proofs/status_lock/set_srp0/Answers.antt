@@ -34,7 +34,7 @@ returns-then-not-has_only_srp0-clause-sends g c = lock_sends c.args.named _ _ _ 
 pub returns-then-not-has_only_srp0-clause-err : goal.returns-then-not-has_only_srp0-clause-err
 returns-then-not-has_only_srp0-clause-err g c = record {
   chip = c.in_ok-found.found;
-  found = g.B.Bus.state c.find_first.new.bus;
+  found = g.B.Bus.state c.identify_or_fault.new.bus;
   read = g.B.Bus.state c.read_open.new.bus;
   before = c.in_ok-before.before;
   identified = c.in_ok-found.ensures.ok;

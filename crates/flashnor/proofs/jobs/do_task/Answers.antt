@@ -8,7 +8,7 @@ use Rattle.nor_console.proofs.Lent.{stays_same}
 use Rattle.flashnor.proofs.jobs.do_task.Goals as goal
 
 pub returns-in-Probe : goal.returns-in-Probe
-returns-in-Probe g c = rw c.in-Probe.is (search (rules, stays_same, found_chip, c.find_chip.ensures))
+returns-in-Probe g c = rw c.in-Probe.is (search (rules, stays_same, found_chip, c.answer_probe.ensures))
 
 pub returns-in-FlashSize : goal.returns-in-FlashSize
 returns-in-FlashSize g c = rw c.in-FlashSize.is (search (rules, stays_same, found_size, c.report_size.ensures))

@@ -4,7 +4,7 @@ use Rattle.flashnor_serprog.proofs.Ran.{none_ok}
 use Rattle.flashnor_serprog.proofs.preparing.read_files.Goals as goal
 
 pub returns-clause-ok : goal.returns-clause-ok
-returns-clause-ok g c = let same = c.try_sources.ensures.view in record {
+returns-clause-ok g c = let same = c.reject_wrong_sources.ensures.view in record {
   shown = option_map (λ vault. (held_by vault).bytes) c.in_ok-chip.chip;
   source = c.in_ok-chip.ensures;
   roles = c.in_ok-have_one_role.ensures.ok;
@@ -36,9 +36,9 @@ pub returns-in_err-check_new-clause-ok : goal.returns-in_err-check_new-clause-ok
 returns-in_err-check_new-clause-ok g c =
     none_ok _ _ c.from_residual-in_err-check_new.result c.from_residual-in_err-check_new.ensures.1
 
-pub returns-in_err-try_sources-clause-ok : goal.returns-in_err-try_sources-clause-ok
-returns-in_err-try_sources-clause-ok g c =
-    none_ok _ _ c.from_residual-in_err-try_sources.result c.from_residual-in_err-try_sources.ensures.1
+pub returns-in_err-reject_wrong_sources-clause-ok : goal.returns-in_err-reject_wrong_sources-clause-ok
+returns-in_err-reject_wrong_sources-clause-ok g c =
+    none_ok _ _ c.from_residual-in_err-reject_wrong_sources.result c.from_residual-in_err-reject_wrong_sources.ensures.1
 
 pub returns-in_err-chip-clause-ok : goal.returns-in_err-chip-clause-ok
 returns-in_err-chip-clause-ok g c = none_ok _ _ c.from_residual-in_err-chip.result c.from_residual-in_err-chip.ensures.1

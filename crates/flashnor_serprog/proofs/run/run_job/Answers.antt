@@ -17,11 +17,11 @@ returns-in-Ok g c =
       ended = _;
       ends = task_kept _ _ _ _ _ c.end_with_files-printed.ensures.nature _ _ c.args.operation.now
           c.args.operation.now.task c.in-Ok.answer reads c.end_with_files-printed.ensures.output
-          (rw (c.begin_notes.ensures, c.mark_job.ensures) at c.in-Ok.ensures.ends);
+          (rw (c.begin_notes.ensures, c.set_progress_job.ensures) at c.in-Ok.ensures.ends);
       sends = sends_kept c.args.sources.included c.args.sources.bytes.items (g.R.Store.state c.args.files.now).view
           (g.R.Store.state c.end_job.new.files) (g.R.Store.state c.end_with_files-printed.new.files)
           c.end_with_files-printed.ensures.nature _ _ c.args.operation.now c.args.operation.now.task reads
-          (rw (c.begin_notes.ensures, c.mark_job.ensures) at c.end_job.ensures.sends);
+          (rw (c.begin_notes.ensures, c.set_progress_job.ensures) at c.end_job.ensures.sends);
       looked = refl;
       few = c.end_run.ensures.few c.end_with_files-printed.ensures.few;
       printed = λ zero. c.end_with_files-printed.ensures.printed (c.end_run.ensures.failed zero);
@@ -39,8 +39,8 @@ pub returns-in-Ok-2 : goal.returns-in-Ok-2
 returns-in-Ok-2 g c = record {
   outcome = Ok c.in-Ok-2.answer;
   ended = _;
-  ends = rw (c.begin_notes.ensures, c.mark_job.ensures) at c.in-Ok-2.ensures.ends;
-  sends = rw (c.begin_notes.ensures, c.mark_job.ensures) at c.end_job.ensures.sends;
+  ends = rw (c.begin_notes.ensures, c.set_progress_job.ensures) at c.in-Ok-2.ensures.ends;
+  sends = rw (c.begin_notes.ensures, c.set_progress_job.ensures) at c.end_job.ensures.sends;
   looked = refl;
   few = c.end_run-in-Ok-2.ensures.few (c.report_kept_bits-kept.ensures.few c.end_compared-printed.ensures.few);
   printed = λ zero. search rules;
@@ -53,8 +53,8 @@ returns g c = record {
   ended = _;
   ends = ends_from c.args.operation.now c.args.sources.included c.args.sources.bytes.items
       (g.R.Store.state c.args.files.now).view (g.R.Store.state c.end_job.new.files) _ _ _ (Err c.in-Err.fault)
-      (c.begin_notes.ensures ∙ c.mark_job.ensures) c.in-Err.ensures.ends;
-  sends = rw (c.begin_notes.ensures, c.mark_job.ensures) at c.end_job.ensures.sends;
+      (c.begin_notes.ensures ∙ c.set_progress_job.ensures) c.in-Err.ensures.ends;
+  sends = rw (c.begin_notes.ensures, c.set_progress_job.ensures) at c.end_job.ensures.sends;
   looked = c.report_strays.ensures;
   few = c.end_log.ensures.few (omega arith);
   printed = λ zero. search rules;

@@ -3,8 +3,8 @@ use Rattle.std.proofs.lemmas.List.{length-replicate}
 use Rattle.std.proofs.lemmas.Result.{err_from_is_err_and}
 use Rattle.nor_plan.proofs.Parts.{part_long}
 use Rattle.board_jobs.proofs.RestRead.{up_all, up_more, up_none, up_skip, up_stops}
-use Rattle.board_jobs.proofs.rest.read_rest.Goals as goal
-use Rattle.board_jobs.proofs.rest.read_rest.Goals.{else-not-saves, then-not-saves+in_ok-read_sector}
+use Rattle.board_jobs.proofs.unsaved_sectors.read_rest.Goals as goal
+use Rattle.board_jobs.proofs.unsaved_sectors.read_rest.Goals.{else-not-saves, then-not-saves+in_ok-read_sector}
 
 pub loop-sector-init : goal.loop-sector-init
 loop-sector-init g c = up_none c.args.journal.now c.args.bytes.now (g.B.Bus.state c.args.bus.now) c.requires

@@ -1,6 +1,6 @@
 use Rattle.std.proofs.Common.{Err, refl}
 use Rattle.std.proofs.lemmas.Result.{err_from_is_err_and}
-use Rattle.nor_jobs.proofs.finding.find.Goals as goal
+use Rattle.nor_jobs.proofs.finding.identify_chip.Goals as goal
 
 pub returns-in_err-probe : goal.returns-in_err-probe
 returns-in_err-probe g c =

@@ -50,7 +50,7 @@ impl Tallies {
 /// Counts and times the operations of a job, for its progress line. A read counts when its reply was received, any
 /// other operation when a poll shows that the chip is ready.
 #[derive(Clone, Copy)]
-pub struct Gauge {
+pub struct StepTimer {
     tallies: Tallies,
     running: Option<(Step, u64)>,
     // when the last operation was counted, or `restart` was called, whichever was later
@@ -58,10 +58,10 @@ pub struct Gauge {
     drawn: Option<Instant>,
 }
 
-impl Gauge {
-    /// Returns a gauge that has counted nothing, and measures the time of the first operation from `now` on.
-    pub fn new(now: Option<Instant>) -> Gauge {
-        Gauge {
+impl StepTimer {
+    /// Returns a timer that has counted nothing, and measures the time of the first operation from `now` on.
+    pub fn new(now: Option<Instant>) -> StepTimer {
+        StepTimer {
             tallies: Tallies::default(),
             running: None,
             last: now,

@@ -1,8 +1,8 @@
 //! Reads the sectors that the journal of a restore doesn't save, and compares them after the restore.
 ghost use Rattle.std.specs.Prelude.{◌≡◌, ◌≤◌, ◌<◌, ◌^◌, IfErr, OnErr, OnOk, length, replicate};
 ghost use Rattle.nor_journal.specs.Saved.{is_saved};
-ghost use Rattle.board_jobs.specs.Rest.{AreUnsaved, FailsRest, HasKeptRest, HasReadRest};
-ghost use Rattle.board_jobs.specs.Rest.{HasStoppedInRest, is_followed};
+ghost use Rattle.board_jobs.specs.UnsavedSectors.{AreUnsaved, FailsRest, HasKeptRest, HasReadRest};
+ghost use Rattle.board_jobs.specs.UnsavedSectors.{HasStoppedInRest, is_compared_after};
 
 use board_files::sectors_of;
 use board_progress::Progress;
@@ -83,8 +83,8 @@ pub fn compare_rest<B: Progress>(
 }
 
 /// Returns whether the comparison is made after a restore with this outcome: after success and after error 14.
-pub fn is_followed(outcome: &Outcome) -> bool
-    ensures { result ≡ is_followed outcome.now }
+pub fn is_compared_after(outcome: &Outcome) -> bool
+    ensures { result ≡ is_compared_after outcome.now }
 {
     matches!(outcome, Ok(_) | Err(Refusal::Mismatch { .. }))
 }

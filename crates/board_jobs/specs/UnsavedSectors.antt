@@ -46,10 +46,10 @@ pub record HasStoppedInRest (journal : Journal) (old new : BusState) : Type 0 wh
 
 -- True if a comparison follows a restore with this outcome: after success and error 14. After other errors the bus is
 -- stopped, the chip is busy, or no modifying command was sent.
-abbrev pub is_followed : Result Answer Refusal → Bool
-is_followed (Ok answer) = true
-is_followed (Err (Mismatch address)) = true
-is_followed (Err refusal) = false
+abbrev pub is_compared_after : Result Answer Refusal → Bool
+is_compared_after (Ok answer) = true
+is_compared_after (Err (Mismatch address)) = true
+is_compared_after (Err refusal) = false
 
 -- Holds if the sectors that the journal doesn't save were read again, with the same bytes as before (`rest`).
 pub record HasKeptRest (journal : Journal) (rest : List ℕ) (old new : BusState) : Type 0 where
@@ -77,7 +77,7 @@ FailsRest journal rest old new _ = ⊥
 pub record FailsAfterRestore (outcome : Result Answer Refusal) (journal : Journal) (rest : List ℕ) (old new : BusState)
     (restored : Result Answer Refusal) (refusal : Refusal) : Type 0 where
   pub same : restored ≡ outcome
-  pub followed : is_followed outcome ≡ true
+  pub followed : is_compared_after outcome ≡ true
   pub fails : FailsRest journal rest old new refusal
 
 abbrev pub FailsToFollowRestore : Result Answer Refusal → Journal → (rest : List ℕ) → (old new : BusState) → JobFault

@@ -1,7 +1,7 @@
 use Rattle.std.proofs.Common.{◌∙◌, sym}
 use Rattle.flashnor_serprog.proofs.Ran.{none_ok}
 use Rattle.flashnor_serprog.proofs.ReadLayouts.{shown_none, shown_read}
-use Rattle.flashnor_serprog.proofs.chip_layouts.read_shown.Goals as goal
+use Rattle.flashnor_serprog.proofs.chip_layouts.read_chip_layout.Goals as goal
 
 pub returns-in_err-read_first-in-Some : goal.returns-in_err-read_first-in-Some
 returns-in_err-read_first-in-Some g c = none_ok _ _ c.from_residual.result c.from_residual.ensures.1

@@ -1,5 +1,5 @@
 use Rattle.board_jobs.proofs.Found.{passes_err, passes_ok}
-use Rattle.board_jobs.proofs.following.complete.Goals as goal
+use Rattle.board_jobs.proofs.following.fill_from_chip.Goals as goal
 
 pub returns-in-Some-clause-ok : goal.returns-in-Some-clause-ok
 returns-in-Some-clause-ok g c = rw c.in-Some.is

@@ -6,7 +6,7 @@ use std::fmt;
 
 /// The state in which a job that failed left the chip. It is displayed as at most two sentences, each after a space.
 #[derive(Clone, Copy, Drop)]
-pub enum Left<'a> {
+pub enum ChipAfter<'a> {
     Reading,
     /// A session that sent no modifying command.
     Unchanged,
@@ -22,16 +22,16 @@ pub enum Left<'a> {
     EitherLock,
 }
 
-impl fmt::Display for Left<'_> {
+impl fmt::Display for ChipAfter<'_> {
     fn fmt<W: fmt::Write>(&self, f: &mut fmt::Formatter<W>) -> fmt::Result {
-        let Left::Changed {
+        let ChipAfter::Changed {
             journal,
             may_be_unprotected,
         } = *self
         else {
             return match self {
-                Left::Unchanged => f.write_str(" The chip was not changed."),
-                Left::EitherLock => {
+                ChipAfter::Unchanged => f.write_str(" The chip was not changed."),
+                ChipAfter::EitherLock => {
                     f.write_str(
                         " Then repeat the run: until it succeeds, SRP0 may have either value.",
                     )

@@ -11,7 +11,7 @@ use std::fmt;
 
 /// The reason why a run ends before its job begins.
 #[derive(Drop)]
-pub enum Trouble<'a> {
+pub enum RunFault<'a> {
     /// A fault of the type that `flashnor` uses too, or a request for the help or the version.
     Fault(Fault<'a>),
     /// The value of `-p` describes no programmer.
@@ -23,68 +23,68 @@ pub enum Trouble<'a> {
         device: &'a str,
     },
     /// The layout can't be read from the chip, or the port seems to change bytes. The fault was printed already.
-    Printed,
+    AlreadyPrinted,
 }
 
-impl<'a> From<Fault<'a>> for Trouble<'a> {
-    ghost use Rattle.flashnor_serprog.specs.declared.trouble.Trouble.TheVariants as trouble;
+impl<'a> From<Fault<'a>> for RunFault<'a> {
+    ghost use Rattle.flashnor_serprog.specs.declared.run_fault.RunFault.TheVariants as run_fault;
 
-    ghost from_gives = { λ fault ended. ended ≡ trouble.Fault fault };
+    ghost from_gives = { λ fault ended. ended ≡ run_fault.Fault fault };
 
-    fn from(fault: Fault<'a>) -> Trouble<'a> {
-        Trouble::Fault(fault)
+    fn from(fault: Fault<'a>) -> RunFault<'a> {
+        RunFault::Fault(fault)
     }
 }
 
-impl<'a> From<WrongArguments<'a>> for Trouble<'a> {
-    ghost use Rattle.flashnor_serprog.specs.declared.trouble.Trouble.TheVariants as trouble;
+impl<'a> From<WrongArguments<'a>> for RunFault<'a> {
+    ghost use Rattle.flashnor_serprog.specs.declared.run_fault.RunFault.TheVariants as run_fault;
     ghost use Rattle.nor_console.specs.declared.messages.Fault.TheVariants as end;
 
-    ghost from_gives = { λ wrong ended. ended ≡ trouble.Fault (end.Usage wrong.fault wrong.reason) };
+    ghost from_gives = { λ wrong ended. ended ≡ run_fault.Fault (end.Usage wrong.fault wrong.reason) };
 
-    fn from(wrong: WrongArguments<'a>) -> Trouble<'a> {
+    fn from(wrong: WrongArguments<'a>) -> RunFault<'a> {
         let WrongArguments { fault, reason } = wrong;
-        Trouble::Fault(Fault::Usage { fault, reason })
+        RunFault::Fault(Fault::Usage { fault, reason })
     }
 }
 
-impl<'a> From<WrongSetting<'a>> for Trouble<'a> {
-    ghost use Rattle.flashnor_serprog.specs.declared.trouble.Trouble.TheVariants as trouble;
+impl<'a> From<WrongSetting<'a>> for RunFault<'a> {
+    ghost use Rattle.flashnor_serprog.specs.declared.run_fault.RunFault.TheVariants as run_fault;
 
-    ghost from_gives = { λ wrong ended. ended ≡ trouble.Setting wrong };
+    ghost from_gives = { λ wrong ended. ended ≡ run_fault.Setting wrong };
 
-    fn from(wrong: WrongSetting<'a>) -> Trouble<'a> {
-        Trouble::Setting(wrong)
+    fn from(wrong: WrongSetting<'a>) -> RunFault<'a> {
+        RunFault::Setting(wrong)
     }
 }
 
-impl<'a> From<EarlyEnd<'a>> for Trouble<'a> {
-    ghost use Rattle.flashnor_serprog.specs.Troubles.{of_early};
+impl<'a> From<EarlyEnd<'a>> for RunFault<'a> {
+    ghost use Rattle.flashnor_serprog.specs.RunFaults.{of_early};
 
     ghost from_gives = { λ early ended. ended ≡ of_early early };
 
-    fn from(early: EarlyEnd<'a>) -> Trouble<'a> {
+    fn from(early: EarlyEnd<'a>) -> RunFault<'a> {
         match early {
-            EarlyEnd::Fault(fault) => Trouble::Fault(fault),
-            early => Trouble::Early(early),
+            EarlyEnd::Fault(fault) => RunFault::Fault(fault),
+            early => RunFault::Early(early),
         }
     }
 }
 
-impl fmt::Display for Trouble<'_> {
+impl fmt::Display for RunFault<'_> {
     fn fmt<W: fmt::Write>(&self, f: &mut fmt::Formatter<W>) -> fmt::Result {
         match self {
-            Trouble::Fault(
+            RunFault::Fault(
                 Fault::Usage {
                     fault,
                     reason: Reason::NoLayout,
                 },
             ) => write!(f, "{NO_LAYOUT}\n{fault}"),
-            Trouble::Fault(fault) => write!(f, "{fault}"),
-            Trouble::Setting(wrong) => write!(f, "{wrong}Usage fault 3."),
-            Trouble::Early(early) => write!(f, "{early}"),
-            Trouble::Printed => Ok(()),
-            Trouble::Programmer { fault, device } => {
+            RunFault::Fault(fault) => write!(f, "{fault}"),
+            RunFault::Setting(wrong) => write!(f, "{wrong}Usage fault 3."),
+            RunFault::Early(early) => write!(f, "{early}"),
+            RunFault::AlreadyPrinted => Ok(()),
+            RunFault::Programmer { fault, device } => {
                 let advice = Advice {
                     help: fault.help(),
                     device,
@@ -118,7 +118,7 @@ impl fmt::Display for WrongSetting<'_> {
             WrongSetting::BaudRate { device, rate } => match Quoted::new(device) {
                 Some(device) => writeln!(
                     f,
-                    "error: dev= takes no baud rate; set it with stty: stty -F {device} {rate} {MODES}"
+                    "error: dev= takes no baud rate; set it with stty: stty -F {device} {rate} {STTY_ARGUMENTS}"
                 ),
                 None => f.write_str("error: dev= takes no baud rate; set it with stty\n"),
             },
@@ -150,7 +150,7 @@ fn choices_for(setting: &str, flaw: Flaw) -> &'static str {
 }
 
 // The arguments with which `stty` sets up a serial port for this program.
-const MODES: &str = "raw -echo clocal -hupcl min 0 time 50";
+const STTY_ARGUMENTS: &str = "raw -echo clocal -hupcl min 0 time 50";
 
 /// The reason why the programmer can't be used. By then, at most the transactions of `wake`, `look_for_chip` and
 /// `try_reads` were sent to the chip.
@@ -176,7 +176,7 @@ pub enum ProgrammerFault {
 enum Remedy {
     Do(&'static str),
     /// This text, and then the `stty` command that sets up the port.
-    DoAndSetUp(&'static str),
+    WithSttyCommand(&'static str),
 }
 
 impl ProgrammerFault {
@@ -228,7 +228,7 @@ impl ProgrammerFault {
             ProgrammerFault::NoDevice => Remedy::Do("Name the serial port of the programmer."),
             ProgrammerFault::InUse => Remedy::Do("Wait until that program has ended."),
             ProgrammerFault::Handshake(fault) => help_for(fault),
-            ProgrammerFault::ChangesBytes => Remedy::DoAndSetUp(
+            ProgrammerFault::ChangesBytes => Remedy::WithSttyCommand(
                 "Disconnect the programmer from power for a second, connect it again, and set up the port:",
             ),
             ProgrammerFault::LongFrames => Remedy::Do(
@@ -259,29 +259,29 @@ fn number_of(fault: &HandshakeFault<PortFault>) -> u8 {
 
 fn help_for(fault: &HandshakeFault<PortFault>) -> Remedy {
     match fault {
-        HandshakeFault::Failure(Failure::Port(PortFault::Silent)) => Remedy::DoAndSetUp(
+        HandshakeFault::Failure(Failure::Port(PortFault::Silent)) => Remedy::WithSttyCommand(
             "Check its cable. It may wait for the rest of a command of an interrupted run, and each run may complete \
             a part of this command: before the next run, disconnect the programmer from power for a second, connect \
             it again, and set up the port:",
         ),
         HandshakeFault::Failure(Failure::Port(PortFault::System(_))) => {
-            Remedy::DoAndSetUp("Connect the programmer again, and set up the port:")
+            Remedy::WithSttyCommand("Connect the programmer again, and set up the port:")
         }
         HandshakeFault::Failure(Failure::Refused(0x16)) => {
             Remedy::Do("Give cs= the number of another chip select.")
         }
-        HandshakeFault::Failure(Failure::Refused(_)) => Remedy::DoAndSetUp(AGAIN),
-        HandshakeFault::Failure(_) => Remedy::DoAndSetUp(
+        HandshakeFault::Failure(Failure::Refused(_)) => Remedy::WithSttyCommand(SUSPECT_FIRMWARE),
+        HandshakeFault::Failure(_) => Remedy::WithSttyCommand(
             "Disconnect the programmer from power, connect it again, and set up the port:",
         ),
         HandshakeFault::Lacks(0x14) => Remedy::Do("Leave spispeed= out."),
         HandshakeFault::Lacks(0x16) => Remedy::Do("Leave cs= out."),
-        _ => Remedy::DoAndSetUp(AGAIN),
+        _ => Remedy::WithSttyCommand(SUSPECT_FIRMWARE),
     }
 }
 
 // A port that echoes, or a programmer that waits for the rest of a command, may cause the same replies as bad firmware.
-const AGAIN: &str =
+const SUSPECT_FIRMWARE: &str =
     "Disconnect the programmer from power for a second, connect it again, set up the port, and repeat the run; \
     install other firmware only if the same line appears again. To set up the port:";
 
@@ -295,7 +295,7 @@ impl fmt::Display for Advice<'_> {
     fn fmt<W: fmt::Write>(&self, f: &mut fmt::Formatter<W>) -> fmt::Result {
         match self.help {
             Remedy::Do(what) => f.write_str(what),
-            Remedy::DoAndSetUp(what) => { write!(f, "{what} {}", SetUp(self.device)) }
+            Remedy::WithSttyCommand(what) => { write!(f, "{what} {}", SetUp(self.device)) }
         }
     }
 }
@@ -307,7 +307,7 @@ struct SetUp<'a>(&'a str);
 impl fmt::Display for SetUp<'_> {
     fn fmt<W: fmt::Write>(&self, f: &mut fmt::Formatter<W>) -> fmt::Result {
         match Quoted::new(self.0) {
-            Some(device) => write!(f, "stty -F {device} {MODES}"),
+            Some(device) => write!(f, "stty -F {device} {STTY_ARGUMENTS}"),
             None => write!(
                 f,
                 "rename {}, whose name no command can have",
