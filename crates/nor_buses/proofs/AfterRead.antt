@@ -1,5 +1,4 @@
--- If reads left the chip as it was and the next transaction stopped, the stop has the effect that it would have had
--- before these reads.
+-- If reads leave the chip as it was and the next transaction stops, the stop has the same effect as without the reads.
 use Rattle.std.proofs.Common.{◌≡◌, ◌∙◌, ◌||◌, ℕ, Bool, List, length, take, subst, ap}
 use Rattle.nor_model.specs.Chip.{Chip}
 use Rattle.nor_model.specs.Step.{Step, done_of, wears}

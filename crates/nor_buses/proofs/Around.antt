@@ -136,8 +136,8 @@ steps_unsteady : {out answer : List ℕ} {old new : BusState} → MakesStep out 
     → MakesStep out answer (unsteady old) (unsteady new)
 steps_unsteady made = record { step = made.step; worn = made.worn }
 
--- If a bus carried out the transaction `out`, and then stopped at another one that left the chip as it was or without
--- power, this counts as a stop after the last byte of `out` (on a bus that isn't steady).
+-- If a bus carried out the transaction `out`, and then stopped at another transaction and left the chip as it was or
+-- without power, this counts as a stop after the last byte of `out` (on a bus that isn't steady).
 pub stops_behind : {out answer : List ℕ} {old mid new : BusState} → Carries out answer old mid → StopsUnread mid new
     → AtStop out (unsteady old) (unsteady new)
 stops_behind {out} {answer} {old} {mid} {new} carries stops = record {

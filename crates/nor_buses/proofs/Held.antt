@@ -1,4 +1,4 @@
--- Lemmas: the block of a `ReadAhead` contains the reply to the last transaction over the bus inside.
+-- Lemmas: the block of a `ReadAhead`, unless it is empty, is the reply to the last transaction over the bus inside.
 use Rattle.std.proofs.Common.{◌≡◌, ◌∙◌, ◌<◌, ◌≤◌, ◌+◌, ◌-◌, ◌*◌, ◌++◌, ℕ, true, List, [], ◌∷◌, length, refl, sym, ap, subst, arith, take-take}
 use Rattle.std.specs.Prelude.{◌/◌, ◌%◌, Result, Ok, Err, OnOk, take, drop, slice_index}
 use Rattle.std.proofs.lemmas.List.{drop-take}

@@ -1,5 +1,5 @@
--- Lemmas on reads and programs in parts: what holds for the transactions so far (`ReadsInParts`, `ProgramsInParts`)
--- also holds after one more part, and implies the promise of the whole transaction.
+-- Lemmas on reads and programs in parts: the invariants `ReadsInParts` and `ProgramsInParts` also hold after one more
+-- part, and imply the clauses about the whole transaction.
 use Rattle.std.proofs.Common.{◌≡◌, ◌∙◌, ◌<◌, ◌≤◌, ◌+◌, ◌++◌, ◌⊎◌, ℕ, List, [], ◌∷◌, length, refl, sym, ap, subst, arith, inl, inr, length-take-le, length-drop, append_assoc}
 use Rattle.std.specs.Prelude.{Result, Ok, Err, OnOk, take, drop}
 use Rattle.std.proofs.lemmas.Slice.{take-put_mid}

@@ -1,4 +1,4 @@
--- Replies of other makers' chips, and what a bus returns in their place.
+-- Replies of other makers' chips, and the replies that an `OtherMakers` returns in their place.
 use Rattle.std.specs.Prelude.{◌≡◌, ◌==◌, ◌&&◌, ◌||◌, ◌%◌, ◌/◌, ℕ, Bool, true, false, not, List, [], ◌∷◌, length, replicate}
 use Rattle.std.specs.Prelude.{slice_index, slice_index_or, bytes_eq, slice_set, if◌then◌else◌, nat_lt, take}
 use Rattle.nor_model.specs.declared.config.Config.{Config}
@@ -33,11 +33,11 @@ chip_unique config =
     ∷ slice_index_or config.unique 3 255 ∷ slice_index_or config.unique 4 255 ∷ slice_index_or config.unique 5 255
     ∷ slice_index_or config.unique 6 255 ∷ slice_index_or config.unique 7 255 ∷ []
 
--- True if no reply of this chip is changed, because it has an ID of `rows` and a unique ID.
+-- True if no reply of this chip is changed, because the chip has an ID of `rows` and a unique ID.
 abbrev pub keeps_replies : (rows : List (List ℕ)) → Config → Bool
 keeps_replies rows config = is_id_listed rows (chip_id config) && not (is_missing (chip_unique config))
 
--- Holds if, on a well-behaved bus, `id` is the ID of the chip, or FFFFFFh if the chip is busy.
+-- Holds if `id` is the chip's ID, or FFFFFFh if the chip is busy. Always holds if the bus isn't well-behaved.
 pub record IsIdOf (id : List ℕ) (inside : BusState) : Type 0 where
   pub idle : inside.honest ≡ true → inside.chip.busy ≡ 0 → id ≡ chip_id inside.chip.config
   pub busy : inside.honest ≡ true → (inside.chip.busy ≡ 0 → ⊥) → id ≡ unanswered
@@ -59,8 +59,8 @@ without_shared all one two three four table =
     (cleared (all || shares two one three four) 31
     (cleared (all || shares one two three four) 29 table)))
 
--- The table that the bus returns for an SFDP table of the chip: the opcodes of erase types that share their opcode, or
--- all four opcodes if `all` is true, are 00h.
+-- The SFDP table `table` with 00h as the opcode of each erase type that shares its opcode with another one or, if `all`
+-- is true, as the opcode of all four erase types.
 abbrev pub shown_table : (all : Bool) → (table : List ℕ) → List ℕ
 shown_table all table =
     without_shared all (slice_index table 29) (slice_index table 31) (slice_index table 33) (slice_index table 35) table

@@ -12,7 +12,7 @@ pub record IsExpected (image : List ℕ) (at : ℕ) (answer : List ℕ) (i : ℕ
   pub within : at + i < length image
   pub same : slice_index answer i ≡ slice_index image (at + i)
 
--- Holds if the sector of byte `i` of `answer` contains a byte that is not expected (`IsExpected`).
+-- Holds if some byte of `answer` in the same sector as byte `i` is not expected (`IsExpected`).
 pub record DiffersInSector (image : List ℕ) (at : ℕ) (answer : List ℕ) (i : ℕ) : Type 0 where
   pub j : ℕ
   pub within : j < length answer
@@ -72,7 +72,7 @@ pub record CarriesDiffering (image out answer : List ℕ) (old new : BusState) :
   pub first : Carries out answer old between
   pub again : CarriesEach repeats.later between new
 
--- Holds if since `old` each of the first `n` bytes of `answer` that differs from the image was read again.
+-- Holds if since `old` each of the first `n` bytes of `answer` that isn't expected was read again. The fields say more.
 pub record RepeatsBelow (image : List ℕ) (at : ℕ) (answer : List ℕ) (n : ℕ) (old new : BusState) : Type 0 where
   pub later : List Exchange
   pub is : new.history ≡ later ++ old.history
@@ -86,7 +86,7 @@ pub record DiffersBetween (image : List ℕ) (at : ℕ) (answer : List ℕ) (n m
   pub before : j < m
   pub differs : IsExpected image at answer j → ⊥
 
--- The byte that a read of data from `address` on returns first. A busy chip ignores the read, and its reply is FFh.
+-- The first byte of the reply to a read of data from `address` on. A busy chip ignores the read, and the reply is FFh.
 abbrev pub data_byte : Chip → (address : ℕ) → ℕ
 data_byte chip address = if chip.busy == 0 then chip.bytes (address % chip.config.size) else 255
 

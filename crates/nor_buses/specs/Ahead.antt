@@ -9,7 +9,7 @@ use Rattle.nor_buses.specs.declared.ahead.ReadAhead.{ReadAhead}
 abbrev pub ahead_of : {B : Type 0} {over : Ghosts B} → ReadAhead B over → B
 ahead_of ahead = ahead.bus
 
--- The address of the first byte of the block. It means nothing if the block is empty.
+-- The address of the first byte of the block, or any number if the block is empty.
 abbrev pub begin : {B : Type 0} {over : Ghosts B} → ReadAhead B over → ℕ
 begin ahead = ahead.start
 

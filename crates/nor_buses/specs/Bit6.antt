@@ -12,8 +12,8 @@ use Rattle.nor_buses.specs.SomeChips.{chip_id}
 abbrev pub keeps_bit6 : (rows : List (List ℕ)) → (hides : Bool) → Config → Bool
 keeps_bit6 rows hides config = not hides || is_id_listed rows (chip_id config)
 
--- Holds if `is_judged` is true whenever `hides` is false, and `has_quad` is false on a well-behaved bus to a chip whose
--- bit 6 is never hidden (`keeps_bit6`).
+-- Holds if `hides` or `is_judged` is true, and `has_quad` is false on a well-behaved bus to a chip whose bit 6 is never
+-- hidden (`keeps_bit6`).
 pub record IsPlain (rows : List (List ℕ)) (hides has_quad is_judged : Bool) (inside : BusState) : Type 0 where
   pub shown : hides ≡ false → is_judged ≡ true
   pub none : inside.honest ≡ true → keeps_bit6 rows hides inside.chip.config ≡ true → has_quad ≡ false
@@ -23,7 +23,7 @@ abbrev pub is_bit6 : (word : List ℕ) → Bool
 is_bit6 (a ∷ b ∷ c ∷ d ∷ []) = c / 16 % 8 == 2
 is_bit6 _ = false
 
--- True if the reply to a read of SFDP (5Ah) in the history satisfies `is_bit6`.
+-- True if a reply to a read of SFDP (5Ah) in the history has the quad enable requirements 010b (`is_bit6`).
 abbrev pub names_bit6 : List Exchange → Bool
 names_bit6 [] = false
 names_bit6 (last ∷ earlier) =
@@ -36,7 +36,7 @@ without_quad status = if status / 64 % 2 == 1 then status - 64 else status
 pub record OnlyReadsOn (old new : BusState) : Type 0 where
   pub sent : new.sent ≡ old.sent
 
--- Holds if the transaction was passed on, and `reply` is its reply with bit 6 of the first byte clear.
+-- Holds if `out` was passed on with the reply `raw`, and `reply` is `raw` with bit 6 of the first byte clear.
 pub record ShowsWithoutQuad (out reply : List ℕ) (old new : List Exchange) : Type 0 where
   pub raw : List ℕ
   pub history : new ≡ replied out raw ∷ old

@@ -14,7 +14,7 @@ kept_by kept = kept.bus
 abbrev pub rows_of : {B : Type 0} {over : Ghosts B} → KeptQuad B over → List (List ℕ)
 rows_of kept = kept.rows.now
 
--- True if the bus found that bit 6 of status 1 is QE, and hides it.
+-- True if the bus found that bit 6 of status 1 is QE, and therefore hides this bit.
 abbrev pub has_quad : {B : Type 0} {over : Ghosts B} → KeptQuad B over → Bool
 has_quad kept = kept.has_quad
 

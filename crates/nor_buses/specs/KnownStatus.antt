@@ -68,7 +68,7 @@ pub record SendsKept (locks : Bool) (out : List ℕ) (old new : BusState) : Type
   pub sent : (new.sent ≡ old.sent) ⊎ (new.sent ≡ with_sent out old.sent)
   pub kept : begins_status_write out ≡ true → (new ≡ old) ⊎ IsStatusAllowed locks out old.history
 
--- Holds for a transaction that succeeded, if a returned status was read as `PollAgrees` or `IsReadTwice` says, and
+-- Holds for a transaction that succeeded, if a status that it returned is confirmed (`PollAgrees`, `IsReadTwice`), and
 -- `known'` records the bytes of a status write and whether a modifying command was passed on.
 pub record BelievesStatus (out answer : List ℕ) (known known' : Known) (old new : List Exchange) : Type 0 where
   pub poll : out ≡ 0x05 ∷ [] → length answer ≡ 1 → slice_index answer 0 % 2 ≡ 0

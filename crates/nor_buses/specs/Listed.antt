@@ -34,7 +34,7 @@ abbrev pub is_readable : (word : List ℕ) → Bool
 is_readable (a ∷ b ∷ c ∷ d ∷ []) = c / 16 % 8 == 5 || c / 16 % 8 == 6
 is_readable _ = false
 
--- True if the reply to a read of SFDP (5Ah) in the history satisfies `is_readable`.
+-- True if a reply to a read of SFDP (5Ah) in the history has the quad enable requirements 101b or 110b (`is_readable`).
 abbrev pub names_status2 : List Exchange → Bool
 names_status2 [] = false
 names_status2 (last ∷ earlier) =
@@ -45,11 +45,11 @@ abbrev pub shows_id : (out reply : List ℕ) → Bool
 shows_id (opcode ∷ []) (a ∷ b ∷ c ∷ []) = opcode == 0x9F && not (a == 255 && (b == 255 && c == 255))
 shows_id _ _ = false
 
--- Holds if, on a well-behaved bus, an ID other than FFFFFFh that was read (`shows_id`) is the ID of the chip.
+-- Holds if `reply` is the ID of the chip. Always holds if `shows_id` is false or the bus isn't well-behaved.
 pub record RepliesId (out reply : List ℕ) (inside : BusState) : Type 0 where
   pub id : inside.honest ≡ true → shows_id out reply ≡ true → reply ≡ chip_id inside.chip.config
 
--- Holds if `is_known` follows from `has_id`, on a well-behaved bus whose chip has an ID of `ids` or the ID `before`.
+-- Holds if `has_id` implies `is_known`, or if the chip isn't listed (`is_listed_chip`), or the bus isn't well-behaved.
 pub record IsKnownOnceRead (ids : List (List ℕ)) (before : Option (List ℕ)) (has_id is_known : Bool) (inside : BusState)
     : Type 0 where
   pub known : has_id ≡ true → inside.honest ≡ true → is_listed_chip ids before inside.chip.config ≡ true

@@ -1,4 +1,4 @@
--- A bus that changes two replies of other makers' chips, as contracts see it.
+-- The bus `OtherMakers`, which may change two replies (the unique ID, the SFDP table), as contracts see it.
 use Rattle.std.specs.Prelude.{◌≡◌, ◌&&◌, ℕ, Bool, true, false, List, [], ◌∷◌, length, replicate, if◌then◌else◌, bytes_eq}
 use Rattle.nor_model.specs.Bus.{BusState}
 use Rattle.nor_model.specs.Exchange.{Exchange}
@@ -17,7 +17,7 @@ rows_of other = other.rows.now
 abbrev pub missing_as : {B : Type 0} → OtherMakers B → ℕ
 missing_as other = other.missing
 
--- True if a chip without a row must erase sectors of 4 KiB everywhere, and have pages of at least 256 bytes.
+-- True if all erase opcodes are hidden for a chip without a row that has small pages or can't erase 4 KiB everywhere.
 abbrev pub refuses_uneven : {B : Type 0} → OtherMakers B → Bool
 refuses_uneven other = other.refuses_uneven
 
@@ -30,7 +30,7 @@ has_small_pages other = other.has_small_pages
 abbrev pub history_of : {B : Type 0} → OtherMakers B → List Exchange
 history_of other = other.history.exchanges
 
--- The state of the bus inside, except that it is well-behaved only if no reply of its chip is changed
+-- The state of the bus inside, except that it counts as well-behaved only if no reply of its chip needs a change
 -- (`keeps_replies`).
 abbrev pub inside_adapted : {B : Type 0} → (inside : B → BusState) → OtherMakers B → BusState
 inside_adapted inside other =
@@ -43,14 +43,14 @@ other_makers_state inside other = beside (inside_adapted inside other) (history_
 abbrev pub looks_further : {B : Type 0} → OtherMakers B → Bool
 looks_further other = refuses_uneven other && has_word_11 other
 
--- Holds if a read of the unique ID returned `raw`, then the ID was read, and `reply` is `raw` if the ID is FFFFFFh, and
--- otherwise as many bytes `missing`.
+-- Holds if `out` returned `raw`, then a read of the ID returned `id`, and `reply` is `raw` if `id` is FFFFFFh, and
+-- otherwise consists only of bytes `missing` (as many as in `raw`).
 pub record ReplacesUnique (missing : ℕ) (out raw reply : List ℕ) (old new : List Exchange) : Type 0 where
   pub id : List ℕ
   pub history : new ≡ replied (0x9F ∷ []) id ∷ replied out raw ∷ old
   pub shown : reply ≡ (if bytes_eq id unanswered then raw else replicate (length raw) missing)
 
--- Holds if a read of the unique ID returned `raw`, and `reply` equals `raw` or, if `raw` is no unique ID, replaces it.
+-- Holds if `out` returned `raw`, and `reply` is `raw` or, if `raw` isn't a unique ID, as `ReplacesUnique` says.
 pub record ShowsUnique (missing : ℕ) (out reply : List ℕ) (old new : List Exchange) : Type 0 where
   pub raw : List ℕ
   pub history : is_missing raw ≡ false → new ≡ replied out raw ∷ old
@@ -69,7 +69,7 @@ pub record ShowsShared (refuses : Bool) (out reply : List ℕ) (old new : List E
   pub shown : reply ≡ shown_table (refuses && is_uneven raw) raw
 
 -- Holds if the ID was read, and then the SFDP table, which was returned unchanged if the ID is FFFFFFh or one of
--- `rows`, and otherwise without some opcodes: as `judged_table` if `looks` is true, and as `shown_table` if not.
+-- `rows`, and otherwise with some erase opcodes as 00h (`judged_table` or, if `looks` is false, `shown_table`).
 pub record ShowsTable (rows : List (List ℕ)) (refuses looks : Bool) (out reply : List ℕ) (old new : List Exchange)
     : Type 0 where
   pub id : List ℕ

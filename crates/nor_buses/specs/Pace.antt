@@ -1,8 +1,9 @@
--- The pauses between polls that show BUSY. All times are in microseconds; `elapsed` is the time since the command.
+-- The pauses between polls that show BUSY. All times are in microseconds. `elapsed` is the time since the operation
+-- began.
 use Rattle.std.specs.Prelude.{◌+◌, ◌-◌, ◌*◌, ◌/◌, ◌^◌, ◌==◌, ◌||◌, nat_lt, ℕ, zero, suc, true, List, [], ◌∷◌, Option, None, Some, min, max, if◌then◌else◌}
 use Rattle.nor_model.specs.PolledReady.{polled_ready_after}
 
--- The number of successive polls that showed BUSY, after one more transaction. Any other transaction resets it to 0.
+-- The number of polls in a row that showed BUSY, at most 2^64 - 1, after one more transaction (`before`: before it).
 abbrev pub busy_row_after : (out answer : List ℕ) → (before : ℕ) → ℕ
 busy_row_after out answer before = if polled_ready_after out answer true then 0 else min (before + 1) (2 ^ 64 - 1)
 
@@ -24,11 +25,11 @@ typical_after out before = elim (typical_of out) [ None ↦ before | Some typica
 abbrev pub third_pause : (typical : ℕ) → ℕ
 third_pause typical = min 6250 (max 100 (typical / 16))
 
--- The pause before the first poll of a wait. There is none if the operation typically takes longer than 1 ms.
+-- The pause before the first poll of a wait: the rest of the typical duration, or 0 if that duration is over 1 ms.
 abbrev pub first_pause : (typical elapsed : ℕ) → ℕ
 first_pause typical elapsed = if nat_lt 1000 typical then 0 else typical - elapsed
 
--- The pause before a poll that follows `busy_polls` polls in a row which showed BUSY.
+-- The pause before a poll that follows exactly `busy_polls` polls in a row that showed BUSY.
 abbrev pub pause_before : (typical elapsed busy_polls : ℕ) → ℕ
 pause_before typical elapsed busy_polls =
     if busy_polls == 0 then first_pause typical elapsed

@@ -19,12 +19,12 @@ abbrev pub bytes_of_replies : List Exchange → List ℕ
 bytes_of_replies [] = []
 bytes_of_replies (exchange ∷ earlier) = bytes_of_replies earlier ++ bytes_or_none exchange.reply
 
--- Holds if the transaction reads at most `most` bytes of the reply to `out`, from the index `from` on.
+-- Holds if the transaction sends `out` with its address increased by `from`, and has at most `most` reply bytes.
 pub record IsReadPart (most : ℕ) (out : List ℕ) (from : ℕ) (exchange : Exchange) : Type 0 where
   pub sends : exchange.out ≡ further out from
   pub few : length (bytes_or_none exchange.reply) ≤ most
 
--- Holds if each of these transactions continues the read `out` where the part before it ended.
+-- Holds if each of these transactions continues the read `out` where the earlier ones ended, by at most `most` bytes.
 abbrev pub AreReadParts : (most : ℕ) → (out : List ℕ) → List Exchange → Type 0
 AreReadParts most out [] = ⊤
 AreReadParts most out (exchange ∷ earlier) =
@@ -46,11 +46,11 @@ pub record SplitsRead (most : ℕ) (out answer : List ℕ) (result : Result Unit
   pub parts : AreReadParts most out later
   pub whole : OnOk result (answer ≡ bytes_of_replies later)
 
--- The bytes that a part of a program of `bytes` at `address` sends, for `n` data bytes from the index `from` on.
+-- The bytes to send for a program of `n` bytes of `bytes` from the index `from` on, if `bytes` begin at `address`.
 abbrev pub program_part : (address : ℕ) → (bytes : List ℕ) → (from n : ℕ) → List ℕ
 program_part address bytes from n = 0x02 ∷ address_bytes (address + from) ++ part bytes from n
 
--- The number of data bytes that the programs among these transactions send. A program sends four bytes before its data.
+-- The number of bytes that these transactions send after the first four of each (a program's opcode and address).
 abbrev pub bytes_programmed : List Exchange → ℕ
 bytes_programmed [] = 0
 bytes_programmed (exchange ∷ earlier) = bytes_programmed earlier + (length exchange.out - 4)
@@ -75,7 +75,8 @@ pub record Enables (exchange : Exchange) (earlier : List Exchange) : Type 0 wher
   pub sends : exchange.out ≡ 0x06 ∷ []
   pub ready : EndsReady earlier
 
--- Holds if the transaction programs the next bytes of `bytes`, as the first transaction or after a write enable.
+-- Holds if the transaction programs the next bytes of `bytes` and sends at most `most` bytes. The transaction is the
+-- first one, or comes just after a write enable.
 pub record ProgramsPart (most address : ℕ) (bytes : List ℕ) (exchange : Exchange)
     (earlier : List Exchange) : Type 0 where
   pub len : ℕ
@@ -91,8 +92,8 @@ AreProgramSteps most address bytes (exchange ∷ earlier) =
     (SendsPoll exchange ⊎ (Enables exchange earlier ⊎ ProgramsPart most address bytes exchange earlier))
     × AreProgramSteps most address bytes earlier
 
--- Holds if since `old` only parts of this program were sent, in order and without a gap, with polls and a write enable
--- between two parts. After success, all bytes of the program were sent.
+-- Holds if since `old` only polls, write enables and parts of this program were sent. The parts are in order, without a
+-- gap, with a poll of a ready chip and a write enable between two parts. After success, all bytes were sent.
 pub record SplitsProgram (most address : ℕ) (bytes : List ℕ) (result : Result Unit Stopped)
     (old new : List Exchange) : Type 0 where
   pub later : List Exchange

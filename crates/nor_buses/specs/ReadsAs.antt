@@ -16,8 +16,8 @@ address_in _ = 0
 abbrev pub part : (bytes : List ℕ) → (at n : ℕ) → List ℕ
 part bytes at n = take n (drop at bytes)
 
--- The state of the bus inside with the given history, but not punctual. It is that of a bus which may carry out one
--- transaction with several transactions of the bus inside.
+-- The state of a bus that may carry out one transaction with several transactions of the bus inside: the state of the
+-- bus inside, but with the given history and not punctual.
 abbrev pub around : (inside : BusState) → (history : List Exchange) → BusState
 around inside history = record inside { history = history; punctual = false }
 

@@ -4,7 +4,7 @@ use Rattle.nor_model.specs.Bus.{BusState}
 use Rattle.nor_model.specs.declared.config.Config.{Config}
 
 -- The state of the bus inside, except that it counts as well-behaved only if `fits` is true. `fits` must depend only on
--- the chip's configuration and on fixed settings of the bus, so that it never changes.
+-- the chip's configuration and on fixed settings of the bus, so that `fits` never changes.
 abbrev pub only_if : (fits : Bool) → (inside : BusState) → BusState
 only_if fits inside = record inside { honest = inside.honest && fits }
 

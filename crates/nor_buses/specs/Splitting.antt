@@ -21,13 +21,13 @@ history_of splitting = splitting.history.exchanges
 abbrev pub takes_whole : (sends receives : ℕ) → Bool
 takes_whole sends receives = nat_le 260 sends && nat_le 4096 receives
 
--- The greatest number of bytes by which a read may exceed 4,096 bytes if it isn't split (limit `receives`) and the bus
--- inside takes the read (`unlimited`, `longer`).
+-- The number of bytes by which a read may exceed 4,096 bytes: it has at most `receives` bytes, so that it isn't split,
+-- and no more than the bus inside is well-behaved for (`unlimited`, `longer`).
 abbrev pub reads_longer : (receives : ℕ) → (unlimited : Bool) → (longer : ℕ) → ℕ
 reads_longer receives unlimited longer = if unlimited then receives - 4096 else min longer (receives - 4096)
 
--- The state of a bus that splits what the bus inside can't take. It is well-behaved if and only if the bus inside is
--- and `wide` (`takes_whole`) is true.
+-- The state of a bus that splits what the bus inside can't take. This bus is well-behaved if and only if the bus inside
+-- is, and `wide` (`takes_whole`) is true.
 abbrev pub splits : (wide : Bool) → (receives : ℕ) → (inside : BusState) → (history : List Exchange) → BusState
 splits wide receives inside history = record (beside inside history) {
   honest = inside.honest && wide;

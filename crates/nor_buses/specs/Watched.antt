@@ -35,11 +35,11 @@ is_undriven (opcode ∷ []) (a ∷ []) = opcode == 0x05 && a == 255
 is_undriven (opcode ∷ []) (a ∷ b ∷ []) = opcode == 0x05 && (a == 255 && b == 255)
 is_undriven _ _ = false
 
--- The number of polls in a row with only FFh after one more transaction (at most 256), if it was `row` before.
+-- The number of polls in a row that returned only FFh, at most 256, after one more transaction (`row`: before it).
 abbrev pub row_after : (out reply : List ℕ) → (row : ℕ) → ℕ
 row_after out reply row = if is_undriven out reply then (if nat_lt row 256 then row + 1 else 256) else 0
 
--- The value of `has_status` after one more transaction. `known` is its value before.
+-- The value of `has_status` after one more transaction. `known` is the value before this transaction.
 abbrev pub status_after : (out reply : List ℕ) → (known : Bool) → Bool
 status_after (opcode ∷ []) (a ∷ []) known = if opcode == 0x05 && not (a == 255) then nat_lt a 252 else known
 status_after (opcode ∷ []) (a ∷ b ∷ []) known =
@@ -50,7 +50,7 @@ status_after _ _ known = known
 abbrev pub looks_after : (out reply : List ℕ) → (row : ℕ) → (known : Bool) → Bool
 looks_after out reply row known = nat_le 256 (row_after out reply row) && status_after out reply known
 
--- Holds if one transaction was made, a read of the ID.
+-- Holds if exactly one transaction was made: a read of the ID (9Fh).
 pub record HasLooked (old new : List Exchange) : Type 0 where
   pub last : Exchange
   pub asks : last.out ≡ 0x9F ∷ []

@@ -46,8 +46,8 @@ pub(crate) fn is_repeated<B: Bus>(
     Ok(are_same(reply, second))
 }
 
-// Reads the sectors of `reply` that differ from the image again, neighbouring sectors with one transaction. `reply` was
-// read from `address` on. Returns false as soon as a second reply differs from the first one, and otherwise true.
+// Reads again the sectors of `reply` that differ from the image, neighbouring sectors with one transaction. `reply` was
+// read from `address` on. Returns false as soon as a second reply differs from the first reply, and otherwise true.
 pub(crate) fn is_repeated_or_expected<B: Bus>(
     bus: &mut B,
     image: &[u8],
@@ -84,7 +84,7 @@ pub(crate) fn is_repeated_or_expected<B: Bus>(
     Ok(true)
 }
 
-// Returns the longest run of sectors from the index `from` on that all equal the image, or that all differ from it.
+// Returns a run of sectors, from the index `from` on, that all equal the image or that all differ from the image.
 fn run_from(image: &[u8], address: u32, reply: &[u8], from: usize) -> Run
     requires fits { address + length reply.now ≤ 16777216 }
     requires some { from < length reply.now }

@@ -95,7 +95,7 @@ impl<B: Bus + Drop> ReadAhead<B> {
 impl<B: Bus + Drop> ReadAhead<B> {
     ghost use Rattle.nor_buses.specs.Ahead.{begin, held, history_of, longest_of, inside_of, ahead_state};
 
-    // Makes one transaction. The clause `records` is about the state after the caller added this one to the history.
+    // Makes one transaction. The clause `records` is about the state after the caller has added it to the history.
     fn carry(&mut self, out: &[u8], reply: &mut [u8]) -> Result<(), Stopped>
         ensures records { Records out.now reply.new result (ahead_state self.old)
             (around (inside_of self.new) (exchange_of out.now reply.new result ∷ history_of self.old)) }

@@ -12,7 +12,7 @@ use crate::known_status2::{is_id_listed, word_15_in};
 use nor_model::opcodes::{READ_ID, READ_SFDP, READ_STATUS1, WRITE_STATUS};
 use nor_model::{Bus, History, Stopped};
 
-// The bytes that read the SFDP header and (`FIRST_TABLE`) the header of the first parameter table (JESD216).
+// The bytes to send to read the SFDP header (`HEADER`) or the header of the first parameter table (`FIRST_TABLE`).
 const HEADER: [u8; 5] = [READ_SFDP, 0, 0, 0, 0];
 
 const FIRST_TABLE: [u8; 5] = [READ_SFDP, 0, 0, 8, 0];
@@ -27,8 +27,8 @@ const FIRST_TABLE: [u8; 5] = [READ_SFDP, 0, 0, 8, 0];
 /// If QE is hidden, a status write returns `Stopped` and is not sent, so QE stays as it is. The engine sends no status
 /// write to a chip that has no row in the table of known chips.
 ///
-/// This bus is well-behaved if the bus inside is, and if bit 6 of the chip is never hidden: because the chip has an ID
-/// of `rows`, or because `hides` is false (see `new`). It is never punctual.
+/// This bus is well-behaved if the bus inside is, and if the chip has an ID of `rows` or `hides` is false (see `new`),
+/// so that bit 6 is never hidden. This bus is never punctual.
 #[derive(Drop)]
 pub struct KeptQuad<B: Bus + Drop> {
     bus: B,

@@ -20,7 +20,7 @@ pub enum CheckFault {
     /// The status write of `sent` was not stored: afterwards the status registers contained `found`, which differs in a
     /// non-volatile bit.
     NotStored { sent: [u8; 2], found: [u8; 2] },
-    /// The ID was first `id` and later `found`. If contact or power failed, each byte of `found` is FFh or 00h.
+    /// The ID was first `id` and later `found`. If contact or power failed, each byte of `found` usually is FFh or 00h.
     Lost { id: [u8; 3], found: [u8; 3] },
     /// The first modifying command was not sent, because the port seems to change bytes (`ChangedByte`).
     ChangedByte(ChangedByte),
@@ -28,7 +28,8 @@ pub enum CheckFault {
 
 #[derive(Clone, Copy)]
 pub(crate) struct Known {
-    // Status 1 and status 2. Each is `Some` if it was read twice with the same value, and the known ID after each read.
+    // Status 1 and 2: `Some` if the register was read twice with this value, each time followed by a read of the known
+    // ID.
     pub(crate) one: Option<u8>,
     pub(crate) two: Option<u8>,
     pub(crate) is_changing: bool,

@@ -28,9 +28,9 @@ const WORD_15: u32 = 56;
 ///   table, at address 8, was read before and gives at least 15 double words.
 ///
 /// If the chip isn't known, 35h is not sent. Then 35h returns `Stopped` until an ID other than FFFFFFh was read, and
-/// later 00h as each reply byte. If the chip is known, 35h is passed on unchanged, as each other transaction always is.
-/// The chip stays known, so the bus inside must stop if the ID changes, as `CheckedStatus` does. `CheckedStatus` itself
-/// also sends 35h after a status write, but it sends a status write only if 35h was passed on to it before.
+/// later 00h as each reply byte. If the chip is known, 35h is passed on unchanged. Each other transaction is always
+/// passed on. The chip stays known, so the bus inside must stop if the ID changes, as a `CheckedStatus` does. That bus
+/// itself also sends 35h after a status write, but sends a status write only if 35h was passed on to it before.
 ///
 /// This bus is well-behaved if the bus inside is, and the chip has an ID of `ids` or the ID `before`. It is never
 /// punctual.
@@ -91,8 +91,8 @@ impl<B: Bus + Drop> KnownStatus2<B> {
 impl<B: Bus + Drop> KnownStatus2<B> {
     ghost use Rattle.nor_buses.specs.KnownStatus2.{known_by, has_status2, ids_of, before_of, history_of, inside_known};
 
-    // Reads double word 15 if its address is known and the chip isn't, and records whether this double word makes the
-    // chip known.
+    // Reads double word 15 if its address is known but the chip isn't known yet, and records whether double word 15
+    // makes the chip known.
     #[tactic(auto, using(crate::proofs::Judged::judged_still))]
     fn find_out(&mut self) -> Result<(), Stopped>
         ensures history { history_of self.new ≡ history_of self.old }

@@ -18,7 +18,7 @@ use nor_model::{Bus, History, Stopped};
 // The ID (9Fh) that is read if the chip is busy or has no contact.
 const UNANSWERED: [u8; 3] = [0xFF; 3];
 
-// The number of bytes of the SFDP table that identify a chip: double words 1 to 9.
+// The number of bytes of the SFDP table that the engine reads from a chip: double words 1 to 9.
 const TABLE: usize = 36;
 
 // The number of bytes of double words 1 to 11. Double word 11 contains the size of a page.
@@ -32,7 +32,7 @@ const WORDS: u8 = 11;
 ///
 /// - A unique ID (4Bh with eight reply bytes) that is FFh or 00h in all bytes is no unique ID: the chip ignores 4Bh,
 ///   and the line keeps the level to which it is pulled, which another clip may change. Then this bus reads the ID
-///   (9Fh) and, unless it is FFFFFFh, returns `missing` as each byte. FFFFFFh means that the chip is busy or has no
+///   (9Fh) and, unless the ID is FFFFFFh, returns `missing` as each byte. FFFFFFh means that the chip is busy or has no
 ///   contact.
 /// - Before it reads an SFDP table (5Ah with 36 reply bytes), this bus reads the ID. If the ID is FFFFFFh or one of
 ///   `rows`, the table is returned unchanged. In other tables, opcodes of erase types are returned as 00h in the three
@@ -42,10 +42,10 @@ const WORDS: u8 = 11;
 /// - If `refuses` is true, all four opcodes are returned as 00h unless bits 1 and 0 of double word 1 are 01b, which
 ///   means that the erase of 4 KiB is available everywhere (JESD216, double word 1). Spansion S25FL128S, for example,
 ///   has sectors of 4 KiB only at one end.
-/// - If `refuses` is true, all four opcodes are also 00h if a page has fewer than 256 bytes, in which the 256 bytes
-///   that the engine programs at once would wrap. Bits 7 to 4 of double word 11 are the binary logarithm of the page
-///   size (JESD216A, double word 11). If the header of the table, at address 8, was read before and gives at least 11
-///   double words, this bus reads 44 bytes instead of 36.
+/// - If `refuses` is true, all four opcodes are also 00h if a page has fewer than 256 bytes, because the 256 bytes that
+///   the engine programs at once would wrap. Bits 7 to 4 of double word 11 are the binary logarithm of the page size
+///   (JESD216A, double word 11). If the header of the table, at address 8, was read before and gives at least 11 double
+///   words, this bus reads 44 bytes instead of 36.
 ///
 /// This bus is well-behaved if the bus inside is, and if the chip has an ID of `rows` and a unique ID, so that no reply
 /// is changed. It is never punctual, because it may send a second transaction.
@@ -56,7 +56,7 @@ pub struct OtherMakers<B> {
     rows: &'static [[u8; 3]],
     missing: u8,
     refuses_uneven: bool,
-    // True if the last header of the SFDP table that was read gives a double word 11.
+    // True if, by the last read of the header of the SFDP table, the table has a double word 11.
     has_word_11: bool,
     has_small_pages: bool,
     history: History,
@@ -92,8 +92,7 @@ impl<B: Bus + Drop> OtherMakers<B> {
         &self.bus
     }
 
-    /// Returns whether the last double word 11 of an SFDP table that was read says that a page has fewer than 256
-    /// bytes.
+    /// Returns whether, by the double word 11 of an SFDP table that was read last, a page has fewer than 256 bytes.
     pub fn has_small_pages(&self) -> bool
         ensures { result ≡ has_small_pages self.now }
     {
@@ -205,7 +204,7 @@ impl<B: Bus> OtherMakers<B> {
         Ok(id)
     }
 
-    // Records whether the header of the SFDP table gives a double word 11.
+    // If `out` reads the header of the SFDP table, records whether the table has a double word 11.
     fn remember(&mut self, out: &[u8], reply: &[u8])
         ensures bus { adapted_by self.new ≡ adapted_by self.old }
         ensures history { history_of self.new ≡ history_of self.old }

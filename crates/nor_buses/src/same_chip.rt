@@ -11,7 +11,7 @@ use nor_model::{Bus, History, Stopped, is_changing};
 
 const READ_UNIQUE: [u8; 5] = [0x4B, 0, 0, 0, 0];
 
-/// The unique ID that was read last (`before`), and the different one that a `SameChip` then read itself (`found`).
+/// The unique ID that was read last (`before`), and the different unique ID that a `SameChip` then read (`found`).
 #[derive(Clone, Copy, Debug, PartialEq, Eq)]
 pub struct OtherChip {
     pub before: [u8; 8],
@@ -19,8 +19,8 @@ pub struct OtherChip {
 }
 
 /// A bus that checks, before the first modifying command, that the chip is still the one that was read. If a board is
-/// exchanged after its chip was read, the other board's chip may have the same ID (9Fh), and a session without this
-/// check would change that chip with the journal of the first chip.
+/// exchanged after its chip was read, the other board's chip may have the same ID (9Fh). Without this check, a session
+/// would change the other chip, but its journal would be that of the first chip.
 ///
 /// The bus remembers the reply to the last read of the unique ID (4Bh with eight reply bytes), and reads the unique ID
 /// again before the first modifying command. The chip must be ready then, because a busy chip ignores 4Bh. If the reply
@@ -40,7 +40,7 @@ pub struct SameChip<B> {
 }
 
 impl<B: Bus + Drop> SameChip<B> {
-    /// Returns a bus over `bus` for which no unique ID was read yet.
+    /// Returns a bus over `bus` that has read no unique ID yet.
     pub fn new(bus: B) -> SameChip<B>
         ensures bus { checked_by result ≡ bus }
         ensures unique { unique_in result ≡ None }
@@ -64,7 +64,7 @@ impl<B: Bus + Drop> SameChip<B> {
         &self.bus
     }
 
-    /// Returns both unique IDs if this bus found another chip before the first modifying command.
+    /// Returns both unique IDs if this bus found another chip before the first modifying command, and otherwise `None`.
     pub fn other(&self) -> Option<OtherChip>
         ensures { result ≡ other_of self.now }
     {

@@ -25,15 +25,15 @@ const BUSY: u8 = 0x01;
 ///
 /// - If contact or power fails, each reply byte is FFh or 00h, however often it is read. Therefore the ID is read (9Fh
 ///   with three reply bytes) after each reply on which a decision depends, except for polls that are believed at once.
-///   Each ID, even one that the caller reads, must equal the first one; otherwise the call returns `Stopped`.
+///   Each ID, even one that the caller reads, must equal the first ID; otherwise the call returns `Stopped`.
 /// - The ID is read after each successful read of data (03h), SFDP (5Ah) or the unique ID (4Bh).
 /// - A poll (05h with one reply byte) is carried out with two reply bytes, since a chip repeats its status (W25Q64FV
 ///   datasheet, Read Status Register). If one byte shows BUSY, that byte is returned; otherwise both must be equal.
 ///   Before the first modifying command, and until a status write is read back, a poll that shows a ready chip is made
 ///   twice. Both polls must have the same reply, and the ID is read after each. Other polls are believed at once.
 /// - Status 2 (35h with one reply byte) is read twice, and the ID is read after each read. Both replies must be equal.
-/// - A status write (01h) is passed on only if it has two data bytes, if BUSY, WEL and SUS are clear in it, and if both
-///   status registers were read twice in this way before. The bits that it must not change must be as they were read.
+/// - A status write (01h) is passed on only if it has two data bytes with BUSY, WEL and SUS clear, and if both status
+///   registers were read twice in this way before. The bits that it must not change must be as they were read.
 /// - After a status write, the first poll that shows that the chip is ready also reads status 2 (35h), twice. If a
 ///   non-volatile bit differs from the bit that was sent, the poll returns `Stopped`.
 /// - If the serial port seems to change bytes (`changed_byte`), a bus made with `guarding` refuses the first modifying
@@ -127,7 +127,7 @@ impl<B: Bus + Drop> CheckedStatus<B> {
         &self.bus
     }
 
-    /// Returns the reason of the last stop that the bus inside did not cause, or `None` if there was none.
+    /// Returns the reason for the last stop that the bus inside did not cause, or `None` if there was none.
     pub fn fault(&self) -> Option<CheckFault>
         ensures { result ≡ check_fault_of self.now }
     {

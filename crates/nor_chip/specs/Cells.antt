@@ -1,7 +1,7 @@
 use Rattle.std.specs.Prelude.{◌≡◌, ◌/◌, ◌+◌, ◌==◌, ◌&&◌, ℕ, List, nat_lt, nat_le, slice_index, if◌then◌else◌}
 use Rattle.nor_model.specs.Step.{last_for, lowered}
 
--- Holds if `new` is `old` after a program of the bytes `sent` from `at` on, within the page that contains `at`.
+-- Holds if a program of the bytes `sent` from `at` on, which wraps around in the page of `at`, turns `old` into `new`.
 abbrev pub HasPageProgrammed : ℕ → (sent old new : List ℕ) → Type 0
 HasPageProgrammed at sent old new =
     (a : ℕ) → slice_index new a

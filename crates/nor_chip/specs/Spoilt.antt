@@ -54,7 +54,7 @@ pub record IsWithheld {B : Type 0} (byte : ℕ) (asked answer : List ℕ) (outco
   pub inner : new ≡ old
   pub replies : answer ≡ replicate (length asked) byte
 
--- Holds if each byte of `answer` is `byte_for` of the byte of `replied`, the reply of the inner bus, at its index.
+-- Holds if each byte of `answer` is `byte_for` of the byte at the same index of `replied`, the reply of the inner bus.
 pub record IsPassedOn (byte_for : ℕ → ℕ) (out asked answer : List ℕ) (old new : BusState) : Type 0 where
   pub replied : List ℕ
   pub as_many : length answer ≡ length replied

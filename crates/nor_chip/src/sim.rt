@@ -99,8 +99,8 @@ impl SimBus {
     }
 
     /// Sets whether the chip keeps its power at a stop (`None`, as after `new`) or loses it. With `Some(fill)`, each
-    /// byte on which a running program or erase works becomes `fill`, and a running status write is undone if and only
-    /// if `fill` is even.
+    /// byte of the page being programmed, or of the block being erased, becomes `fill`, and a status write in progress
+    /// is undone if and only if `fill` is even.
     pub fn lose(&mut self, fill: Option<u8>)
         ensures state { ⟦<SimBus as Bus>⟧.state self.new
             ≡ record (⟦<SimBus as Bus>⟧.state self.old) { steady = is_none fill && is_none (torn_of self.old) } }
@@ -111,8 +111,8 @@ impl SimBus {
         self.fill = fill;
     }
 
-    /// Sets how many bytes of a transaction are still sent if the bus stops at it: with `Some(count)`, at most `count`,
-    /// which the chip treats as a whole transaction without a reply; with `None`, as after `new`, no byte.
+    /// Sets how many bytes are still sent when the bus stops at a transaction. With `Some(count)`, at most `count`
+    /// bytes, which the chip treats as a whole transaction without a reply; with `None`, as after `new`, none.
     pub fn tear(&mut self, count: Option<u32>)
         ensures state { ⟦<SimBus as Bus>⟧.state self.new
             ≡ record (⟦<SimBus as Bus>⟧.state self.old) { steady = is_none (fill_of self.old) && is_none count } }

@@ -84,7 +84,7 @@ set_there any (first ∷ files) zero now d same = ap (λ named. cond named true 
 set_there any (first ∷ files) (suc at) now d same =
     ap (cond (is_named any first) true) (set_there any files at now d same)
 
--- Holds if only the file of this name changed, from `was` in the list `old` to `now` in the list `new`.
+-- Holds if only the named file may differ: it is `was` in the list `old`, and `now` in the list `new`.
 pub record IsUpdated (name : Name) (old new : List Stored) (was now : Stored) : Type 0 where
   pub before : file_named old name ≡ file_in was
   pub after : file_named new name ≡ file_in now

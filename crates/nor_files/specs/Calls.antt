@@ -4,7 +4,7 @@ use Rattle.std.specs.Prelude.{drop, is_some, length, max, option_map, replicate,
 use Rattle.nor_journal.specs.Vault.{VaultState}
 use Rattle.nor_files.specs.Files.{AllStay, FilesState, Found, IsKnownFile, IsDurable, Name, OthersStay, KeepsFile, View}
 
--- Holds if the file isn't known, or `found` has its first `most` bytes, or the file is missing and `found` is None.
+-- Holds if the file isn't known, or if `found` is its first `most` bytes, or if it is missing and `found` is `None`.
 abbrev pub ReadsFile : Name → ℕ → Found → View → Type 0
 ReadsFile name most found view = IsKnownFile name view → found ≡ option_map (take most) (view.seen name)
 
@@ -20,21 +20,21 @@ abbrev pub Counts : {T E : Type 0} → Result T E → (old new : FilesState) →
 Counts (Ok _) old new = Succeeds old new
 Counts (Err _) old new = Fails old new
 
--- Holds if the call was counted, and each file whose name is apart from `name` is as it was.
+-- Holds if the call was counted, no vault was lent or taken back, and files with names apart from `name` stay.
 pub record WorksOn {T E : Type 0} (name : Name) (result : Result T E) (old new : FilesState) : Type 0 where
   pub counts : Counts result old new
   pub borrowed : new.borrowed ≡ old.borrowed
   pub out : new.view.out name ≡ old.view.out name
   pub others : OthersStay name old new
 
--- Holds if each file is as it was and, for a known file, a successful call returned whether the file exists.
+-- Holds if the call was counted, each file is as it was, and a success returned whether the file (if known) exists.
 pub record Holds {E : Type 0} (name : Name) (result : Result Bool E) (old new : FilesState) : Type 0 where
   pub counts : Counts result old new
   pub borrowed : new.borrowed ≡ old.borrowed
   pub stay : AllStay old new
   pub there : (there : Bool) → result ≡ Ok there → IsKnownFile name old.view → there ≡ is_some (old.view.seen name)
 
--- Holds if a read returns the same as before, and a host crash can leave only that, or no file if that was possible.
+-- Holds if a read returns the same as before, and a host crash leaves these contents or, if it could before, no file.
 pub record IsSynced (name : Name) (old new : FilesState) : Type 0 where
   pub seen : new.view.seen name ≡ old.view.seen name
   pub leaves : (left : Found) → new.may_leave name left
@@ -57,7 +57,7 @@ abbrev pub LeavesOrEmpty : Name → (old new : FilesState) → Type 0
 LeavesOrEmpty name old new = (left : Found) → new.may_leave name left
     → old.may_leave name left ⊎ ((old.view.seen name ≡ None) × (left ≡ Some []))
 
--- Holds if the sync succeeded (`IsSynced`), or failed and a host crash can leave only what it could leave before.
+-- Holds if the sync succeeded as `IsSynced` says, or if it failed and a host crash can leave only what it could before.
 abbrev pub Syncs : {T E : Type 0} → Name → Result T E → (old new : FilesState) → Type 0
 Syncs name (Ok _) old new = IsSynced name old new
 Syncs name (Err _) old new = LeavesNoMore name old new
@@ -84,7 +84,7 @@ written_over bytes had = bytes ++ drop (length bytes) had
 abbrev pub with_length : ℕ → List ℕ → List ℕ
 with_length len had = take len had ++ replicate (len - length had) 0
 
--- Holds if a successful call overwrote the file, and after any call a host crash leaves only what `LeavesMixes` allows.
+-- Holds if a success overwrote the file and, in any case, a host crash leaves old contents or a mix with `bytes`.
 pub record WritesOver {T E : Type 0} (name : Name) (bytes : List ℕ) (result : Result T E)
     (old new : FilesState) : Type 0 where
   pub seen : (any : T) → result ≡ Ok any → new.view.seen name ≡ option_map (written_over bytes) (old.view.seen name)
@@ -111,12 +111,12 @@ pub record Borrows (name : Name) (old new : FilesState) : Type 0 where
   pub out : new.view.out name ≡ true
   pub others : OthersStay name old new
 
--- Holds if a call that lends a vault failed. For a known file, a host crash leaves only what `LeavesOrEmpty` allows.
+-- Holds if a call that lends a vault failed. A host crash leaves a known file as before or, if it was missing, empty.
 pub record BorrowsNone (name : Name) (old new : FilesState) : Type 0 where
   pub fails : Fails old new
   pub leaves : IsKnownFile name old.view → LeavesOrEmpty name old new
 
--- Holds if the file has exactly the bytes of the vault that was taken back, durably if the vault is sealed.
+-- Holds if the file has exactly the bytes of the faithful vault that was taken back, durably if the vault is sealed.
 pub record TakesBack (name : Name) (vault : VaultState) (old new : FilesState) : Type 0 where
   pub borrowed : new.borrowed ≡ None
   pub in_store : new.view.out name ≡ false

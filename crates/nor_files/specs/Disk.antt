@@ -15,6 +15,6 @@ unknown = record {
   may_leave = λ name left. ⊤;
 }
 
--- Holds for the names that `unseen_stream` may return, one of standard output and one of standard error.
+-- Holds for the two names that `unseen_stream` may return: those of standard output and standard error.
 abbrev pub IsStreamName : Name → Type 0
 IsStreamName name = (name ≡ codes "/dev/fd/1") ⊎ (name ≡ codes "/dev/fd/2")

@@ -48,7 +48,7 @@ pub record FilesState : Type 1 where
   -- The greatest number of calls of `hold`, `sync`, `sync_folder`, `write_over`, `set_len`, `make`, `vault_in_new` and
   -- `vault_in` that can still succeed. If it is 0, each of these calls on lawful files fails and changes nothing.
   pub left : ℕ
-  -- the file whose vault was borrowed last and not yet taken back
+  -- the name of the file whose vault was borrowed last and not yet taken back
   pub borrowed : Option Name
   -- the contents that a host crash at this moment may leave of the file of this name
   pub may_leave : Name → Found → Type 0

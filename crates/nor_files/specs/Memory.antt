@@ -10,7 +10,7 @@ use Rattle.nor_files.specs.Stored.{MayLeave}
 use Rattle.nor_files.specs.declared.memory.Memory.{Memory}
 use Rattle.nor_files.specs.declared.stored.Stored.{Stored}
 
--- The failures of calls on files in memory. Nobody else locks a file, and every file can be overwritten.
+-- True for each failure that calls on files in memory may find. Others lock no file; each file can be overwritten.
 abbrev pub memory_fails : Failure → Bool
 memory_fails (Unheld name) = false
 memory_fails (Busy name) = false

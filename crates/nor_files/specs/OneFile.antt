@@ -12,7 +12,7 @@ pub record AreOneFile (one other : Name) (files : FilesState) : Type 0 where
   pub leaves : (left : Found) → files.may_leave one left → files.may_leave other left
   pub back : (left : Found) → files.may_leave other left → files.may_leave one left
 
--- Holds if, on lawful files, names that may be one file agree in what is read, borrowed and left by a host crash.
+-- Holds if, on lawful files, names that may be of one file agree on contents, lending and what a host crash may leave.
 abbrev pub NamesAreOfOne : FilesState → Type 0
 NamesAreOfOne files = is_lawful files.view ≡ true → (one other : Name) → MayBeOneFile files.view.nature one other
     → AreOneFile one other files

@@ -38,7 +38,7 @@ file_in stored = record {
 abbrev pub missing : File
 missing = record { seen = None; steps = []; unplaced = false; out = false }
 
--- Holds if `left` is a mix (`IsMixed`) of `bytes` and a content that the file may have had before.
+-- Holds if `left` is a mix (`IsMixed`) of `bytes` and contents that the file may have had before.
 abbrev pub IsMixOf : List ℕ → (Found → Type 0) → Found → Type 0
 IsMixOf bytes MayHaveBeen left = (had : List ℕ) × MayHaveBeen (Some had)
     × ((has : List ℕ) × (left ≡ Some has) × IsMixed had bytes has)
@@ -46,14 +46,14 @@ IsMixOf bytes MayHaveBeen left = (had : List ℕ) × MayHaveBeen (Some had)
 abbrev pub IsCutOf : ℕ → (Found → Type 0) → Found → Type 0
 IsCutOf len MayHaveBeen left = (had : List ℕ) × MayHaveBeen (Some had) × (left ≡ Some (with_length len had))
 
--- Holds if a change may turn a content that the file may have had before into `left`. `Lent` allows every `left`.
+-- Holds if a change may turn contents that the file may have had before into `left`. `Lent` allows every `left`.
 abbrev pub Becomes : Change → (Found → Type 0) → Found → Type 0
 Becomes (Written bytes) MayHaveBeen left = IsMixOf bytes.items MayHaveBeen left
 Becomes (Cut len) MayHaveBeen left = IsCutOf len MayHaveBeen left
 Becomes Lent MayHaveBeen left = ⊤
 
--- Holds if `left` is the present content `seen`, or a possible content before the newest change, or one into which this
--- change may turn such a content.
+-- Holds if `left` is the present contents `seen`, contents that the file may have had before the newest change, or a
+-- result of this change on contents before it.
 abbrev pub MayBe : List Step → Found → Found → Type 0
 MayBe [] seen left = left ≡ seen
 MayBe (step ∷ earlier) seen left = (left ≡ seen) ⊎ (MayBe earlier (content_found step.before) left
@@ -128,8 +128,8 @@ abbrev pub FileCreates : {T E : Type 0} → Result T E → (old new : Stored) �
 FileCreates (Ok _) old new = IsCreatedNow old new
 FileCreates (Err _) old new = IsUnchanged old new
 
--- Holds if a vault or a log in the file was lent, so the file is empty. If it had to be new (`is_new`), a host crash
--- can't remove it. Otherwise a host crash may remove it if it was missing, or if a host crash could before.
+-- Holds if a vault or a log in the file was lent, so the file is empty. If the file had to be new (`is_new`), a host
+-- crash can't remove it. Otherwise a host crash may remove a file that was missing, or that it could remove before.
 pub record IsBorrowed (is_new : Bool) (old new : Stored) : Type 0 where
   pub name : new.name ≡ old.name
   pub missing : is_new ≡ true → (file_in old).seen ≡ None

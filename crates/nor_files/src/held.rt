@@ -10,7 +10,7 @@ use std::os::unix::fs::MetadataExt;
 use std::rt::Files;
 use std::{fs, io};
 
-/// A file that is open and locked. `file` is `None` if the file was missing.
+/// The name of a file that the run uses and, unless the file is recorded as missing, the open and locked file.
 #[derive(Drop)]
 pub struct Held<F> {
     pub name: String,
@@ -19,9 +19,9 @@ pub struct Held<F> {
     pub len: Option<u64>,
 }
 
-/// Opens a file of the chip that the run will write, and locks it exclusively. A missing file is recorded as missing.
-/// Fails if the name refers to anything but a regular file, if the file can't be looked up, opened for reading and
-/// writing, or locked, or if memory runs out.
+/// Opens a file of the chip for reading and writing, and locks it exclusively. A missing file is recorded as missing.
+/// Fails if the name refers to anything but a regular file, if the file can't be looked up, opened or locked, or if
+/// memory runs out.
 pub fn hold_chip<R: Files>(files: &R, alloc: Global, name: &str) -> Result<Held<R::File>, LockFault>
 where
     R::File: LockFile,
@@ -135,7 +135,7 @@ pub fn write_from_start<F: Write + Seek>(file: &mut F, bytes: &[u8]) -> io::Resu
     file.write_all(bytes)
 }
 
-/// Syncs an open file, and checks it as `check_under` does. If no file is open, the error is `NotFound`.
+/// Syncs an open file, and then checks its name and length (`check_under`). If no file is open, returns `NotFound`.
 pub fn sync_under<R: Files>(files: &R, held: &Held<R::File>) -> io::Result<()> {
     let Some(file) = &held.file else {
         return Err(ErrorKind::NotFound.into());

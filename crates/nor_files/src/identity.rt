@@ -49,7 +49,7 @@ pub fn is_stream<'n, R: Files>(files: &R, stream: Stream, name: &'n str) -> Resu
     }
 }
 
-/// Returns `/dev/fd/1` if standard output can't be looked up, or else `/dev/fd/2` if standard error can't, or `None`.
+/// Returns `/dev/fd/1` if standard output can't be looked up, otherwise `/dev/fd/2` if standard error can't, or `None`.
 pub fn unseen_stream<R: Files>(files: &R) -> Option<&'static str>
     ensures { IfSome result (λ name. IsStreamName name.now) }
 {
@@ -62,7 +62,7 @@ pub fn unseen_stream<R: Files>(files: &R) -> Option<&'static str>
     None
 }
 
-// Returns the metadata of a stream of this process. The first name works only if the mounted /proc shows this process.
+// Returns the metadata of a standard stream. Its name in /proc works only if the mounted /proc shows this process.
 fn look_at<R: Files>(files: &R, stream: Stream) -> Option<Metadata> {
     let (first, second) = match stream {
         Stream::Output => ("/proc/self/fd/1", "/dev/fd/1"),

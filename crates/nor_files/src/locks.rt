@@ -4,7 +4,7 @@ use std::fs::{File, TryLockError};
 use std::io;
 use std::io::ErrorKind;
 
-/// A file that can be locked against other runs until it is closed. On a file system without locks, both calls lock
+/// A file that can be locked against other runs until it is closed. On a file system without locks, both methods lock
 /// nothing and return true.
 pub trait LockFile {
     /// Locks the file exclusively, without waiting. Returns false if another process has locked it.

@@ -23,8 +23,8 @@ where
     make_alone(files, name, &mut options, mode)
 }
 
-/// Creates the file of a journal as `make_new` does, but each write appends to it. If another program truncates the
-/// file meanwhile, it stays too short, which `VaultedFile::check` detects, instead of getting a gap of zero bytes.
+/// Creates and locks the file of a journal (errors: see `make_new`). Each write appends to the file. If another program
+/// truncates the file, it stays too short, which `VaultedFile::check` detects, instead of getting a gap of zero bytes.
 pub fn make_journal<R: Files>(files: &R, name: &str, mode: u32) -> Result<R::File, CreateFault>
 where
     R::File: LockFile,
@@ -64,7 +64,7 @@ where
     }
 }
 
-/// Creates the named file, or opens it for a log. A regular file is locked, and the `LogFile` truncates it later. For a
+/// Creates or opens the named file for a log. A regular file is locked, and the `LogFile` truncates it later. For a
 /// journal, the error is `There`, because a journal may be the only way to restore a chip. A FIFO, a device or a
 /// terminal is opened as it is, without a lock.
 pub fn open_log<R: Files>(files: &R, name: &str) -> Result<LogFile<R::File>, CreateFault>
@@ -126,7 +126,7 @@ fn is_journal<F: Read>(file: &mut F) -> io::Result<bool> {
     }
 }
 
-/// A file that is truncated just before its first write or flush, unless `append` was called before.
+/// A file for a log. A regular file is truncated just before its first write or flush, unless `append` came first.
 #[derive(Drop)]
 pub struct LogFile<F> {
     file: F,
@@ -163,7 +163,7 @@ impl<F: OpenFile + Read + Seek> LogFile<F> {
         Ok(true)
     }
 
-    /// Keeps the bytes of the file: writes append to it instead of truncating it. Returns whether the file has bytes.
+    /// Makes writes append instead of truncating the file. The result is true only if the file has bytes.
     pub fn append(&mut self) -> io::Result<bool> {
         if !self.is_old {
             return Ok(false);

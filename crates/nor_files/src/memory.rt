@@ -15,8 +15,8 @@ use std::{io, mem};
 /// `sync`, `sync_folder`, `write_over`, `set_len`, `make`, `vault_in_new`, `vault_in` and `log_in`.
 ///
 /// A host crash may leave each byte as it was at the last sync of the file, or as any later change made it. A file
-/// whose vault or log was borrowed since that sync may have any bytes. A new file may be missing until its directory is
-/// synced.
+/// whose vault or log was borrowed since that sync may have any bytes. A file created by `make`, `vault_in` or `log_in`
+/// can be missing only until its directory is synced.
 #[derive(Drop)]
 pub struct Memory {
     alloc: Global,
@@ -64,7 +64,7 @@ impl Memory {
     }
 
     /// Interrupts the run now, and returns the files that are left, on which at most `left` counted calls succeed. Each
-    /// file is one that a host crash might have left, and a later host crash can leave nothing else of it.
+    /// file is left as a host crash might have left it, and a later host crash leaves it as it then is.
     pub fn lose(self, loss: Loss, left: u64) -> Memory
         ensures left { (memory_state result).left ≡ left }
         ensures at_rest { AreAtRest (memory_state result) }

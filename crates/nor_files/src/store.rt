@@ -1,4 +1,4 @@
-//! The contract of files: what each call on them does, and how it may fail.
+//! The trait `Store`, the contract of files: what each call on files does, and how the call may fail.
 
 use nor_journal::Vault;
 use std::alloc::{AllocError, Global};
@@ -32,7 +32,7 @@ impl Error for LockFault {}
 /// The reason why a file can't be created or truncated.
 #[derive(Debug, Drop)]
 pub enum CreateFault {
-    /// A file or link of this name exists, but the file must be new, or is a journal, which `Disk` never truncates.
+    /// A file or link of this name exists although the file must be new, or the file is a journal (never truncated).
     There,
     /// Another process has locked the file.
     Busy,
@@ -126,9 +126,9 @@ pub trait Store: AllocGlobal {
     /// A file to which a run writes piece by piece.
     type Log: Write + Drop;
 
-    /// Returns whether the two names refer to one file: they are equal, or refer to the same file of the system, or, if
-    /// neither file exists yet, have the same last part in the same directory. If a name can't be looked up, returns
-    /// this name as the error. If the result is false, the names are apart.
+    /// Returns true if the two names are equal, if they refer to the same file of the system, or if neither file exists
+    /// yet and the names have the same last part in the same directory. If one of two different names can't be looked
+    /// up, returns this name as the error. If the result is false, the names are apart.
     fn is_one_file<'n>(&self, one: &'n str, other: &'n str) -> Result<bool, &'n str>
         ensures shared { IfOk result (λ is_one. is_one ≡ true
             → (state self.now).view.nature.fails (Shared one.now other.now) ≡ true) }
@@ -150,7 +150,7 @@ pub trait Store: AllocGlobal {
     /// or directory is no error: the result is then `None`. No clause says anything about the result.
     fn look_up_error(&self, name: &str) -> Option<io::Error>;
 
-    /// Returns a name of a `Stream` that can't be looked up, and so can't be compared with files, or `None`.
+    /// Returns the name of a `Stream` that can't be looked up, or `None`. Such a stream can't be compared with files.
     fn unseen_stream(&self) -> Option<&'static str>
         ensures { IfSome result (λ name. IsStreamName name.now
             × ((state self.now).view.nature.fails (Unread name.now) ≡ true)) };
@@ -226,8 +226,8 @@ pub trait Store: AllocGlobal {
         ensures fails { OnErr result ((state self.old).view.nature.fails (Unwritten name.now) ≡ true) };
 
     /// Sets the length of the named file to `len` bytes. If the file grows, the added bytes are 0. For lawful files
-    /// without a borrowed vault or log, a host crash before the next sync may leave what it could leave before, with
-    /// its own length or with the length `len`.
+    /// without a borrowed vault or log, a host crash before the next sync may leave any contents that it could leave
+    /// before, either unchanged or with their length set to `len`.
     fn set_len(&mut self, name: &str, len: u64) -> io::Result<()>
         ensures nature { (state self.new).view.nature ≡ (state self.old).view.nature }
         ensures alone { is_lawful (state self.old).view ≡ true
@@ -291,8 +291,8 @@ pub trait Store: AllocGlobal {
         ensures takes { is_lawful (state self.old).view ≡ true → (name : Name) → (state self.old).borrowed ≡ Some name
             → TakesBack name (Self.Filed.state vault) (state self.old) (state self.new) };
 
-    /// Returns false if the vault that was taken back last was sealed, but a later run would not find it. A `Disk`
-    /// checks only files that `vault_in_new` created: whether their names still refer to them, and their lengths.
+    /// Returns false if the vault that was taken back last was sealed, but a later run would not find its file. A
+    /// `Disk` checks the name and the length of the file, and only if `vault_in_new` created the file.
     fn is_kept(&self, name: &str) -> bool
         ensures { result ≡ false → (state self.now).view.nature.fails (Unwritten name.now) ≡ true };
 
@@ -309,7 +309,7 @@ pub trait Store: AllocGlobal {
             → OnErr result (Fails (state self.old) (state self.new)) }
         ensures unmade { IfErr result (IsCreateFault (state self.old).view.nature name.now) };
 
-    // A law of every store: a host crash may leave what a read returns. A killed process leaves exactly that.
+    // A law of every store: a host crash may leave exactly what a read returns. (A killed process always leaves this.)
     ghost seen_may_stay: { (files : Self) (name : Name)
         → (state files).may_leave name ((state files).view.seen name) };
 

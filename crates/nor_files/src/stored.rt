@@ -40,7 +40,7 @@ pub enum Loss {
     /// Nothing: only the process was killed.
     Nothing,
     /// The host crashed. Changes since the last sync are lost, and so is a created file whose directory wasn't synced.
-    /// A file created for a vault or log since its last sync keeps its bytes, if its directory was synced.
+    /// A never synced file that was created for a vault or log keeps its bytes, if its directory was synced.
     Unsynced,
 }
 
@@ -168,7 +168,7 @@ impl Stored {
     }
 
     /// Creates or truncates the file, to lend a vault or a log in it. With `is_new`, fails with `AlreadyExists` if the
-    /// file exists, and a host crash can't remove the new file. Fails if memory runs out.
+    /// file exists, and a host crash can't remove a new file. Fails if memory runs out.
     pub fn lend(&mut self, alloc: Global, is_new: bool) -> io::Result<()>
         ensures { FileBorrows is_new result self.old self.new }
     {
@@ -203,7 +203,7 @@ impl Stored {
         self.out = false;
     }
 
-    // Removes the file if a host crash may. Otherwise undoes all `steps`, unless the file was missing before them.
+    // Removes the file if a host crash may do so. Otherwise undoes `steps`, unless the file was missing before them.
     fn forget(&mut self)
         ensures { FileForgets self.old self.new }
     {

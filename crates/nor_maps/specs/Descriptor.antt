@@ -12,7 +12,7 @@ use Rattle.nor_maps.specs.declared.fault.MapFault.TheVariants.{Missing, Short, R
 use Rattle.nor_layout.specs.declared.layout.adding.RegionFault.TheVariants.{Name, Twice, TooMany}
 use Rattle.nor_maps.specs.Records.{with_found, records_say, AsksAt}
 
--- The index of the signature: 10h, or 0 in descriptors up to the ICH10, or `None` if the signature is at neither.
+-- The index of the signature: 10h, or 0 in the oldest descriptors, or `None` if the signature is at neither index.
 abbrev pub signature_at : List ℕ → Option ℕ
 signature_at bytes =
     if little_from 16 4 bytes == 0x0FF0A55A then Some 16
@@ -46,7 +46,7 @@ base_of entry = entry % 2 ^ 15
 abbrev pub limit_of : (entry : ℕ) → ℕ
 limit_of entry = entry / 2 ^ 16 % 2 ^ 15
 
--- True if an entry describes no region: its base is above its limit, it is erased, or it is 0 and not the first entry.
+-- True if an entry describes no region: its base is above its limit, it is FFFFFFFFh, or it is 0 and not entry 0.
 abbrev pub is_unused : (index entry : ℕ) → Bool
 is_unused index entry =
     nat_lt (limit_of entry) (base_of entry) || entry == 2 ^ 32 - 1 || (entry == 0 && not (index == 0))
@@ -75,14 +75,14 @@ abbrev pub descriptor_says : (size : ℕ) → (image : List ℕ) → Result (Lis
 descriptor_says size image =
     if nat_lt (length image) 4096 then Err Short else entries_say size image (signature_at image)
 
--- Holds if a descriptor may have this fault. The at most 16 names of its regions are valid and differ.
+-- Holds if reading a descriptor may have this fault: none about names, or about too many regions (it has at most 16).
 abbrev pub IsDescriptorFault : MapFault → Type 0
 IsDescriptorFault (InRecord index Name) = ⊥
 IsDescriptorFault (InRecord index Twice) = ⊥
 IsDescriptorFault (InRecord index TooMany) = ⊥
 IsDescriptorFault fault = ⊤
 
--- Holds if entry `index` describes a region, and no entry up to it has a fault: memory may run out at this entry.
+-- Holds if memory may run out at entry `index`: it describes a region, and neither it nor an earlier entry has a fault.
 abbrev pub AsksInDescriptor : (size : ℕ) → (image : List ℕ) → (index : ℕ) → Type 0
 AsksInDescriptor size image index =
     (signature : ℕ) × (signature_at image ≡ Some signature)

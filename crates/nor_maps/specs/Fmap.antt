@@ -25,7 +25,7 @@ fmap_length header = 56 + 42 * area_count header
 abbrev pub is_ended_name : (field : List ℕ) → Bool
 is_ended_name field = nat_lt (length (before_nul field)) 32 && list_all is_visible (before_nul field)
 
--- True if the bytes begin with a valid header, whose size of the image is not less than the length of the FMAP.
+-- True if the bytes begin with a valid header. The header's image size must be at least the length of the FMAP.
 unfoldable pub is_fmap_header : List ℕ → Bool
 is_fmap_header bytes =
     nat_le 56 (length bytes) && bytes_eq (slice_range bytes 0 8) (codes "__FMAP__") && slice_index bytes 8 == 1
@@ -42,7 +42,7 @@ area_region area = record {
   name = record { items = before_nul (slice_range area 8 40) };
 }
 
--- The earlier `regions` with the region of `area` added, or its fault. An area of size 0 has no region.
+-- The earlier `regions` and then the region of `area` (none if its size is 0), or the fault of `area`.
 abbrev pub with_area : (size : ℕ) → List Region → (number : ℕ) → (area : List ℕ) → Result (List Region) MapFault
 with_area size regions number area =
     if little_from 4 4 area == 0 then Ok regions else with_found size regions number (area_region area)
@@ -56,7 +56,7 @@ areas_say size (Some map) =
 abbrev pub fmap_says : (size : ℕ) → (image : List ℕ) → Result (List Region) MapFault
 fmap_says size image = areas_say size (first_fmap image)
 
--- Holds if area `number` has a region, and no area up to it has a fault, so that memory may run out at this area.
+-- Holds if memory may run out at area `number`: it has a region, and neither it nor an earlier area has a fault.
 abbrev pub AsksInFmap : (size : ℕ) → (image : List ℕ) → (number : ℕ) → Type 0
 AsksInFmap size image number =
     (map : List ℕ) × (first_fmap image ≡ Some map) × AsksAt (with_area size) 42 1 (drop 56 map) number

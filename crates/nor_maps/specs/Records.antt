@@ -18,7 +18,7 @@ abbrev pub with_found : (size : ℕ) → List Region → (number : ℕ) → Regi
 with_found size regions number region =
     if nat_lt region.end size then in_record number (with_region regions region) else Err (Outside number)
 
--- A function that reads a record: it returns the earlier regions with that of the record added, or the record's fault.
+-- A function that reads a record: it returns the earlier regions and then the record's, if any, or the record's fault.
 abbrev pub Reading : Type 0
 Reading = List Region → ℕ → List ℕ → Result (List Region) MapFault
 
@@ -34,7 +34,7 @@ records_say reading len regions number zero bytes = Ok regions
 records_say reading len regions number (suc count) bytes =
     if_read (λ more. records_say reading len more (number + 1) count (drop len bytes)) (reading regions number bytes)
 
--- Holds if record `number` describes a region, and no record up to it has a fault: memory may run out at this record.
+-- Holds if memory may run out at record `number`: it describes a region, and no record up to this one has a fault.
 pub record AsksAt (reading : Reading) (len first : ℕ) (bytes : List ℕ) (number : ℕ) : Type 0 where
   pub before : ℕ
   pub number_is : number ≡ before + first
@@ -50,7 +50,7 @@ ReadsTable said asks (Ok regions) = said ≡ Ok regions
 ReadsTable said asks (Err (InRecord number Memory)) = asks number
 ReadsTable said asks (Err fault) = said ≡ Err fault
 
--- Holds if reading record `number` changed the regions `old` to `new`, or failed, as `said` defines or with `Memory`.
+-- Holds if reading a record had the result `said` (the regions `new`), or memory ran out before a region was added.
 abbrev pub AddsRecord : (old new : List Region) → (number : ℕ) → Result ⊤ MapFault
     → (said : Result (List Region) MapFault) → Type 0
 AddsRecord old new number (Ok x) said = said ≡ Ok new

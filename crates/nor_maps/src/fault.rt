@@ -13,7 +13,7 @@ use std::fmt;
 pub enum MapFault {
     /// The image has no flash descriptor, or no FMAP.
     Missing,
-    /// The bytes end before the descriptor or the FMAP does, or the region table runs past the end of the descriptor.
+    /// The image ends before the descriptor or the FMAP ends, or the region table runs past the end of the descriptor.
     Short,
     /// A region reaches past the end of the chip.
     Outside { record: u16 },

@@ -90,9 +90,9 @@ fn read_areas(alloc: Global, areas: &[u8], count: u16, size: u32) -> Result<Layo
 /// overlap. An area's name ends before the first NUL in its field, if any.
 ///
 /// An FMAP begins with a valid header: the signature `__FMAP__`, major version 1, a name of visible ASCII characters
-/// that ends with NUL, and a size of the image that is not less than the length of the FMAP. Returns `Missing` if there
-/// is no valid header, and `Short` if the bytes end before the last area does. Otherwise returns the fault of the first
-/// area that has one: `Outside` or `Region`.
+/// that ends with NUL, and an image size that is not less than the length of the FMAP. Returns `Missing` if there is no
+/// valid header, and `Short` if the bytes end before the last area does. Otherwise returns the fault of the first area
+/// that has one: `Outside` or `Region`.
 pub fn read_fmap(alloc: Global, bytes: &[u8], size: u32) -> Result<Layout, MapFault>
     ensures { ReadsTable (fmap_says size bytes.now) (AsksInFmap size bytes.now) result }
 {

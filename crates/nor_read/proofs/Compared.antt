@@ -1,4 +1,4 @@
--- The promises of `verify` at each exit. They follow from those of the probe and of the comparison.
+-- What `verify` promises at each exit follows from what the identification (`find`) and the comparison promise.
 use Rattle.std.proofs.Common.{◌≡◌, ◌≢◌, ◌≤◌, ◌<◌, ◌∙◌, ℕ, true, refl, sym, List, length, slice_index, Option, Some, None, Result, Ok, Err}
 use Rattle.std.proofs.lemmas.Bool.{both_ways, and_from, lt-ltb, ltb-true}
 use Rattle.std.proofs.Common.{arith}

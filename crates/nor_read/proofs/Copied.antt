@@ -1,4 +1,4 @@
--- Lemmas about the copy of a chip, which is made piece by piece until it is complete or the vault refuses a piece.
+-- Lemmas about copying a chip, piece by piece (65,536 bytes), until the copy is complete or the vault refuses a piece.
 use Rattle.std.proofs.Common.{◌≡◌, ◌<◌, ◌+◌, ◌-◌, ◌*◌, ◌++◌, ◌∙◌, ℕ, true, List, [], length, slice_index, take}
 use Rattle.std.proofs.Common.{Option, refl, ap, sym, arith, inl, inr, append_assoc, append-nil, length-append}
 use Rattle.std.specs.Prelude.{◌/◌}

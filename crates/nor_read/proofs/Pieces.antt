@@ -1,4 +1,4 @@
--- Lemmas about one piece of the copy, which is made sector by sector.
+-- Lemmas about one piece (65,536 bytes) of the copy of a chip. A piece is read sector by sector.
 use Rattle.std.proofs.Common.{◌≡◌, ◌<◌, ◌+◌, ◌-◌, ◌*◌, ◌∙◌, ℕ, List, length, Option, refl}
 use Rattle.std.proofs.Common.{arith, inl, inr}
 use Rattle.std.proofs.lemmas.Bool.{cases_lt}

@@ -1,4 +1,4 @@
--- The promises of `read_out` at each exit. They follow from those of the probe and of the copy.
+-- What `read_out` promises at each exit follows from what the identification (`find`) and the copying promise.
 use Rattle.std.proofs.Common.{◌≡◌, ℕ, true, List, Option, Result, Ok, Err, arith}
 use Rattle.std.specs.Prelude.{◌/◌, ◌*◌}
 use Rattle.nor_model.specs.Bus.{BusState}

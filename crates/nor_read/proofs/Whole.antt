@@ -1,4 +1,4 @@
--- Lemmas about the probe and the reads after it, which all three calls of this crate use.
+-- Lemmas about the identification of the chip and the reads after it, for the three calls of this crate.
 use Rattle.std.proofs.Common.{◌≡◌, ◌≤◌, ◌+◌, ◌∙◌, ℕ, true, List, Option, sym, arith}
 use Rattle.std.specs.Prelude.{◌/◌}
 use Rattle.nor_model.specs.Chip.{status1_of}

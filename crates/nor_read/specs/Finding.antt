@@ -1,4 +1,4 @@
--- Definitions that the calls of this crate share.
+-- Definitions about identifying the chip, its errors, and reports, which the calls of this crate share.
 use Rattle.std.specs.Prelude.{◌≡◌, ◌≤◌, ◌+◌, ◌/◌, ℕ, Bool, true, Option, Ok, List, ⊤}
 use Rattle.nor_model.specs.declared.config.Config.{Config}
 use Rattle.nor_model.specs.Chip.{status1_of}
@@ -79,8 +79,7 @@ IsFindRefusal Stopped = ⊤
 IsFindRefusal (Timeout address) = address ≡ 0
 IsFindRefusal _ = ⊥
 
--- Holds if a call may return this error on a well-behaved bus. After any error except a stop, the chip's contents and
--- non-volatile status bits are as before.
+-- Holds if a call may return this error on a well-behaved bus.
 abbrev pub ReadingErrors : ℕ → Option ChipName → (old new : BusState) → Refusal → Type 0
 ReadingErrors most named old new NoChip = ProbeErrors named old new Probes.NoChip
 ReadingErrors most named old new (UnknownChip fault) = ProbeErrors named old new (Probes.UnknownChip fault)

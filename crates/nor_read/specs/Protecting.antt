@@ -20,7 +20,7 @@ pub record IsProtectedRange (chip : Chip) (start len : ℕ) : Type 0 where
   pub exactly : (a : ℕ) → (is_protected chip a ≡ true) ↔ ((start ≤ a) × (a < start + len))
   pub plain : len ≡ 0 → start ≡ 0
 
--- Holds if `protection` describes the chip, which has block protection. Undefined protection bits have no `range`.
+-- Holds if the chip has block protection and `protection` describes it (no `range` for undefined protection bits).
 pub record IsProtection (chip : Chip) (protection : Protection) : Type 0 where
   pub scheme : chip.config.scheme ≡ true
   pub protected : MatchOption protection.range (is_undefined (code_of chip.kept) ≡ true)
@@ -46,7 +46,8 @@ pub record ProtectionHonest (named : Option ChipName) (old new : BusState)
   pub is : OnOk result (IsNamed named old.chip.config)
   pub errors : IfErr result (ReadingErrors most_status named old new)
 
--- Holds for error 6 if the chip has the requested name, if any, and no block protection. Holds for all other errors.
+-- Holds for error 6 if the chip can be identified and has the requested name, if any (`IsNamed`), but has no block
+-- protection. Holds for all other errors.
 abbrev pub ProtectionErrors : Option ChipName → Chip → Refusal → Type 0
 ProtectionErrors named chip NoProtection = IsNamed named chip.config × (chip.config.scheme ≡ false)
 ProtectionErrors named chip _ = ⊤

@@ -24,7 +24,7 @@ pub record Grows (count : ℕ) (old new : VaultState) : Type 0 where
   pub long : length bytes ≡ count
   pub grown : new.bytes ≡ old.bytes ++ bytes
 
--- Holds if the vault has its earlier bytes and then the first `count` bytes of the copy of a chip.
+-- Holds if the first `count` bytes of the copy of a chip were appended to the vault.
 pub record Copies (included : Option (List Span)) (content : ℕ → ℕ) (count : ℕ) (old new : VaultState) : Type 0 where
   pub bytes : List ℕ
   pub long : length bytes ≡ count
@@ -36,8 +36,8 @@ pub record TakesWhole (count : ℕ) (old new : VaultState) : Type 0 where
   pub accepted : Accepted old new
   pub grows : old.telling ≡ true → Grows count old new
 
--- Holds if the vault refused one piece. A faithful (`telling`) vault accepted `written` bytes in all, including the
--- accepted first bytes of the refused piece.
+-- Holds if the vault refused one piece (65,536 bytes) of the copy. A faithful (`telling`) vault accepted `written`
+-- bytes in all, including the accepted first bytes of the refused piece.
 pub record TakesPart (written : ℕ) (old new : VaultState) : Type 0 where
   pub refused : Refused old new
   pub grows : old.telling ≡ true → Grows written old new
@@ -64,14 +64,14 @@ pub record ReadOutHonest (named : Option ChipName) (included : Option (List Span
   pub reports : IfOk result (λ report. ReportsReads (sectors_included included report.found.size) old new report)
   pub errors : IfErr result (ReadingErrors (most_read 16777216) named old new)
 
--- Holds if `read_out` may return error 19 with `written` bytes on a modelled bus.
+-- Holds if `read_out` may return error 19 with the number `written` on a modelled bus.
 pub record BreaksOff (named : Option ChipName) (included : Option (List Span)) (written : ℕ) (old : BusState)
     (vault vault' : VaultState) : Type 0 where
   pub taken : IsTaken named included old.chip.config
   pub within : written ≤ old.chip.config.size
   pub copy : vault.telling ≡ true → Copies included old.chip.bytes written vault vault'
 
--- Holds if `read_out` may return error 5, 12 or 19 on a modelled bus, and for all other errors (see `ReadingErrors`).
+-- Holds for error 5, 12 or 19 if `read_out` may return it on a modelled bus. Holds for all other errors.
 abbrev pub ReadOutErrors : Option ChipName → Option (List Span) → (old new : BusState) → (vault vault' : VaultState)
     → Refusal → Type 0
 ReadOutErrors named included old new vault vault' RegionOutside = IsPassed named included old.chip.config
@@ -87,7 +87,7 @@ pub record ReadOutModelled (named : Option ChipName) (included : Option (List Sp
       → Copies included old.chip.bytes old.chip.config.size vault vault')
   pub errors : IfErr result (ReadOutErrors named included old new vault vault')
 
--- Holds after one sector of the copy was put into `bytes`. The sector is read only if it has an included address.
+-- Holds after one sector of the copy of a chip was put into `bytes`. Only a sector with an included address is read.
 pub record ReadsPart (included : Option (List Span)) (sector : ℕ) (bytes : List ℕ) (old new : BusState)
     (reads : ℕ) : Type 0 where
   pub counted : reads ≡ (if has_in_sector (includes included) sector then 1 else 0)
@@ -95,7 +95,7 @@ pub record ReadsPart (included : Option (List Span)) (sector : ℕ) (bytes : Lis
   pub right : old.honest ≡ true → old.chip.busy ≡ 0 → 4096 * (sector + 1) ≤ old.chip.config.size
       → AreOfSector (copied included old.chip.bytes) sector bytes
 
--- Holds after the first `n` of a piece's sixteen sectors were copied to `bytes`.
+-- Holds after the first `n` of the sixteen sectors of one piece (65,536 bytes) were copied to `bytes`.
 pub record ReadsPiece (included : Option (List Span)) (piece n : ℕ) (bytes : List ℕ) (old new : BusState)
     (reads : ℕ) : Type 0 where
   pub counted : count_below (16 * piece + n) (has_in_sector (includes included))
@@ -105,13 +105,13 @@ pub record ReadsPiece (included : Option (List Span)) (piece n : ℕ) (bytes : L
   pub right : old.honest ≡ true → old.chip.busy ≡ 0 → 65536 * (piece + 1) ≤ old.chip.config.size
       → (i : ℕ) → i < 4096 * n → slice_index bytes i ≡ copied included old.chip.bytes (65536 * piece + i)
 
--- Holds if the vault has `count` more bytes. If `known` holds, these bytes are the first ones of the copy.
+-- Holds if the vault has `count` more bytes, which are the first bytes of the copy of a chip if `known` holds.
 pub record CopiesIf (known : Type 0) (included : Option (List Span)) (content : ℕ → ℕ) (count : ℕ)
     (old new : VaultState) : Type 0 where
   pub grows : Grows count old new
   pub right : known → (a : ℕ) → a < count → slice_index grows.bytes a ≡ copied included content a
 
--- Holds after the pieces below `n` (of sixteen sectors each) were appended to the vault.
+-- Holds after the first `n` pieces (of sixteen sectors each) of the copy of a chip were appended to the vault.
 pub record ReadsPieces (included : Option (List Span)) (size n : ℕ) (old new : BusState) (vault vault' : VaultState)
     (reads : ℕ) : Type 0 where
   pub counted : reads ≡ count_below (16 * n) (has_in_sector (includes included))
@@ -120,7 +120,7 @@ pub record ReadsPieces (included : Option (List Span)) (size n : ℕ) (old new :
   pub accepted : Accepted vault vault'
   pub copy : vault.telling ≡ true → CopiesIf (IsOpen size old) included old.chip.bytes (65536 * n) vault vault'
 
--- Holds after the vault refused a piece. A faithful (`telling`) vault accepted `written` bytes of all pieces together.
+-- Holds after the vault refused a piece of the copy. `written` is the number of bytes that a faithful vault accepted.
 pub record BreaksCopy (included : Option (List Span)) (size written : ℕ) (old new : BusState)
     (vault vault' : VaultState) : Type 0 where
   pub rested : old.honest ≡ true → Rested old new
@@ -128,13 +128,13 @@ pub record BreaksCopy (included : Option (List Span)) (size written : ℕ) (old 
   pub took : TakesPart written vault vault'
   pub copy : IsOpen size old → vault.telling ≡ true → Copies included old.chip.bytes written vault vault'
 
--- Holds if the copy may end with this error: 12 (the bus stopped) or 19 (the vault refused a piece).
+-- Holds if copying the chip may end with this error: 12 (the bus stopped) or 19 (the vault refused a piece).
 abbrev pub CopyErrors : Option (List Span) → ℕ → (old new : BusState) → (vault vault' : VaultState) → Refusal → Type 0
 CopyErrors included size old new vault vault' Stopped = HasStopped (size / 4096) old new × Accepted vault vault'
 CopyErrors included size old new vault vault' (Output written) = BreaksCopy included size written old new vault vault'
 CopyErrors included size old new vault vault' _ = ⊥
 
--- Holds if appending the piece number `piece` may return this error. Each earlier piece added 65,536 to `written`.
+-- Holds if appending piece number `piece` may return this error. Each earlier piece added 65,536 to `written`.
 abbrev pub PutErrors : ℕ → List ℕ → (old new : VaultState) → Refusal → Type 0
 PutErrors piece bytes old new (Output written) =
     (kept : ℕ) × (written ≡ 65536 * piece + kept) × PutRefused old bytes kept new

@@ -27,7 +27,7 @@ abbrev pub AgreeIn : Option (List Span) → List ℕ → (ℕ → ℕ) → (from
 AgreeIn included image content from to =
     (a : ℕ) → from ≤ a → a < to → includes included a ≡ true → slice_index image a ≡ content a
 
--- Holds if `address` is the first included address in this range at which `content` differs from the image.
+-- Holds if `address` is the first included address, from `from` and below `to`, where `content` differs from the image.
 pub record IsFirstOther (included : Option (List Span)) (image : List ℕ) (content : ℕ → ℕ)
     (from to address : ℕ) : Type 0 where
   pub above : from ≤ address
@@ -43,7 +43,7 @@ pub record IsOtherSize (named : Option ChipName) (image : List ℕ) (config : Co
   pub of_image : image_size ≡ length image
   pub differ : length image ≢ config.size
 
--- Holds if `verify` may return error 14 on a modelled bus, because `address` is the first included one that differs.
+-- Holds if `verify` may return error 14 with `address` on a modelled bus: the first included address with a difference.
 pub record IsMismatch (named : Option ChipName) (included : Option (List Span)) (image : List ℕ) (chip : Chip)
     (address : ℕ) : Type 0 where
   pub taken : IsTaken named included chip.config
@@ -63,7 +63,7 @@ pub record HasReadAt (address : ℕ) (old new : List Exchange) : Type 0 where
   pub since : Continues old read.earlier
   pub later : AddsSectorReads at new
 
--- Holds for the history after `verify` returned this error. After error 14 the last transactions are reads of sectors.
+-- Holds if `verify` may leave the history `new` with this error. After error 14, the last transactions read sectors.
 abbrev pub VerifyEnds : (old new : List Exchange) → Refusal → Type 0
 VerifyEnds old new (Mismatch address) = HasReadAt address old new
 VerifyEnds old new refusal = EndsAtError refusal new
@@ -97,7 +97,7 @@ pub record VerifyHonest (named : Option ChipName) (included : Option (List Span)
   pub reports : IfOk result (λ report. ReportsReads (sectors_included included report.found.size) old new report)
   pub errors : IfErr result (ReadingErrors (most_read 16777216) named old new)
 
--- Holds if `verify` may return error 4, 5, 12 or 14 on a modelled bus, and for all other errors (see `ReadingErrors`).
+-- Holds for error 4, 5, 12 or 14 if `verify` may return it on a modelled bus. Holds for all other errors.
 abbrev pub VerifyErrors : Option ChipName → Option (List Span) → List ℕ → (old new : BusState) → Refusal → Type 0
 VerifyErrors named included image old new (ImageSize chip len) = IsOtherSize named image old.chip.config chip len
 VerifyErrors named included image old new RegionOutside =
@@ -120,7 +120,7 @@ FindsFirst included image content from to first =
 abbrev pub ReadsDifference : (old new : List Exchange) → Option ℕ → Type 0
 ReadsDifference old new first = MatchOption first ⊤ (λ address. HasReadAt address old new)
 
--- Holds if `first` is the first included address in this sector, if any, at which the last reply differs from the
+-- Holds if `first` is the first included address in this sector, if any, at which the last replies differ from the
 -- image, in a history whose latest transactions are `reads`.
 pub record ComparesReply (included : Option (List Span)) (image : List ℕ) (sector : ℕ) (reads earlier : List Exchange)
     (first : Option ℕ) : Type 0 where

@@ -1,5 +1,5 @@
 //! Calls that only read a flash chip: they copy its bytes, compare them with an image, and report its block protection.
-//! They send no modifying command, and allocate no memory themselves; the bus or the vault of `read_out` may.
+//! They send no modifying command. They allocate no memory, but the bus or the vault of `read_out` may allocate.
 //!
 //! ```rust
 //! use nor_chip::{Config, Delays, Meter, SimBus};

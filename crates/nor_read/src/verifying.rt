@@ -110,7 +110,7 @@ fn compare_part<B: Bus>(
     Ok(Compared { first, reads: 1 })
 }
 
-// Overwrites the bytes at excluded addresses with the image's, so that a difference can only be at an included address.
+// Returns the first included address at which `bytes` and the image differ. Overwrites the bytes at excluded addresses.
 fn first_other(
     image: &[u8],
     included: Option<&Ranges>,

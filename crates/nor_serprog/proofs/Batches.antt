@@ -1,4 +1,4 @@
--- The effect of one exchange of a batch over a well-behaved port, from the effects of the calls of the port.
+-- The effect of `exchange_batch` over a well-behaved port, derived from the effects of the calls of the port.
 use Rattle.std.proofs.Common.{◌≡◌, ◌∙◌, ◌<◌, ◌++◌, ℕ, Bool, true, false, List, [], ◌∷◌, length, refl, sym, ap, subst, arith, inl, inr}
 use Rattle.std.specs.Prelude.{slice_index}
 use Rattle.std.proofs.lemmas.Bool.{false≢true}

@@ -66,7 +66,7 @@ nothing_cut out device = record {
   then = record { chip = inl refl; worn = λ s. refl };
 }
 
--- If the write enable that waited is cut, the transaction `out` after it is cut before its first byte.
+-- If a write enable that was held back is interrupted, this counts as an interruption of the transaction after it.
 pub enable_cut : (out : List ℕ) (old new : Device) → IsCut (0x06 ∷ []) old new
     → IsCut out (enabled_device true old) new
 enable_cut out old new c =

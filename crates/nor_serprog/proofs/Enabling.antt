@@ -1,4 +1,4 @@
--- While a write enable waits, an idle chip's latch counts as set, so carrying out the write enable changes nothing.
+-- While a write enable is held back, an idle chip's latch counts as set, so sending the write enable changes nothing.
 use Rattle.std.proofs.Common.{◌≡◌, ◌∙◌, ◌⊎◌, ℕ, zero, suc, Bool, true, false, List, [], ◌∷◌, length, take, drop, refl, sym, ap, subst, arith, inl, inr}
 use Rattle.std.specs.Prelude.{◌==◌, ◌||◌, if◌then◌else◌}
 use Rattle.std.proofs.lemmas.Bool.{cases_Bool}

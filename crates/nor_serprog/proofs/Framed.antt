@@ -1,4 +1,4 @@
--- If `IsFramed` holds and one transaction, flush or synchronization is added, `IsFramed` still holds.
+-- If `IsFramed` holds, it still holds after one more transaction, flush or synchronization.
 use Rattle.std.proofs.Common.{◌≡◌, ◌∙◌, ◌++◌, ◌⊎◌, inl, inr, true, false, ℕ, Bool, List, [], ◌∷◌, length, refl, sym, subst, ap, arith}
 use Rattle.std.proofs.lemmas.Bool.{false≢true}
 use Rattle.std.proofs.lemmas.List.{append-nil, append_assoc}

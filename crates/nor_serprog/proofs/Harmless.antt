@@ -1,4 +1,4 @@
--- Lemmas: what a port was asked to send stays harmless with one more call.
+-- Lemmas about harmless calls of a port (`IsHarmless`).
 use Rattle.std.proofs.Common.{◌≡◌, ◌∙◌, ◌⊎◌, inl, inr, ℕ, List, [], ◌∷◌, refl, ap}
 use Rattle.std.specs.Prelude.{Result, Ok, Err, OnOk, OnErr}
 use Rattle.std.proofs.lemmas.List.Elements.{All-cons}

@@ -14,7 +14,7 @@ row =
     Nop ∷ Nop ∷ Nop ∷ Nop ∷ Nop ∷ Nop ∷ Nop ∷ Nop ∷ Nop
     ∷ SyncNop ∷ SyncNop ∷ Nop ∷ SyncNop ∷ Nop ∷ Nop ∷ SyncNop ∷ SyncNop ∷ SyncNop ∷ Nop ∷ []
 
--- Holds if `bytes` are the frames of `commands`, which change no settings, and `answers` are the replies to them.
+-- Holds if `bytes` are the frames of `commands`, and `answers` the replies to `commands`. The fields say more.
 pub record IsRow (commands : List Command) (bytes answers : List ℕ) : Type 0 where
   pub frames : bytes ≡ frames_of commands
   pub has : (firmware : Firmware) → HaveReplies firmware commands

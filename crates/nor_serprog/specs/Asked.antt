@@ -3,7 +3,7 @@ use Rattle.std.specs.Prelude.{◌≡◌, ◌<◌, ◌≤◌, ◌++◌, ◌⊎◌
 use Rattle.nor_model.specs.Exchange.{Exchange}
 use Rattle.nor_serprog.specs.Frame.{operation_frame}
 
--- The bytes of these calls in the order of the calls. The last call comes first in the list.
+-- The bytes of all calls in the list, joined in the order of time. The list begins with the last call.
 abbrev pub bytes_of_calls : List (List ℕ) → List ℕ
 bytes_of_calls [] = []
 bytes_of_calls (last ∷ before) = bytes_of_calls before ++ last
@@ -28,9 +28,9 @@ FitsOperation out replies = (length out ≤ 260) × (replies < 16777216)
 abbrev pub IsLongProgram : (out : List ℕ) → Type 0
 IsLongProgram out = (slice_index out 0 ≡ 0x02) × (36 ≤ length out)
 
--- Holds if the port was asked to send the frame of the O_SPIOP that sends `out` and reads `replies` bytes. If a write
--- enable waited, the port was asked to send its frame first: in a call of its own or, if `out` is a long program, in
--- the same call.
+-- Holds if the port was asked to send only the frame of the O_SPIOP that sends `out` and reads `replies` bytes and, if
+-- a write enable was held back (`waits`), before it the frame of the write enable. One call sent both frames only if
+-- `out` is a long program. The lengths satisfy `FitsOperation`.
 pub record AsksInOrder (waits : Bool) (out : List ℕ) (replies : ℕ) (old new : List (List ℕ)) : Type 0 where
   pub fits : FitsOperation out replies
   pub asks : ((new ≡ (lead_frame waits ++ operation_frame out replies) ∷ old) × (waits ≡ true → IsLongProgram out))
@@ -49,7 +49,7 @@ abbrev pub AsksSync : (old new : List (List ℕ)) → Type 0
 AsksSync old new =
     (new ≡ old) ⊎ ((new ≡ (0x00 ∷ []) ∷ old) ⊎ (new ≡ nop_row ∷ (0x00 ∷ []) ∷ old))
 
--- Holds if `argument` is one frame of O_SPIOP, or the frame of a write enable (06h) and then that of a long program.
+-- Holds if `argument` is a frame of O_SPIOP, or two: of a write enable (06h) and of a long program (`IsLongProgram`).
 pub record IsOneOperation (argument : List ℕ) : Type 0 where
   pub waits : Bool
   pub out : List ℕ
@@ -58,8 +58,8 @@ pub record IsOneOperation (argument : List ℕ) : Type 0 where
   pub led : waits ≡ true → IsLongProgram out
   pub is : argument ≡ lead_frame waits ++ operation_frame out replies
 
--- Holds if the port may have been asked to send `bytes` for the transaction `exchange`: its frame or, if the
--- transaction stopped, nothing or a frame that requests any number of reply bytes.
+-- Holds if `bytes` is the frame of the transaction `exchange`. For a transaction that stopped, `bytes` may also be
+-- empty, or request any number of reply bytes.
 abbrev pub MayFrame : Exchange → List ℕ → Type 0
 MayFrame exchange bytes = elim exchange.reply [
   | Some reply ↦ FitsOperation exchange.out (length reply) × (bytes ≡ operation_frame exchange.out (length reply))
@@ -76,13 +76,13 @@ pub record EndsFraming (exchange : Exchange) (Earlier : List ℕ → Type 0) (by
   pub earlier : Earlier before
   pub frame : MayFrame exchange last
 
--- Holds if `bytes` are the frames of a history (`MayFrame`), in order, with only NOPs and SYNCNOPs between them.
+-- Holds if `bytes` are the frames of a history (`MayFrame`), in order, and NOPs and SYNCNOPs before or after any frame.
 abbrev pub AreFrames : List Exchange → List ℕ → Type 0
 AreFrames [] bytes = AreNops bytes
 AreFrames (exchange ∷ earlier) bytes = EndsFraming exchange (AreFrames earlier) bytes
 
--- Holds if everything that the port was asked to send after `start`, and then the write enable that may wait, are the
--- frames of the history (`AreFrames`), and each call was to send one operation or only NOPs and SYNCNOPs.
+-- Holds if all bytes of the calls after `start`, and then a write enable if one is held back (`waits`), are the frames
+-- of the history (`AreFrames`), and each call sends only NOPs and SYNCNOPs or satisfies `IsOneOperation`.
 pub record IsFramed (start asked : List (List ℕ)) (waits : Bool) (history : List Exchange) : Type 0 where
   pub later : List (List ℕ)
   pub since : asked ≡ later ++ start

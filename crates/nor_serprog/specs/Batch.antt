@@ -1,4 +1,4 @@
--- A link and the write enable that waits to be sent over the link, as contracts see them.
+-- A link, and the write enable that is held back until the next transaction over the link, as contracts see them.
 use Rattle.std.specs.Prelude.{◌≡◌, ◌≤◌, ℕ, Bool, true}
 use Rattle.nor_serprog.specs.declared.batch.Batch.{Batch}
 use Rattle.nor_serprog.specs.declared.link.Link.{Link}
@@ -14,11 +14,11 @@ batch_link batch = batch.link
 abbrev pub waits_in : {P C : Type 0} {over : Ghosts P C} → Batch P C over → Bool
 waits_in batch = batch.waits
 
--- The size of the serial buffer that the programmer reported, or 0 if it lacks the query.
+-- The size of the serial buffer that the programmer reported, or 0 if the programmer lacks Q_SERBUF.
 abbrev pub buffer_in : {P C : Type 0} {over : Ghosts P C} → Batch P C over → ℕ
 buffer_in batch = batch.buffer
 
--- The programmer of the port, with the chip as if the write enable that waits had been carried out.
+-- The programmer at the port, with its chip as if a write enable that is held back had been carried out.
 abbrev pub device_at : {P C : Type 0} {over : Ghosts P C} → Batch P C over → Device
 device_at {over = over} batch = enabled_device batch.waits (over.state batch.link.port).device
 

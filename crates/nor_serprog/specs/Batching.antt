@@ -19,15 +19,15 @@ link_of batching = batching.batch.link
 abbrev pub port_in : {P C : Type 0} {over : Ghosts P C} → BatchingBus P C over → P
 port_in batching = batching.batch.link.port
 
--- True if a write enable waits to be sent.
+-- True if a write enable is held back: it is in the history, but was not sent yet.
 abbrev pub waits_of : {P C : Type 0} {over : Ghosts P C} → BatchingBus P C over → Bool
 waits_of batching = batching.batch.waits
 
 abbrev pub history_of : {P C : Type 0} {over : Ghosts P C} → BatchingBus P C over → List Exchange
 history_of batching = batching.history.exchanges
 
--- Holds if what the port was asked to send after `start`, and then the write enable if it waits, are the frames of the
--- transactions in the history, in order (`IsFramed`).
+-- Holds if the calls of the port after `start`, and then the write enable that is held back, if any, send the frames of
+-- the transactions in the history (`IsFramed`).
 abbrev pub SendsFrames : {P C : Type 0} {over : Ghosts P C} → (start : List (List ℕ)) → BatchingBus P C over → Type 0
 SendsFrames {over = over} start batching =
     IsFramed start (over.state batching.batch.link.port).asked (waits_of batching) (history_of batching)
@@ -45,13 +45,13 @@ cause_of batching = batching.cause
 abbrev pub is_ready : {P C : Type 0} {over : Ghosts P C} → BatchingBus P C over → Bool
 is_ready batching = is_in_step batching.batch.link
 
--- True if the chip may be of a further row (`has_further_types`). Contracts don't see such a bus as well-behaved.
+-- True if the chip may be of a further row (`has_further_types`). For contracts, such a bus isn't well-behaved.
 abbrev pub has_further : {P C : Type 0} {over : Ghosts P C} → BatchingBus P C over → Bool
 has_further batching = batching.further
 
--- The state of a bus over a port in this state. If a write enable waits and the programmer's chip is idle, the latch of
--- the bus's chip is set, because the write enable is in the history already. The bus isn't punctual, because its
--- transactions take different numbers of calls. It is unlimited, because it stops at each transaction that is too long.
+-- The state of a bus over a port with the state `port`. If a write enable is held back and the programmer's chip is
+-- idle, the latch of the bus's chip is set, because the write enable is in the history already. The bus isn't punctual,
+-- because its transactions take different numbers of calls. It is unlimited, although it stops at long transactions.
 abbrev pub over_batch : (waits further : Bool) → PortState → (history : List Exchange) → BusState
 over_batch waits further port history = record {
   chip = enabled waits port.device.chip;

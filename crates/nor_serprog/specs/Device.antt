@@ -28,7 +28,7 @@ pub record IsIdle (device : Device) : Type 0 where
 
 pub record PortState : Type 0 where
   pub device : Device
-  -- for a well-behaved port, the greatest number of further calls that can succeed, which code cannot read
+  -- for a well-behaved port, the greatest number of further calls that can succeed; code cannot read this number
   pub left : ℕ
   pub honest : Bool
   -- what each call of `send` was asked to send, the last call first; the port may have failed to send it
@@ -47,8 +47,8 @@ pub record MayLoseDevicePower (old new : Device) : Type 0 where
   pub chip : (new.chip ≡ old.chip) ⊎ PowerLost old.chip new.chip
   pub worn : (s : ℕ) → new.worn s ≡ old.worn s
 
--- Holds if the transaction `out` was cut: the programmer sent its first `count` bytes to the chip and read the bytes
--- `read`. Then the chip may have lost its power.
+-- Holds if the transaction `out` may have been interrupted after the programmer sent its first `count` bytes, or all,
+-- to the chip and read the bytes `read`. Then the chip may have lost its power.
 pub record IsCut (out : List ℕ) (old new : Device) : Type 0 where
   pub count : ℕ
   pub read : List ℕ
@@ -64,13 +64,13 @@ pub record OperatesFrame (frame : List ℕ) (old new : Device) : Type 0 where
   pub pending : new.pending ≡ old.pending ++ 0x06 ∷ answer
   pub settings : new.settings ≡ old.settings
 
--- Holds if `bytes` complete a frame of O_SPIOP, of which the programmer may have received the first bytes before.
+-- Holds if `bytes` complete a frame of O_SPIOP, whose first bytes the programmer may have received before.
 pub record CompletesOperation (bytes : List ℕ) (old : Device) : Type 0 where
   pub whole : IsFrame (old.begun ++ bytes)
   pub opcode : slice_index (old.begun ++ bytes) 0 ≡ 0x13
 
--- Holds if `bytes` are two frames of O_SPIOP that fit into the serial buffer of an idle programmer together. The first
--- frame requests no reply bytes.
+-- Holds if `bytes` are two frames of O_SPIOP, the programmer is idle, and both frames fit into its serial buffer
+-- together. The first frame requests no reply bytes.
 pub record CompletesBoth (first second bytes : List ℕ) (old : Device) : Type 0 where
   pub idle : IsIdle old
   pub is : bytes ≡ first ++ second
@@ -91,13 +91,13 @@ pub record CutsSecond (first second : List ℕ) (old new : Device) : Type 0 wher
   pub former : OperatesFrame first old between
   pub cut : IsCut (out_in second) between new
 
--- Holds if `bytes` are the frames of `commands`, whose replies are specified, and no command is incomplete.
+-- Holds if no command is incomplete, and `bytes` are the frames of `commands`, which all satisfy `HasReply`.
 pub record AsksFor (commands : List Command) (bytes : List ℕ) (old : Device) : Type 0 where
   pub begun : old.begun ≡ []
   pub frames : bytes ≡ frames_of commands
   pub replies : HaveReplies old.firmware commands
 
--- Holds if the programmer replied to each of `commands`, and the chip was not selected.
+-- Holds if the programmer carried out `commands` and replied to each of them. The chip is unchanged.
 pub record RepliesTo (commands : List Command) (old new : Device) : Type 0 where
   pub pending : new.pending ≡ old.pending ++ replies_of old.firmware commands
   pub begun : new.begun ≡ []
@@ -105,19 +105,19 @@ pub record RepliesTo (commands : List Command) (old new : Device) : Type 0 where
   pub chip : new.chip ≡ old.chip
   pub worn : new.worn ≡ old.worn
 
--- Holds if one call sent all of `bytes`. Their effect is specified only for a frame of O_SPIOP or its rest (`done`),
--- for whole frames of other commands (`replies`), and for two frames of O_SPIOP (`both`).
+-- Holds if one call sent all of `bytes`. Their effect is specified only for a frame of O_SPIOP or the rest of one
+-- (`done`), for whole frames of other commands (`replies`), and for two frames of O_SPIOP (`both`).
 pub record IsSent (bytes : List ℕ) (old new : PortState) : Type 0 where
   pub left : old.left ≡ new.left + 1
   pub firmware : new.device.firmware ≡ old.device.firmware
   pub done : CompletesOperation bytes old.device → OperatesFrame (old.device.begun ++ bytes) old.device new.device
   pub replies : (commands : List Command) → AsksFor commands bytes old.device
       → RepliesTo commands old.device new.device
-  -- assumes that no byte of the second frame is lost while the programmer carries out the first
+  -- assumes that no byte of the second frame is lost while the programmer carries out the first frame
   pub both : (first second : List ℕ) → CompletesBoth first second bytes old.device
       → OperatesBoth first second old.device new.device
 
--- Holds if no reply is pending, and `frame`, a frame of O_SPIOP, is within the limits of every well-behaved port.
+-- Holds if no reply is pending, and `frame`, a frame of O_SPIOP, sends at most 260 bytes and reads at most 4,096.
 pub record IsWithinLimits (frame : List ℕ) (device : Device) : Type 0 where
   pub none_pending : device.pending ≡ []
   pub sends : length (out_in frame) ≤ 260
@@ -152,7 +152,7 @@ pub record IsReceived (bytes : List ℕ) (old new : PortState) : Type 0 where
   pub firmware : new.device.firmware ≡ old.device.firmware
   pub settings : new.device.settings ≡ old.device.settings
 
--- Holds if the port failed while `count` bytes were to be received. The chip may have lost its power.
+-- Holds if the port failed to receive `count` bytes. The chip may have lost its power.
 pub record IsSilent (count : ℕ) (old new : PortState) : Type 0 where
   pub firmware : new.device.firmware ≡ old.device.firmware
   pub none_left : count ≤ length old.device.pending → old.left ≡ 0
@@ -172,21 +172,21 @@ pub record AnswerBegins (port : PortState) : Type 0 where
   pub some : 0 < length port.device.pending
   pub ack : slice_index port.device.pending 0 ≡ 0x06
 
--- Holds if a call failed while ACK and `count` reply bytes were to be received. The chip may have lost its power.
+-- Holds if the port failed to receive ACK and `count` reply bytes. The chip may have lost its power.
 pub record MissesAnswer (count : ℕ) (old new : PortState) : Type 0 where
   pub few_left : count < length old.device.pending → old.left < 2
   pub few : new.left < 3
   pub power : MayLoseDevicePower old.device new.device
 
--- Holds if three calls carried out the transaction `out` and received its reply `answer`.
+-- Holds if three calls carried out `out`, with the reply `answer`, and the programmer is idle.
 pub record Exchanged (out answer : List ℕ) (old new : PortState) : Type 0 where
   pub left : old.left ≡ new.left + 3
   pub idle : IsIdle new.device
   pub settings : new.device.settings ≡ old.device.settings
   pub steps : StepsOnce out answer old.device new.device
 
--- Holds if the transaction `out` was cut, and too few calls are left for another transaction. The frame of `out`
--- requests `replies` bytes, and the caller `wanted` bytes.
+-- Holds if `out` was interrupted, fewer than 3 calls are left and, for lengths within the limits (`few_left`), fewer
+-- than 3 were left before. The frame of `out` requests `replies` bytes, and the caller requests `wanted` bytes.
 pub record Interrupted (out : List ℕ) (replies wanted : ℕ) (old new : PortState) : Type 0 where
   pub few_left : length out ≤ 260 → replies ≤ 4096 → wanted ≤ replies → old.left < 3
   pub few : new.left < 3

@@ -17,11 +17,11 @@ pub record Firmware : Type 0 where
   -- the greatest numbers of bytes that an O_SPIOP may send and may read; 0 means 2^24 (Q_WRNMAXLEN, Q_RDNMAXLEN)
   pub longest_write : ℕ
   pub longest_read : ℕ
-  -- whether the programmer acknowledges S_BUSTYPE, S_PIN_STATE and S_SPI_CS with this argument
+  -- whether the programmer acknowledges S_BUSTYPE, S_PIN_STATE or S_SPI_CS with the given argument
   pub takes_buses : (flags : ℕ) → Bool
   pub takes_pins : (enabled : Bool) → Bool
   pub takes_select : (number : ℕ) → Bool
-  -- the clock in hertz that the programmer sets if `hertz` is requested, or `None` if it refuses (S_SPI_FREQ)
+  -- the clock in hertz that the programmer sets if S_SPI_FREQ requests `hertz`, or `None` if the programmer replies NAK
   pub clock : (hertz : ℕ) → Option ℕ
   pub version_fits : version < 65536
   pub commands_len : length commands ≡ 32
@@ -60,8 +60,8 @@ abbrev pub clocked : Option ℕ → List ℕ
 clocked (Some set) = 0x06 ∷ four_of set
 clocked None = nak
 
--- The reply of a programmer with this firmware to a whole frame of a command, if `HasReply` holds. The list is empty
--- for O_SPIOP, whose reply is in `OperatesFrame`.
+-- The reply of a programmer with this firmware to the whole frame of a command for which `HasReply` holds. For O_SPIOP,
+-- the list is empty (`OperatesFrame` specifies that reply).
 abbrev pub reply_of : Firmware → Command → List ℕ
 reply_of firmware Nop = 0x06 ∷ []
 reply_of firmware QueryInterface = 0x06 ∷ two_of firmware.version
@@ -78,8 +78,8 @@ reply_of firmware (SetPins enabled) = taken (firmware.takes_pins enabled)
 reply_of firmware (SelectChip number) = taken (firmware.takes_select number)
 reply_of firmware (Operate out replies) = []
 
--- Holds if `reply_of` specifies the reply to this command. O_SPIOP is excluded, and so is a command with arguments that
--- the programmer lacks, because the programmer would treat the arguments as commands.
+-- Holds if `reply_of` specifies the reply to this command. O_SPIOP is excluded, and so is each command that has
+-- arguments and that the programmer lacks, because it would treat the arguments as commands.
 abbrev pub HasReply : Firmware → Command → Type 0
 HasReply firmware (SetBuses flags) = has_command firmware 0x12 ≡ true
 HasReply firmware (SetFrequency hertz) = has_command firmware 0x14 ≡ true

@@ -46,8 +46,8 @@ argument_count opcode =
     else if opcode == 0x0A then 6
     else 0
 
--- The length of a frame of O_SPIOP or "write n", from the bytes after its opcode. These begin with two numbers of three
--- bytes each, and the first number counts the bytes that follow both.
+-- The length of a frame of O_SPIOP or "write n", or `None` if fewer than three bytes after the opcode are given. After
+-- the opcode come two 3-byte numbers, the first of which is the number of bytes that follow both.
 abbrev pub long_len : List ℕ → Option ℕ
 long_len (a ∷ b ∷ c ∷ rest) = Some (7 + number_in a b c)
 long_len _ = None
@@ -67,7 +67,7 @@ out_in frame = drop 7 frame
 abbrev pub replies_in : List ℕ → ℕ
 replies_in frame = number_in (slice_index frame 4) (slice_index frame 5) (slice_index frame 6)
 
--- Holds if a programmer that reads this frame carries out this command.
+-- Holds if a programmer that receives this frame carries out this command.
 abbrev pub ReadsAs : List ℕ → Command → Type 0
 ReadsAs frame (Operate out replies) =
     (slice_index frame 0 ≡ 0x13) × (out_in frame ≡ out.now) × (replies_in frame ≡ replies)

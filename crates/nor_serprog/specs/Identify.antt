@@ -19,7 +19,7 @@ use Rattle.nor_serprog.specs.Replies.{AwaitsCommand, OnlyAsks, IsPortFailure}
 abbrev pub buses_of : Firmware → ℕ
 buses_of firmware = if has_command firmware 0x05 then firmware.buses else 8
 
--- The limit of a programmer for the length of a transaction: 2^24 without a query for it, or if the reply is 0.
+-- The given limit of a programmer in bytes, or 2^24 if the programmer lacks the query for the limit, or the limit is 0.
 abbrev pub limit_in : (has_query : Bool) → (limit : ℕ) → ℕ
 limit_in has_query limit = if has_query && not (limit == 0) then limit else 16777216
 
@@ -29,14 +29,14 @@ write_limit firmware = limit_in (has_command firmware 0x08) firmware.longest_wri
 abbrev pub read_limit : Firmware → ℕ
 read_limit firmware = limit_in (has_command firmware 0x11) firmware.longest_read
 
--- The greatest number of bytes that a transaction may send. With Q_SERBUF (04h) and without Q_WRNMAXLEN (08h), the
--- frame, which has 7 more bytes, must also fit into the serial buffer. Even then the number is at least 5.
+-- The greatest number of bytes that a transaction may send: `writes` or, with Q_SERBUF (04h) but without Q_WRNMAXLEN
+-- (08h), at most `buffer` minus the 7 other bytes of the frame, but at least 5.
 abbrev pub part_limit_of : (commands : List ℕ) → (writes buffer : ℕ) → ℕ
 part_limit_of commands writes buffer =
     if is_in_map commands 0x08 then writes
     else if is_in_map commands 0x04 then max (min writes (buffer - 7)) 5 else writes
 
--- Holds if `programmer` has the values that this firmware replied to a handshake that requested a clock of `hertz`.
+-- Holds if `programmer` has the values that a handshake with this firmware returns if it requests the clock `hertz`.
 pub record IsAnyProgrammerOf (firmware : Firmware) (hertz : Option ℕ) (programmer : AnyProgrammer) : Type 0 where
   pub name : programmer.name ≡ (if has_command firmware 0x03 then firmware.name else replicate 16 0)
   pub writes : programmer.longest_write ≡ write_limit firmware
@@ -59,7 +59,7 @@ version_fault firmware = if firmware.version == 1 then None else Some (Version f
 abbrev pub operation_fault : {C : Type 0} → Firmware → Option (HandshakeFault C)
 operation_fault firmware = if has_command firmware 0x13 then None else Some (Lacks 0x13)
 
--- The error `NotSpi` if SPI is missing, or if there are other types of bus but no S_BUSTYPE (12h) to select SPI.
+-- The error `NotSpi` if SPI isn't supported, or isn't the only supported type of bus and S_BUSTYPE (12h) is missing.
 abbrev pub buses_fault : {C : Type 0} → Firmware → Option (HandshakeFault C)
 buses_fault firmware =
     if not (bit_and (buses_of firmware) 8 == 0) && (buses_of firmware == 8 || has_command firmware 0x12) then None
@@ -92,7 +92,7 @@ abbrev pub first_handshake_fault : {C : Type 0} → List (Option (HandshakeFault
 first_handshake_fault [] = None
 first_handshake_fault (fault ∷ later) = option_or fault (first_handshake_fault later)
 
--- The least limits with which a page program, and the read of a sector, are one transaction each.
+-- The least limits with which one transaction can send a page program or read a sector.
 abbrev pub whole_limits : Least
 whole_limits = record { write = 260; read = 4096; frame = 267 }
 
@@ -100,7 +100,7 @@ whole_limits = record { write = 260; read = 4096; frame = 267 }
 abbrev pub part_limits : Least
 part_limits = record { write = 5; read = 1; frame = 12 }
 
--- The errors that the firmware can cause in a handshake that requires the limits `least`, in the order of its steps.
+-- For each step of a handshake that requires the limits `least`, in order: the error that the firmware causes, if any.
 abbrev pub identify_faults : {C : Type 0} → Least → Firmware → (hertz : Option ℕ) → List (Option (HandshakeFault C))
 identify_faults least firmware hertz =
     version_fault firmware
@@ -131,8 +131,8 @@ abbrev pub settings_if_offered : Firmware → (opcode : ℕ) → Command → Pro
 settings_if_offered firmware opcode command settings =
     if has_command firmware opcode then settings_after firmware command settings else settings
 
--- The settings of a programmer that was prepared for SPI (8), with its pin drivers on. A setting stays as it was if the
--- programmer lacks its command.
+-- The settings after a successful handshake: SPI (8) is selected and the pin drivers are on. If the programmer lacks
+-- the command for a setting, this setting is unchanged.
 abbrev pub prepared_settings : Firmware → ProgrammerSettings → ProgrammerSettings
 prepared_settings firmware settings = record {
   bus_type = if has_command firmware 0x12 then Some 8 else settings.bus_type;

@@ -19,8 +19,8 @@ is_in_step link = elim link.sync [ InStep ↦ true | Lost ↦ false | Cut ↦ fa
 abbrev pub is_cut : {P C : Type 0} → Link P C → Bool
 is_cut link = elim link.sync [ InStep ↦ false | Lost ↦ false | Cut ↦ true ]
 
--- Holds if the port isn't well-behaved, or the link is in step and the programmer is idle, or the link is out of step
--- and too few calls are left for a transaction.
+-- Holds if, for a well-behaved port, the link is in step and the programmer is idle, or the link is out of step and
+-- fewer than three calls of the port are left. Always holds for any other port.
 pub record IsSettled {P C : Type 0} (port : P → PortState) (link : Link P C) : Type 0 where
   pub idle : (port link.port).honest ≡ true → is_in_step link ≡ true → IsIdle (port link.port).device
   pub spent : (port link.port).honest ≡ true → is_in_step link ≡ false → (port link.port).left < 3

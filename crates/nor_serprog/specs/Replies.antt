@@ -11,7 +11,7 @@ pub record AwaitsCommand (port : PortState) : Type 0 where
   pub honest : port.honest ≡ true
   pub idle : IsIdle port.device
 
--- Holds if at most `calls` calls were made and the programmer is idle again. Chip, firmware and settings are unchanged.
+-- Holds if at most `calls` calls were made, and the programmer is idle. Chip, firmware and settings are unchanged.
 pub record OnlyAsks (calls : ℕ) (old new : PortState) : Type 0 where
   pub left : old.left ≤ new.left + calls
   pub awaits : AwaitsCommand new
@@ -20,7 +20,7 @@ pub record OnlyAsks (calls : ℕ) (old new : PortState) : Type 0 where
   pub firmware : new.device.firmware ≡ old.device.firmware
   pub settings : new.device.settings ≡ old.device.settings
 
--- Holds if exactly `bytes` are pending at a well-behaved port, and no command is incomplete.
+-- Holds if exactly `bytes` (1 to 25, the first not 0) are pending at a well-behaved port, and no command is incomplete.
 pub record IsPending (bytes : List ℕ) (port : PortState) : Type 0 where
   pub honest : port.honest ≡ true
   pub begun : port.device.begun ≡ []
@@ -48,7 +48,7 @@ abbrev pub IsRefused : {C : Type 0} → (opcode calls left : ℕ) → Failure C 
 IsRefused opcode calls left failure = IsRefusal opcode failure ⊎ (IsPortFailure failure × (left < calls))
 
 -- Holds for the result of an exchange of `command`, which requests `count` reply bytes, over a well-behaved port to an
--- idle programmer. For SYNCNOP, whose reply is NAK and ACK, only the field `power` says something.
+-- idle programmer. For SYNCNOP and O_SPIOP, only the field `power` says something.
 pub record EndsExchange {C : Type 0} (command : Command) (count : ℕ) (reply : List ℕ) (result : Result Unit (Failure C))
     (old new : PortState) : Type 0 where
   pub acked : (bytes : List ℕ) → reply_of old.device.firmware command ≡ 0x06 ∷ bytes → count ≡ length bytes

@@ -18,8 +18,8 @@ const LONGEST_PAIR: usize = 275;
 const LONG_PROGRAM: usize = 36;
 
 /// A link, and whether a write enable waits to be sent over this link. Erases and status writes are not sent together
-/// with their write enable. So if the host crashes inside the frame of an erase or status write, no old ACK is pending
-/// that `Link::synchronize` could take for the reply to its NOP.
+/// with their write enable. So if the host crashes while it sends the frame of an erase or status write, no old ACK is
+/// pending that `Link::synchronize` could take for the reply to its NOP.
 #[derive(Drop)]
 pub(crate) struct Batch<P: Port + Drop> {
     link: Link<P>,
@@ -101,7 +101,7 @@ impl<P: Port + Drop> Batch<P> {
         self.link.exchange_batch(&frame, false, reply)
     }
 
-    /// Sends the write enable, if it waits, and reads its ACK. Nothing waits afterwards, even after an error.
+    /// Sends a write enable that waits, if any, and reads its ACK. Even after an error, no write enable waits any more.
     pub(crate) fn flush(&mut self) -> Result<(), Failure<P::Cause>>
         ensures silent { is_in_step (batch_link self.old) ≡ false → self.new ≡ self.old }
         ensures ok { is_in_step (batch_link self.old) ≡ true → OnOk result (is_in_step (batch_link self.new) ≡ true) }
@@ -127,7 +127,7 @@ impl<P: Port + Drop> Batch<P> {
         self.link.exchange_batch(&ENABLE, false, &mut [])
     }
 
-    /// Synchronizes the programmer, as `Link::synchronize` does, if the link is out of step.
+    /// Synchronizes the link (`Link::synchronize`) if it is out of step.
     pub(crate) fn synchronize(&mut self) -> Result<(), Failure<P::Cause>>
         ensures ok { OnOk result (is_in_step (batch_link self.new) ≡ true) }
         ensures err { OnErr result (is_in_step (batch_link self.new) ≡ false) }

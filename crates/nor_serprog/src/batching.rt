@@ -7,26 +7,26 @@ use crate::batch::Batch;
 use crate::{AnyProgrammer, Failure, Link, Port, Programmer, Sync};
 use nor_model::{Bus, History, Stopped};
 
-/// A bus to the chip at a serial programmer, over any port. It needs fewer round trips than `SerprogBus`, because it
-/// sends a write enable (06h) together with the page program (02h) after it, if the program has at least 32 data bytes
-/// and the programmer's serial buffer holds both frames.
+/// A bus to the chip at a serial programmer, over any port. This bus needs fewer round trips than `SerprogBus`, because
+/// it sends a write enable (06h) together with the page program (02h) after it, if the program has at least 32 data
+/// bytes and both frames fit into the programmer's serial buffer.
 ///
 /// Any other transaction is sent only after the reply to the previous frame was received. Otherwise, if a byte of a
-/// frame is lost, the programmer takes the next byte for the last one of this frame, and the chip may carry out a
-/// command that was never sent. A page program may follow its write enable at once, because the chip ignores a program
-/// without a write enable.
+/// frame were lost, the programmer would take the next frame's first byte for the last one of this frame, and the chip
+/// could carry out a command that was never sent. A page program may follow its write enable at once, because the chip
+/// ignores a program without a write enable.
 ///
-/// - A write enable that requests no reply bytes waits if the serial buffer holds its frame: `transfer` returns `Ok`
-///   without sending it. Only the next transaction or `flush` sends it, and returns `Stopped` if this fails.
-/// - A transaction that sends more than 260 bytes, or reads 2^24 bytes or more, or more than the programmer can, is
-///   rejected: nothing is sent, and a write enable that waits still waits.
-/// - After any other failed transaction or `flush`, nothing waits or is sent until `synchronize` returns `Ok`.
+/// - A write enable that requests no reply bytes waits if its frame fits into the serial buffer: `transfer` returns
+///   `Ok`, but only the next transaction or `flush` sends the write enable, and returns `Stopped` if this fails.
+/// - A transaction is rejected if it sends more than 260 bytes, or reads at least 2^24 bytes or more than the
+///   programmer can: nothing is sent, and a write enable that waits still waits.
+/// - After any other failed transaction or `flush`, no transaction is sent or waits until `synchronize` returns `Ok`.
 /// - The history lists failed and rejected transactions without a reply, and a waiting write enable with an empty
 ///   reply.
 ///
 /// Over a well-behaved port, the bus that `emulated` returns is well-behaved and unlimited, but not punctual. Its chip
-/// is the programmer's, with the write enable latch set while a write enable waits and the chip is idle. The buses that
-/// `new` and `over` return may have chips of further rows, so for contracts these buses are not well-behaved.
+/// is the programmer's chip, as if a waiting write enable had been carried out. The buses that `new` and `over` return
+/// may have chips of further rows, so for contracts these buses are not well-behaved.
 #[derive(Drop)]
 pub struct BatchingBus<P: Port + Drop> {
     batch: Batch<P>,
@@ -77,9 +77,9 @@ impl<P: Port + Drop> BatchingBus<P> {
         }
     }
 
-    /// Returns a bus as `over` does, but for a chip of the model (`has_further_types` is false). The link must be in
-    /// step. Over a well-behaved port, the programmer must be idle, with at least the serial buffer that `programmer`
-    /// reports.
+    /// Returns a bus to a chip of the model (`has_further_types` is false). The link must be in step. Over a
+    /// well-behaved port, the programmer must be idle, and its serial buffer must have at least the size that
+    /// `programmer` reports.
     pub fn emulated(link: Link<P>, programmer: AnyProgrammer) -> BatchingBus<P>
         requires in_step { is_in_step link ≡ true }
         requires idle { (P.state (port_of link)).honest ≡ true → IsIdle (P.state (port_of link)).device }
@@ -115,15 +115,15 @@ impl<P: Port + Drop> BatchingBus<P> {
         self.batch.link().port()
     }
 
-    /// Returns the cause of the last transaction or `flush` that failed, if any. A transaction that is rejected because
-    /// the link is out of step leaves the cause as it is.
+    /// Returns the cause of the last failed transaction or `flush`, or `None` if none failed yet. A transaction that is
+    /// rejected because the link is out of step leaves the cause as it is.
     pub fn cause(&self) -> Option<&Failure<P::Cause>>
         ensures { option_copied result ≡ cause_of self.now }
     {
         self.cause.as_ref()
     }
 
-    /// Sends the write enable, if it waits, and reads its ACK. Returns `Stopped` if the exchange failed.
+    /// Sends a write enable that waits, if any, and reads its ACK. Returns `Stopped` if this fails.
     pub fn flush(&mut self) -> Result<(), Stopped>
         ensures history { history_of self.new ≡ history_of self.old }
         ensures sent { sent_of self.new ≡ sent_of self.old }
@@ -142,7 +142,7 @@ impl<P: Port + Drop> BatchingBus<P> {
         }
     }
 
-    /// Synchronizes the programmer, as `Link::synchronize` does, or sends nothing if the link is in step.
+    /// Synchronizes the link (`Link::synchronize`). If the link is in step already, sends nothing and returns `Ok`.
     pub fn synchronize(&mut self) -> Result<(), Failure<P::Cause>>
         ensures history { history_of self.new ≡ history_of self.old }
         ensures sent { sent_of self.new ≡ sent_of self.old }

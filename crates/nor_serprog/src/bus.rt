@@ -8,8 +8,8 @@ use crate::{Command, Failure, Link, Port, Programmer, Sync};
 use nor_model::{Bus, History, Stopped};
 
 /// A bus to the chip at a serial programmer, over any port. Each transaction is carried out with one O_SPIOP (13h). A
-/// transaction that sends more than 260 bytes, or reads 2^24 bytes or more, or more than the programmer can, is
-/// rejected, and nothing is sent. After any other failure, no transaction is sent until `synchronize` returns `Ok`.
+/// transaction is rejected without sending anything if it sends more than 260 bytes, or reads at least 2^24 bytes or
+/// more than the programmer can. After any other failure, no transaction is sent until `synchronize` returns `Ok`.
 ///
 /// Over a well-behaved port this bus is well-behaved, and its chip is the programmer's. A transaction that sends at
 /// most 260 bytes and reads at most 4,096 fails only if fewer than three calls of the port are left.
@@ -56,15 +56,15 @@ impl<P: Port + Drop> SerprogBus<P> {
     }
 
     /// Returns the cause of the last transaction that failed, or `None` if none failed yet. A transaction that is
-    /// rejected because an earlier one failed leaves the cause as it is.
+    /// rejected because the link is out of step leaves the cause as it is.
     pub fn cause(&self) -> Option<&Failure<P::Cause>>
         ensures { option_copied result ≡ cause_of self.now }
     {
         self.cause.as_ref()
     }
 
-    /// Synchronizes the programmer after a transaction failed, as `Link::synchronize` does, or sends nothing if the
-    /// link is in step. The chip may have carried out the failed transaction.
+    /// Synchronizes the link (`Link::synchronize`) after a failed transaction, which the chip may have carried out. If
+    /// the link is in step already, sends nothing and returns `Ok`.
     pub fn synchronize(&mut self) -> Result<(), Failure<P::Cause>>
         ensures history { history_of self.new ≡ history_of self.old }
         ensures sent { sent_of self.new ≡ sent_of self.old }

@@ -21,7 +21,7 @@ const REPLIES_END: u32 = 1 << 24;
 pub type Frame = ArrayVec<u8, LONGEST_FRAME>;
 
 /// A command of the serprog protocol, version 1 (flashrom's Documentation/serprog-protocol.txt). The commands for
-/// parallel chips, and those after 16h, are left out. The given lengths of replies don't count the ACK.
+/// parallel chips and the commands after 16h are left out. The given lengths of replies don't count the ACK.
 #[derive(Clone, Copy, Debug, PartialEq, Eq)]
 pub enum Command<'a> {
     /// 00h, NOP: has no effect.
@@ -42,7 +42,7 @@ pub enum Command<'a> {
     SyncNop,
     /// 11h, Q_RDNMAXLEN: queries how many bytes an O_SPIOP may read. The reply has 3 bytes; 0 means 2^24.
     QueryLongestRead,
-    /// 12h, S_BUSTYPE: selects the types of bus with these flags, which are those of Q_BUSTYPE.
+    /// 12h, S_BUSTYPE: selects the types of bus with these flags: 1 parallel, 2 LPC, 4 FWH, 8 SPI.
     SetBuses(u8),
     /// 13h, O_SPIOP: makes one SPI transaction that sends `out` and then reads `replies` bytes.
     Operate { out: &'a [u8], replies: u32 },

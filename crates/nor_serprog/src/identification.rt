@@ -26,12 +26,12 @@ const S_SPI_CS: u8 = 0x16;
 
 const HEADER_LEN: u32 = 7;
 
-// The number of bytes that the shortest part of a program sends: an opcode, three address bytes and one data byte.
+// The number of bytes that a page program of one byte sends: an opcode, three address bytes and one data byte.
 const SHORTEST_PART: u32 = 5;
 
 impl AnyProgrammer {
-    /// Identifies the programmer on a new link as `Programmer::identify` does, but with lower limits: a transaction
-    /// must be able to send 5 bytes and read 1 byte, and the serial buffer, if it is checked, must hold 12 bytes.
+    /// Identifies the programmer on a new link with the steps of `Programmer::identify`, but a transaction needs to
+    /// send only 5 bytes and read 1 byte, and the serial buffer, if it is checked, needs only 12 bytes.
     pub fn identify<P: Port + Drop>(
         link: &mut Link<P>,
         hertz: Option<u32>,
@@ -52,7 +52,7 @@ impl AnyProgrammer {
     }
 
     /// Makes the programmer use the chip select `number` (S_SPI_CS, 16h) for all later transactions. `link` must be the
-    /// link to this programmer. Returns `Failure` if the exchange failed, which contains `Refused` after NAK.
+    /// link to this programmer. Returns `Failure` if the exchange failed; after NAK this contains `Refused`.
     ///
     /// Returns `Lacks`, and sends nothing, if the programmer lacks the command, because such a programmer would treat
     /// the number as a command.
@@ -116,7 +116,7 @@ impl Programmer {
         Ok(Programmer { reported })
     }
 
-    /// Makes the programmer use this chip select, as `AnyProgrammer::select_chip` does.
+    /// Makes the programmer use the chip select `number` for all later transactions (`AnyProgrammer::select_chip`).
     pub fn select_chip<P: Port + Drop>(
         &self,
         link: &mut Link<P>,

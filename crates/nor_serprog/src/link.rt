@@ -25,7 +25,7 @@ pub enum Failure<C> {
     Refused(u8),
     #[error("the programmer answered {0:02X}h, which is neither ACK nor NAK")]
     Strange(u8),
-    /// The transaction sends more than 260 bytes, or reads 2^24 bytes or more, or more than the programmer can return.
+    /// The transaction sends more than 260 bytes, or reads at least 2^24 bytes or more than the programmer can return.
     /// Nothing was sent, and the link is as it was.
     #[error("a transaction of this length does not fit into one serprog frame")]
     TooLong,
@@ -35,7 +35,7 @@ pub enum Failure<C> {
     /// Nothing was sent, because a frame may have been sent only in part: any further byte could complete this frame.
     #[error("a frame may have been cut off: disconnect the programmer from power before it is used again")]
     CutFrame,
-    /// An expected reply of `synchronize` was not among the next 65,536 bytes.
+    /// A reply that `synchronize` expected was not among the next 65,536 received bytes.
     #[error("the programmer gave a wrong reply to SYNCNOP")]
     NoSync,
 }
@@ -43,7 +43,7 @@ pub enum Failure<C> {
 /// Whether the replies of a programmer can be matched to the frames that were sent.
 #[derive(Clone, Copy, Debug, PartialEq, Eq)]
 pub enum Sync {
-    /// Since `synchronize` returned `Ok`, each frame received ACK, and each requested reply byte was received.
+    /// Since `synchronize` returned `Ok`, an ACK for each frame and all requested reply bytes were received.
     InStep,
     /// The link is new, `synchronize` failed (not with `CutFrame`), or an exchange failed after its frames were sent.
     Lost,
@@ -106,7 +106,7 @@ impl<P: Port + Drop> Link<P> {
     /// fit into one frame. After any other error no exchange sends anything until `synchronize` returns `Ok`.
     ///
     /// If the port is well-behaved, the link is in step and the programmer is idle, the firmware determines the reply
-    /// to each command except O_SPIOP, SYNCNOP and a command with arguments that the programmer lacks (`EndsExchange`).
+    /// to most commands (`EndsExchange`), but not to O_SPIOP and SYNCNOP.
     pub fn exchange(
         &mut self,
         command: Command<'_>,
@@ -189,8 +189,8 @@ impl<P: Port + Drop> Link<P> {
         Ok(())
     }
 
-    /// Sends `frames` with one call of the port: the frame of one O_SPIOP or, if `is_led`, of two, the first of which
-    /// requests no reply bytes. Then reads an ACK for each frame, and after the last ACK as many bytes as `reply`
+    /// Sends `frames` with one call of the port. These must be one frame of O_SPIOP or, if `is_led`, two, the first of
+    /// which requests no reply bytes. Then reads an ACK for each frame, and after the last ACK as many bytes as `reply`
     /// holds. Returns `OutOfStep` or `CutFrame`, and sends nothing, if the link was out of step. After any error no
     /// exchange sends anything until `synchronize` returns `Ok`.
     pub(crate) fn exchange_batch(
@@ -229,14 +229,14 @@ impl<P: Port + Drop> Link<P> {
         Ok(())
     }
 
-    /// Synchronizes the link, so that each later reply is matched to the frame that it belongs to (flashrom's
+    /// Synchronizes the link, so that each later reply can be matched to its frame (flashrom's
     /// Documentation/serprog-protocol.txt, 00h and 10h). Sends one NOP, and skips all received bytes up to the first
     /// ACK. Then sends a fixed sequence of NOP and SYNCNOP, and skips all bytes up to the replies to this sequence.
     ///
     /// Returns `CutFrame`, and sends nothing, if a frame may have been sent only in part, because further bytes could
-    /// complete this frame. The link cannot know about a frame that another run sent in part: in that case, disconnect
-    /// the programmer from power first. Returns `Port` if the port fails, or `NoSync` if no ACK is among the next
-    /// 65,536 bytes, or the replies to the sequence are not among the 65,536 bytes after the ACK.
+    /// complete this frame. If another program or an earlier run may have sent a frame in part, disconnect the
+    /// programmer from power first, because the link cannot detect this. Returns `Port` if the port fails, or `NoSync`
+    /// if ACK or the replies to the sequence are not among the next 65,536 bytes.
     ///
     /// If the link is not `Sync::Cut`, the port is well-behaved and the programmer is idle, the call fails only if
     /// fewer than 28 calls of the port were left.
@@ -258,7 +258,7 @@ impl<P: Port + Drop> Link<P> {
             return Err(Failure::CutFrame);
         }
         self.sync = Sync::Lost;
-        // A programmer that waits for the rest of a frame takes this byte as part of it. A zero does least harm there.
+        // A programmer that waits for the rest of a frame takes this zero as part of the frame. Zeros do least harm.
         send_all(&mut self.port, &[0x00])?;
         skip_past(&mut self.port, &[0x06])?;
         send_all(&mut self.port, &ROW)?;
@@ -334,7 +334,7 @@ fn receive_answer<P: Port>(
     }
 }
 
-// Receives the ACK for the first of two frames, if there are two (`is_led`).
+// Receives the ACK for the first frame, if there are two frames (`is_led`). Otherwise receives nothing.
 fn receive_acks<P: Port>(port: &mut P, is_led: bool) -> Result<(), Failure<P::Cause>>
     ensures nature { (P.state port.new).honest ≡ (P.state port.old).honest }
     ensures unasked { (P.state port.new).asked ≡ (P.state port.old).asked }

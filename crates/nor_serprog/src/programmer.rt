@@ -16,8 +16,8 @@ pub enum HandshakeFault<C> {
     /// S_SPI_CS (16h) for `select_chip`.
     #[error("the programmer lacks command {0:02X}h, which is needed here")]
     Lacks(u8),
-    /// The programmer doesn't support SPI, or supports other types of bus, too, and lacks S_BUSTYPE, which selects one.
-    /// The value lists the programmer's types of bus as flags: 1 parallel, 2 LPC, 4 FWH, 8 SPI.
+    /// The programmer doesn't support SPI, or it supports other types of bus, too, but lacks S_BUSTYPE, which selects
+    /// one. The value lists the programmer's types of bus as flags: 1 parallel, 2 LPC, 4 FWH, 8 SPI.
     #[error("the programmer cannot be set to SPI: its types of bus are {0:02X}h")]
     NotSpi(u8),
     /// An O_SPIOP may send at most this number of bytes: fewer than 260, or for `AnyProgrammer` fewer than 5.
@@ -27,7 +27,7 @@ pub enum HandshakeFault<C> {
     #[error("the programmer reads at most {0} bytes in a transaction, and a sector needs 4096")]
     ReadLimit(u32),
     /// The programmer lacks Q_WRNMAXLEN, and its serial buffer, of this size in bytes, is too small for the frame of a
-    /// page program (267 bytes) or, for `AnyProgrammer`, for that of a program of one byte (12 bytes).
+    /// page program (267 bytes) or, for `AnyProgrammer`, for the frame of a program of one byte (12 bytes).
     #[error("the serial buffer of the programmer has {0} bytes, too few for a page program")]
     SmallBuffer(u16),
 }
@@ -71,7 +71,7 @@ impl AnyProgrammer {
         self.name
     }
 
-    /// Returns how many bytes a transaction may send by Q_WRNMAXLEN (2^24: no limit); `longest_part` may be less.
+    /// Returns the greatest number of bytes to send by Q_WRNMAXLEN, or 2^24 without a limit (see also `longest_part`).
     pub fn longest_write(&self) -> u32
         ensures { result ≡ self.now.longest_write }
     {
@@ -113,14 +113,14 @@ impl AnyProgrammer {
 impl Programmer {
     ghost use Rattle.nor_serprog.specs.Programmer.{programmer_name, writes_most, reads_most, buffer_of, frequency_of};
 
-    /// Returns the name of the programmer, as `AnyProgrammer::name` does.
+    /// Returns the name of the programmer, 16 bytes padded with zeros; all zeros if the programmer lacks Q_PGMNAME.
     pub fn name(&self) -> [u8; 16]
         ensures { result ≡ programmer_name self.now }
     {
         self.reported.name
     }
 
-    /// Returns the same replies as an `AnyProgrammer`, for a bus that splits transactions.
+    /// Returns these replies as an `AnyProgrammer`, for a bus that splits transactions.
     pub fn reported(&self) -> &AnyProgrammer
         ensures { result.now ≡ self.now.reported }
     {
@@ -143,14 +143,14 @@ impl Programmer {
         self.reported.longest_read
     }
 
-    /// Returns the size of the serial buffer in bytes, or 0, as `AnyProgrammer::serial_buffer` does.
+    /// Returns the size of the serial buffer in bytes (Q_SERBUF), or 0 if the programmer lacks the query.
     pub fn serial_buffer(&self) -> u16
         ensures { result ≡ buffer_of self.now }
     {
         self.reported.serial_buffer
     }
 
-    /// Returns the clock in hertz that the programmer set, if one was requested.
+    /// Returns the clock in hertz that the programmer set, or `None` if no clock was requested.
     pub fn frequency(&self) -> Option<u32>
         ensures { result ≡ frequency_of self.now }
     {

@@ -24,7 +24,7 @@ impl Wire {
         }
     }
 
-    /// Adds the bytes that a call is asked to send.
+    /// Adds a call of `send`, which was asked to send `bytes`.
     pub fn asked(&mut self, bytes: &[u8])
         ensures asked { asked_on self.new ≡ bytes.now ∷ asked_on self.old }
         ensures received { received_on self.new ≡ received_on self.old }
@@ -32,7 +32,7 @@ impl Wire {
         self.sent = self.sent.replied(bytes, &[]);
     }
 
-    /// Adds the bytes that a call received.
+    /// Adds the bytes that a call of `receive` received.
     pub fn received(&mut self, bytes: &[u8])
         ensures asked { asked_on self.new ≡ asked_on self.old }
         ensures received { received_on self.new ≡ received_on self.old ++ bytes.now }

@@ -13,7 +13,7 @@ abbrev pub Agree : (before after : Option (List ℕ)) → Type 0
 Agree None after = ⊤
 Agree (Some sum) after = after ≡ Some sum
 
--- the nine bytes of an entry: 1 and the sum, or nine bytes 0 if the sector isn't known
+-- the nine bytes of an entry: 1 and the checksum, or nine zero bytes if no checksum is known
 abbrev pub entry_text : Option (List ℕ) → List ℕ
 entry_text None = replicate 9 0
 entry_text (Some sum) = 1 ∷ sum

@@ -1,4 +1,4 @@
-//! The sectors that differ from a table of sums.
+//! Finds the sectors whose checksums differ between two tables.
 ghost use Rattle.std.specs.Prelude.{◌≡◌, ◌<◌, ℕ, false};
 ghost use Rattle.nor_sums.specs.Sums.{Agree, entry_of};
 
@@ -24,7 +24,7 @@ impl Changed {
     }
 }
 
-/// Finds the sectors that are known in `before` and have another sum, or none, in `after`.
+/// Finds the sectors that have a checksum in `before`, and another checksum or none in `after`.
 pub fn find_changed(before: &Sums, after: &Sums) -> Changed
     ensures { result.count ≡ 0 → (s : ℕ) → s < 4096
         → Agree (entry_of before.now.entries.items s) (entry_of after.now.entries.items s) }

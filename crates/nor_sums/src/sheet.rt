@@ -1,4 +1,4 @@
-//! A table of sums with the IDs of its chip, and its encoding.
+//! A table of checksums of a chip's sectors, with the chip's ID and unique ID, and the encoding of this table.
 ghost use Rattle.std.specs.Prelude.{◌≡◌, ◌++◌, IfOk, IfSome, OnOk};
 ghost use Rattle.nor_sums.specs.Sums.{entry_text, sums_text};
 
@@ -13,10 +13,10 @@ const HEADER_LEN: usize = 19;
 
 const ENTRY_LEN: usize = 9;
 
-/// The length in bytes of an encoded table.
+/// The length in bytes of an encoded `Sheet`.
 pub const SHEET_LEN: usize = HEADER_LEN + ENTRY_LEN * SECTORS + 32;
 
-/// A table of sums, and the ID and the unique ID of the chip whose sectors it describes.
+/// A table of checksums of a chip's sectors, with the chip's ID and unique ID.
 #[derive(Drop)]
 pub struct Sheet {
     pub id: [u8; 3],
@@ -24,7 +24,7 @@ pub struct Sheet {
     pub sums: Sums,
 }
 
-/// Replaces the contents of `out` with the encoding of a table. Fails only if `out` must grow and memory runs out.
+/// Replaces the contents of `out` with the encoding of a `Sheet`. Fails only if `out` must grow and memory runs out.
 pub fn encode(
     id: [u8; 3],
     unique: [u8; 8],
@@ -56,7 +56,7 @@ fn push_entry(entry: Option<[u8; 8]>, out: &mut Vec<u8>) -> Result<(), AllocErro
     }
 }
 
-/// Decodes a table. Returns `None` if `bytes` aren't the encoding of a table, and an error if memory runs out.
+/// Decodes a `Sheet`. Returns `None` if `bytes` aren't the encoding of a `Sheet`, and an error if memory runs out.
 pub fn decode(alloc: Global, bytes: &[u8]) -> Result<Option<Sheet>, AllocError>
     ensures { IfOk result (λ found. IfSome found
         (λ sheet. bytes.now ≡ sums_text sheet.id sheet.unique sheet.sums.entries.items)) }
@@ -95,7 +95,7 @@ fn read_fields(alloc: Global, bytes: &[u8]) -> Result<Option<Sheet>, AllocError>
 }
 
 impl Sheet {
-    /// Returns whether the table has the IDs of the journal's chip, and the sum of each sector that the journal saves.
+    /// Returns whether the table has the journal's ID and unique ID, and the checksum of each sector in the journal.
     pub fn fits(&self, journal: &Journal<'_>) -> bool {
         let is_same = journal.id() == self.id && journal.unique() == Some(self.unique);
         is_same

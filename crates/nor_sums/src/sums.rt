@@ -1,14 +1,14 @@
-//! A table of the sums of sectors.
+//! A table of the checksums of a chip's sectors.
 ghost use Rattle.std.specs.Prelude.{◌≡◌, ◌≢◌, ◌<◌, ℕ, IfOk, None, Some, length, slice_get};
 ghost use Rattle.nor_sums.specs.Sums.{entry_of, sum_of};
 
 use sha2::{Digest, Sha256};
 use std::alloc::{AllocError, Global};
 
-/// The number of entries of a table, which is the number of sectors of the largest chip (16 MiB).
+/// The number of entries in a table of checksums, which is the number of sectors of the largest chip (16 MiB).
 pub const SECTORS: usize = 4096;
 
-/// Returns the sum of a sector with these bytes: the first eight bytes of their SHA-256.
+/// Returns the checksum of a sector with these bytes: the first eight bytes of their SHA-256.
 #[tactic(auto, unfolding(crate::specs::Sums::sum_of))]
 pub fn sum_of(bytes: &[u8]) -> [u8; 8]
     ensures { result ≡ sum_of bytes.now }
@@ -19,14 +19,14 @@ pub fn sum_of(bytes: &[u8]) -> [u8; 8]
     sum
 }
 
-/// The sums of a chip's sectors, indexed by the sector's number. A sector that isn't known has `None`.
+/// The checksums of a chip's sectors, indexed by the sector's number. `None` means that the checksum isn't known.
 #[derive(Drop)]
 pub struct Sums {
     pub entries: Vec<Option<[u8; 8]>>,
 }
 
 impl Sums {
-    /// Returns a table in which no sector is known, or an error if memory runs out.
+    /// Returns a table in which no checksum is known, or an error if memory runs out.
     pub fn new(alloc: Global) -> Result<Sums, AllocError>
         ensures { IfOk result (λ sums. length sums.entries.items ≡ 4096) }
     {
@@ -34,7 +34,7 @@ impl Sums {
         Ok(Sums { entries })
     }
 
-    /// Records the sum of a sector with these bytes. Ignores a sector that isn't in the table.
+    /// Records the checksum of a sector with these bytes. Ignores a sector that isn't in the table.
     pub fn record(&mut self, sector: usize, bytes: &[u8])
         ensures size { length self.new.entries.items ≡ length self.old.entries.items }
         ensures here { sector < length self.old.entries.items
@@ -45,7 +45,7 @@ impl Sums {
         self.set(sector, sum_of(bytes));
     }
 
-    /// Sets the sum of a sector. Ignores a sector that isn't in the table.
+    /// Sets the checksum of a sector. Ignores a sector that isn't in the table.
     pub fn set(&mut self, sector: usize, sum: [u8; 8])
         ensures size { length self.new.entries.items ≡ length self.old.entries.items }
         ensures here { sector < length self.old.entries.items
@@ -58,7 +58,7 @@ impl Sums {
         }
     }
 
-    /// Makes a sector unknown. Ignores a sector that isn't in the table.
+    /// Removes the checksum of a sector. Ignores a sector that isn't in the table.
     pub fn forget(&mut self, sector: usize)
         ensures size { length self.new.entries.items ≡ length self.old.entries.items }
         ensures here { sector < length self.old.entries.items

@@ -16,7 +16,7 @@ fn clear_bits(bytes: &mut [u8], from: usize, sent: &[u8])
     }
 }
 
-// Programs `sent` into the page that contains `at`. Only the last 256 bytes of `sent` count, so all others are skipped.
+// Programs `sent` from `at` on, wrapping around in the page of `at`. Only the last 256 bytes of `sent` have an effect.
 pub(crate) fn program(bytes: &mut [u8], at: usize, sent: &[u8])
     requires { at / 256 * 256 + 256 ≤ length bytes.old }
     ensures { HasPageProgrammed at sent.now bytes.old bytes.new }

@@ -6,7 +6,7 @@ use super::cells;
 use nor_geometry::PAGE_LEN;
 use nor_model::{Command, Config, Running, Status, is_protected};
 
-// A simulated chip. `busy` is the number of polls that will still show BUSY; an operation sets it to `each`.
+// A simulated chip. `busy` is the number of polls that will still show BUSY; an operation sets `busy` to `each`.
 #[derive(Drop)]
 pub(crate) struct Flash {
     pub(crate) config: Config,
