@@ -41,7 +41,7 @@ pub fn answer<R: Print + AllocGlobal>(rt: &R) -> Result<(), Fault> {
     Ok(())
 }
 
-// Three sectors, each in an allocation of its own, as in a real program.
+// Three sectors, each in an allocation of its own.
 #[derive(Drop)]
 struct Sectors {
     old: Box<[u8; SECTOR_LEN as usize]>,

@@ -159,7 +159,7 @@ impl Work for Restoring<'_> {
     }
 }
 
-// Inverts the bits `flips` in one byte of the image, and writes it. With 0 the session changes nothing.
+// Inverts the bits `flips` in one byte of the image, and writes the image. With `flips` 0 the session changes nothing.
 #[derive(Drop)]
 struct Touching {
     alloc: Global,

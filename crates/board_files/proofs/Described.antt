@@ -1,4 +1,3 @@
--- If `n` of the first `i` sectors hold only FFh, `n + 1` of the first `i + 1` do if `sector` does, otherwise `n` do.
 use Rattle.std.proofs.Common.{◌≡◌, ◌+◌, ◌<◌, ◌∙◌, ℕ, List, Some, ap, false, length, sym, take, true}
 use Rattle.std.specs.Prelude.{slice_get}
 use Rattle.std.specs.List.{count_by}

@@ -1,4 +1,3 @@
--- Lemmas on the files of a run that changes only one of them.
 use Rattle.std.proofs.Common.{◌≡◌, ap, subst, sym, true}
 use Rattle.nor_files.specs.Files.{AreApart, AreUntouched, FilesState, KeepsFile, Name, OthersStay, View, is_lawful}
 use Rattle.nor_console.proofs.Lent.{stays_on}

@@ -1,4 +1,3 @@
--- Lemmas about the files of the regions, which are checked one after the other.
 use Rattle.std.proofs.Common.{◌≡◌, ℕ, ◌+◌, ◌<◌, ◌∙◌, All, List, arith, get_or, length, subst, sym, take}
 use Rattle.std.specs.List.{AllPairs, Any}
 use Rattle.std.proofs.lemmas.List.{get_or-take, get_or_default, length-take-le, take_more}

@@ -32,7 +32,7 @@ pub record IsImageIn (journal : Content) (image : List ℕ) : Type 0 where
   pub whole : IsWhole journal
   pub bytes : image ≡ saved_image journal
 
--- Holds if the journal doesn't save some sector of its chip, and `fault` has `name` and the number of saved sectors.
+-- Holds if the journal lacks a sector of its chip, and `fault` has `name` and the number of saved sectors.
 pub record IsNotWholeIn (journal : Content) (name : Bor Text) (fault : NotWhole) : Type 0 where
   pub named : fault.name ≡ name
   pub saved : fault.saved ≡ length journal.saved
@@ -77,7 +77,7 @@ FailsToUnpack bytes name fault = FailsAsJournal bytes fault ⊎ FailsInJournal b
 abbrev pub with_unique_and_status : (unique : Option (List ℕ)) → (status : List ℕ) → Content → Content
 with_unique_and_status unique status journal = record journal { unique = unique; status = status }
 
--- The journal without its unique ID (format 1), from which a restore accepts any chip with the journal's ID and size.
+-- The journal without its unique ID (format 1), which a restore accepts for any chip with the journal's ID and size.
 abbrev pub without_unique : Content → Content
 without_unique journal = record journal { unique = None }
 
@@ -100,7 +100,7 @@ FailsToAdapt replaced (task.Verify file regions) bytes fault = FailsToUnpack byt
 FailsToAdapt true (task.Restore journal) bytes fault = FailsToUnpack bytes journal fault
 FailsToAdapt replaced _ bytes fault = ⊥
 
--- Holds for files that obey their contract if `name` is a sealed journal of a whole chip, and `image` has its image.
+-- Holds if `name` is a sealed journal of a whole chip and, if files obey their contract, `image` has the saved bytes.
 pub record IsExtracted (before : View) (name : Text) (after : View) (image : Text) : Type 0 where
   pub journal : Content
   pub sealed : IsSealed before name journal
@@ -108,7 +108,7 @@ pub record IsExtracted (before : View) (name : Text) (after : View) (image : Tex
   pub is : IsImageIn journal bytes
   pub written : is_lawful after ≡ true → after.seen image ≡ Some bytes
 
--- Holds if `name` is a sealed journal and, if `image` names a file, this file has the image in it (`IsExtracted`).
+-- Holds if `name` is a sealed journal. If `image` names a file, `IsExtracted` must hold for this file, too.
 abbrev pub HasDescribed : (before : View) → (name : Text) → (after : View) → (image : Option (Bor Text)) → Type 0
 HasDescribed before name after None = IsSealedIn before name
 HasDescribed before name after (Some image) = IsExtracted before name after image.now

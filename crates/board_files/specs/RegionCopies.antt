@@ -22,12 +22,12 @@ use Rattle.board_files.specs.declared.region_files.RegionFile.{RegionFile}
 abbrev pub part_at : Span → List ℕ → List ℕ
 part_at span bytes = take (span.last + 1 - span.first) (drop span.first bytes)
 
--- Holds if the region lies in `bytes`, and (if files obey their contract) its file has the bytes at its addresses.
+-- Holds if the region lies in `bytes`, and (if files obey their contract) the region's file has this part of `bytes`.
 pub record IsCopied (bytes : List ℕ) (view : View) (region : RegionFile) : Type 0 where
   pub inside : region.span.last < length bytes
   pub same : is_lawful view ≡ true → view.seen region.file.now ≡ Some (part_at region.span bytes)
 
--- Holds if the file of each region has the bytes at the region's addresses in the file `out` (`IsCopied`).
+-- Holds if there are no regions, or the file `out` was read and each region's file has its part of `out` (`IsCopied`).
 abbrev pub AreCopiedFrom : (out : Text) → List RegionFile → View → Type 0
 AreCopiedFrom out [] view = ⊤
 AreCopiedFrom out (first ∷ rest) view = (bytes : List ℕ) × IsRead view out 16777217 bytes
@@ -44,7 +44,7 @@ AreCopiedBy _ _ files view = ⊤
 abbrev pub AreCopied : Operation → List RegionFile → View → Type 0
 AreCopied operation files view = AreCopiedBy operation.is_backup operation.task files view
 
--- Holds if the output of a read is unchanged, provided that files obey their contract. Claims nothing for another task.
+-- Holds if the output of a read is unchanged or files don't obey their contract. Always holds for another task.
 abbrev pub KeepsOutput : Task → (old new : FilesState) → Type 0
 KeepsOutput (task.Read out regions) old new = is_lawful old.view ≡ true → KeepsFile out.now old new
 KeepsOutput _ old new = ⊤

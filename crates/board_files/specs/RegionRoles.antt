@@ -48,7 +48,7 @@ abbrev pub IsApartFromLayout : Nature → (output layout : Option (Bor Text)) �
 IsApartFromLayout nature None layout of = ⊤
 IsApartFromLayout nature (Some output) layout of = AreTwo nature layout (Some of)
 
--- Holds if a region's file is apart from the device, the log and the journal and, for a read, from layout and output.
+-- Holds if a region's file is apart from the device, the log, the journal and, for a read, the layout and the output.
 pub record HasOneRole (nature : Nature) (device : Bor Text) (log : Option (Bor Text)) (named : FileNames)
     (of : Bor Text) : Type 0 where
   pub from_device : AreTwo nature (Some device) (Some of)
@@ -98,7 +98,7 @@ FailsRegionRoles nature device job log files fault =
     Any (λ region. FailsFileRole nature device log (named_by job) region.file fault) files
     ⊎ FailsDistinctIf nature (named_by job).output files fault
 
--- Holds for the fault that `files` can't be copied from the output, because reading the output may fail.
+-- Holds for `NotReadBack` if there are files of regions, and reading the output may fail.
 abbrev pub IsNotReadBack : Nature → (output : Option (Bor Text)) → List RegionFile → RegionFault → Type 0
 IsNotReadBack nature (Some output) files (wrong.NotReadBack name) =
     (name ≡ output) × (¬ files ≡ []) × (nature.fails (Unread output.now) ≡ true)

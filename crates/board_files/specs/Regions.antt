@@ -1,4 +1,4 @@
--- The regions of `-i` that have a file of their own (`NAME:FILE`), and an image with the bytes of these files.
+-- The regions of `-i` with a file of their own (`NAME:FILE`), and the replacement of an image's bytes by these files.
 use Rattle.std.specs.Prelude.{◌≡◌, ◌≢◌, ◌⊎◌, ◌++◌, ◌+◌, ◌≤◌, ◌<◌, ◌==◌, ℕ, All, List, [], ◌∷◌, Option, None, Some}
 use Rattle.std.specs.Prelude.{drop, length, map, option_map, take}
 use Rattle.std.specs.Borrow.{Bor}
@@ -45,14 +45,14 @@ files_in text = filter_map pair_in (entries_of text)
 abbrev pub with_names : Bor Text → Regions → Regions
 with_names names regions = record { layout = regions.layout; form = regions.form; names = names }
 
--- Holds if `span` has the addresses of the region `name`. `shown` holds the bytes of a layout on the chip.
+-- Holds if `span` has the addresses of the region `name`. `shown` has the bytes of the layout if it is on the chip.
 abbrev pub IsSpanOf : View → (shown : Option (List ℕ)) → Regions → Bor Text → Span → Type 0
 IsSpanOf view shown regions name span = AreRangesOf view shown (Some (with_names name regions)) (Some (span ∷ []))
 
 abbrev pub named_file : RegionFile → Text × Text
 named_file region = (region.name.now, region.file.now)
 
--- Holds if `files` lists the regions of `-i` that have a file, in this order, each with its addresses.
+-- Holds if `files` lists the regions of `-i` that have a file, in the order of `-i`, each with its addresses.
 pub record AreFilesOf (view : View) (shown : Option (List ℕ)) (regions : Regions) (files : List RegionFile)
     : Type 0 where
   pub entries : map named_file files ≡ files_in regions.names.now
@@ -76,7 +76,7 @@ abbrev pub FailsToFindFiles : View → (shown : Option (List ℕ)) → Regions �
 FailsToFindFiles view shown regions fault =
     (fault ≡ end.Refused Memory) ⊎ ((name : Bor Text) × FailsToFindSpan view shown regions name fault)
 
--- Holds if `new` is `old`, but has the bytes of the region's file at the region's addresses.
+-- Holds if `new` is `old`, but with the bytes of the region's file, which must fit, at the region's addresses.
 pub record IsReplaced (view : View) (region : RegionFile) (old new : List ℕ) : Type 0 where
   pub content : List ℕ
   pub read : IsRead view region.file.now 16777217 content
@@ -90,7 +90,7 @@ AreReplaced view [] old new = new ≡ old
 AreReplaced view (region ∷ rest) old new =
     (next : List ℕ) × IsReplaced view region old next × AreReplaced view rest next new
 
--- Holds for file fault 3 of a file that is longer or shorter than its region.
+-- Holds if the region's file has `found` bytes, but the region has another number of bytes (`wanted`).
 pub record HasOtherLength (view : View) (region : RegionFile) (name : Bor Text) (found wanted : ℕ) : Type 0 where
   pub named : name ≡ region.file
   pub content : List ℕ

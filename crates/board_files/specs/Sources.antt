@@ -73,13 +73,13 @@ abbrev pub IsThere : View → JournalUse → Fault → Type 0
 IsThere view (uses.Journal name) (end.File file.Exists of cause) = (of.now ≡ name.now) × Happens view (There name.now)
 IsThere view _ fault = ⊥
 
--- Holds for file fault 4 of a change whose journal exists already, or for the fault of a restore's invalid journal.
+-- Holds for file fault 4 of a change whose journal may exist, or for the fault of a restore's invalid journal.
 abbrev pub FailsCheck : View → Task → Fault → Type 0
 FailsCheck view (task.Change change) fault = IsThere view change.journal_use fault
 FailsCheck view (task.Restore journal) fault = IsInvalid view journal.now fault
 FailsCheck view _ fault = ⊥
 
--- Holds if `bytes` were read from the job's image or journal, or are empty because the job has neither.
+-- Holds if `bytes` are the contents of the job's image or journal, or are empty because the job reads neither.
 abbrev pub AreBytes : View → Task → List ℕ → Type 0
 AreBytes view (task.Verify file regions) bytes = IsRead view file.now 16793662 bytes
 AreBytes view (task.Change change) bytes = IsImage view change.wanted bytes
@@ -101,7 +101,8 @@ pub record AreUsed (view : View) (replaced : Bool) (job : Task) (whole : List �
   pub read : AreBytes view job found
   pub adapted : AreAdapted replaced job found whole
 
--- Holds if `bytes` are those of `AreUsed`, but an image has the bytes of each region's file at the region's addresses.
+-- Holds if `bytes` are the contents of the job's image or journal, adapted (`AreAdapted`). In an image, each region
+-- that has a file has the bytes of this file instead.
 pub record ArePreparedBytes (view : View) (is_replaced : Bool) (job : Task) (files : List RegionFile)
     (bytes : List ℕ) : Type 0 where
   pub whole : List ℕ
@@ -133,7 +134,7 @@ ArePlainNames (Some regions) names = names ≡ names_in regions.names.now
 abbrev pub named_regions : Bor Text → Task → Option Regions
 named_regions names job = option_map (with_names names) (regions_of job)
 
--- Holds if `ranges` has the addresses of the job's regions, and `files` lists the regions that have a file.
+-- Holds if `ranges` has the addresses of the job's regions, and `files` lists the regions with files of their own.
 pub record AreJobRegions (view : View) (shown : Option (List ℕ)) (job : Task) (files : List RegionFile)
     (ranges : Option (List Span)) : Type 0 where
   pub names : Bor Text
@@ -151,7 +152,7 @@ ends_with_image operation (task.Verify file regions) = true
 ends_with_image operation (task.Change change) = is_compared operation change && writes_image change.wanted
 ends_with_image operation _ = false
 
--- Holds if the bus expects no image, or if it expects `bytes` and the job ends with a comparison with this image.
+-- Holds for `None`, or for `bytes` if the job ends with a comparison of the chip with an image.
 abbrev pub MayExpectImage : Operation → (bytes : List ℕ) → Option (List ℕ) → Type 0
 MayExpectImage operation bytes None = ⊤
 MayExpectImage operation bytes (Some image) = (ends_with_image operation operation.task ≡ true) × (image ≡ bytes)

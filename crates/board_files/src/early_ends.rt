@@ -1,4 +1,4 @@
-//! The reasons why the files of a job can't be used, and the lines that are printed for these.
+//! The reasons why a run ends before its job starts, and the lines that are printed for these reasons.
 ghost use Rattle.std.specs.Prelude.{◌≡◌};
 
 use crate::images::NotWhole;
@@ -7,13 +7,13 @@ use crate::region_faults::RegionFault;
 use nor_console::Fault;
 use std::fmt;
 
-/// The reason why a run ends before its job starts, except the faults of its programmer.
+/// The reason why a run ends before its job starts, except faults of the programmer.
 #[derive(Drop)]
 pub enum EarlyEnd<'a> {
     Fault(Fault<'a>),
     Region(RegionFault<'a>),
     NotWhole(NotWhole<'a>),
-    /// Layout fault 8: no region in `known` has this name, which `-i` contains.
+    /// Layout fault 8: `-i` contains this name, but no region in `known` has it.
     NoRegion { name: &'a str, known: NamesLine<'a> },
 }
 

@@ -1,4 +1,4 @@
-//! The exit status after results or a fault were printed.
+//! The exit status of a run that has printed results or a fault.
 ghost use Rattle.std.specs.Prelude.{◌≡◌, ◌≤◌, IsOk};
 
 use crate::file_hints::reason_hint;

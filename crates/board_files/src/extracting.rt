@@ -1,4 +1,4 @@
-//! Writes the image in the journal of a whole chip into a file, for `--extract-image`. No programmer is used.
+//! Writes the image from a journal of a whole chip to a file (`--extract-image`). No programmer is used.
 ghost use Rattle.std.specs.Prelude.{◌≡◌, ◌≤◌, IfOk, true};
 ghost use Rattle.nor_files.specs.Files.{OthersStay, is_lawful};
 ghost use Rattle.board_files.specs.Images.{IsExtracted};
@@ -15,7 +15,7 @@ use nor_jobs::journal_in;
 use std::io;
 use std::io::Write;
 
-/// Extracts the image in the journal `name` into the file `image`, which is created or truncated, but not synced.
+/// Extracts the image from the journal `name` to the file `image`, which is created or truncated, but not synced.
 /// Prints the description of the journal to `output` and returns exit status 0. If the journal is invalid or lacks a
 /// sector, a file can't be used, memory runs out or printing fails, prints the fault to `errors` and returns 1.
 pub fn extract_image<R: Store, O: Write, E: Write>(

@@ -1,4 +1,4 @@
-//! The line that follows the line of a file fault or of error 15, and of an error of a file that is being written.
+//! The line of advice that follows the line of a file fault, of error 15, or of an error while a file is written.
 
 use crate::journals::advice;
 use nor_console::{Cause, Fault, FileFault, SystemReason};

@@ -122,7 +122,7 @@ fn is_blank(bytes: &[u8]) -> bool
     bytes.iter().all(|byte| *byte == 0xFF)
 }
 
-/// Returns the line that says what to do about a fault of a journal.
+/// Returns the advice for a fault of a journal, as one line.
 pub fn advice(fault: JournalFault) -> &'static str {
     match fault {
         JournalFault::Short => {

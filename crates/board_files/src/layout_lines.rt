@@ -1,4 +1,4 @@
-//! The lines of a fault of a layout: what is wrong with its table, and which regions it has.
+//! The lines of a fault of a layout: what is wrong with the layout's table, and which regions the layout has.
 
 use crate::region_files::regions_of;
 use nor_args::{LayoutForm, Regions, Task};
@@ -8,7 +8,7 @@ use nor_maps::MapFault;
 use std::fmt;
 use std::str::from_utf8;
 
-/// The lines for a fault of a flash descriptor, whose entries count from 0, or of an FMAP, whose areas count from 1.
+/// The lines for a fault of a flash descriptor or of an FMAP.
 #[derive(Clone, Copy, Drop)]
 pub struct MapLines {
     fault: MapFault,
@@ -81,7 +81,7 @@ fn text_of_region(fault: RegionFault) -> &'static str {
     }
 }
 
-/// The line with the names of a layout's regions. If it would be long, it has the first names and counts the others.
+/// The line with the names of a layout's regions. A long line has only the first names, and the number of the others.
 #[derive(Drop)]
 pub struct NamesLine<'a> {
     /// The name of the file with the layout, or `None` if the layout is on the chip.
@@ -89,7 +89,7 @@ pub struct NamesLine<'a> {
     pub layout: Layout,
 }
 
-// The number of bytes after which `NamesLine` prints only how many more regions there are.
+// The number of bytes of names after which `NamesLine` prints only the number of further regions.
 const MOST_NAMES: usize = 200;
 
 impl fmt::Display for NamesLine<'_> {

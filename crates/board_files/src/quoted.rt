@@ -1,13 +1,14 @@
-//! Names of files in commands that you may copy.
+//! Names of files in printed commands that a user may copy.
 use std::fmt;
 
-/// The name of a file as one argument of a POSIX shell: in single quotes if it is empty or has other characters than
-/// ASCII letters, digits and `./_-+,=`. A name that begins with `-` gets the prefix `./`, so it isn't an option.
+/// The name of a file as one argument of a POSIX shell: in single quotes if the name is empty or has other characters
+/// than ASCII letters, digits and `./_-+,=`. A name that begins with `-` gets the prefix `./`, so it isn't an option.
 #[derive(Clone, Copy, Drop)]
 pub struct Quoted<'a>(&'a str);
 
 impl<'a> Quoted<'a> {
-    /// Returns the argument, or `None` if `name` can't be copied, because it has a control or directional character.
+    /// Returns `name` as an argument, or `None` if `name` has a control character or a directional character, which a
+    /// user can't copy from the screen.
     pub fn new(name: &'a str) -> Option<Quoted<'a>> {
         if name.chars().all(|character| is_printed(character)) {
             Some(Quoted(name))

@@ -17,7 +17,7 @@ use nor_journal::Vault;
 use nor_layout::Span;
 use std::io::ErrorKind;
 
-/// Returns true for a read that isn't a backup. No other operation writes the files of regions.
+/// Returns whether the operation is a read, but not a backup. Only such an operation writes the files of regions.
 pub fn reads_out(operation: &Operation<'_>) -> bool
     ensures { result ≡ reads_out operation.now.is_backup operation.now.task }
 {
@@ -25,10 +25,10 @@ pub fn reads_out(operation: &Operation<'_>) -> bool
 }
 
 /// Copies the bytes of each region from the output of a successful read to the region's file, which is created or
-/// truncated. Does nothing for a backup or another task. Just before a file is written, it is compared again with the
-/// log, the output and the files of earlier regions, because its name may be a link to a file that this run created.
+/// truncated. Does nothing for a backup or another task. Before writing each file, checks again that this file is apart
+/// from the log, the output and the files of earlier regions, because this run may have created the target of a link.
 /// Returns:
-/// - file fault 5 if a file of a region has a second role by now, or file fault 1 if a name can't be looked up
+/// - file fault 5 if the file of a region isn't apart from these files, or file fault 1 if a name can't be looked up
 /// - a fault of `read_file` for the output, or file fault 1 if the output ends before the end of a region
 /// - a fault of `write_file`
 pub fn write_region_files<'a, R: Store>(
@@ -113,8 +113,8 @@ fn unwritten_cause<R: Store>(rt: &R) -> Cause {
     }
 }
 
-/// Returns the reason for the last failed write or sync of the vault that was returned last to `files`. Returns `None`
-/// if none failed, or if the vault's file was removed or replaced or has another length (`NotFound`).
+/// Returns the reason for the last failed write or sync of the vault that was last returned to `files`. Returns `None`
+/// if no write or sync failed, or if the vault's file was removed or replaced or has another length (`NotFound`).
 pub fn unwritten_by<R: Store>(files: &R) -> Option<SystemReason> {
     let error = files.vault_error()?;
     match error.kind() {

@@ -1,4 +1,4 @@
-//! The faults of regions with a file of their own, and their lines.
+//! The faults of regions with a file of their own, and the lines of these faults.
 
 use nor_args::UsageFault;
 use nor_console::{Escaped, FileFault};
@@ -17,7 +17,7 @@ pub enum RegionFault<'a> {
     NotReadBack {
         output: &'a str,
     },
-    /// File fault 3: the file has `found` bytes (at most 16,777,217 are counted), but its region has `wanted`.
+    /// File fault 3: the file has `found` bytes (at most 16,777,217 are counted), but the region has `wanted` bytes.
     Length {
         file: &'a str,
         found: usize,

@@ -1,5 +1,5 @@
-//! The regions of `-i` that have a file of their own (`NAME:FILE`): finds them, and replaces bytes of an image with
-//! those of their files.
+//! Finds the regions of `-i` that have a file of their own (`NAME:FILE`), and replaces the bytes of an image by the
+//! contents of these files.
 ghost use Rattle.std.specs.Prelude.{◌≡◌, IfErr, IfOk, OnOk, Some, length, map, option_map, string_bytes};
 ghost use Rattle.board_files.specs.Regions.{AreFilesIn, AreFilesOf, AreReplaced, FailsToFindFiles};
 ghost use Rattle.board_files.specs.Regions.{FailsToFindSpan, FailsToReplace, FailsToReplaceOne, IsReplaced};
@@ -37,7 +37,7 @@ pub fn regions_of<'a>(task: &Task<'a>) -> Option<Regions<'a>>
     }
 }
 
-/// Returns the regions to which a task is limited, with the names `names` in place of the value of `-i`.
+/// Returns the regions to which a task is limited, with `names` in place of the value of `-i`.
 pub fn named_regions<'a>(task: &Task<'a>, names: &'a str) -> Option<Regions<'a>>
     ensures { result ≡ named_regions names.entry task.now }
 {
@@ -89,8 +89,8 @@ fn pair_in(entry: &str) -> Option<(&str, &str)>
     entry.split_once(':')
 }
 
-/// Returns the regions of a task that have a file, in the order of `-i`. `shown` holds the bytes of a layout on the
-/// chip. Returns a fault of `read_included` for one of these regions, or error 18 if memory runs out.
+/// Returns the regions of a task that have a file, in the order of `-i`. `shown` has the bytes of the layout if it is
+/// on the chip. Returns a fault of `read_included` for one of these regions, or error 18 if memory runs out.
 pub fn find_region_files<'a, R: Store>(
     rt: &R,
     task: &Task<'a>,
@@ -151,9 +151,9 @@ fn find_span<'a, R: Store>(
     }
 }
 
-/// Replaces the bytes at each region's addresses in `bytes`, read from the file `image`, by those of the region's file.
-/// If regions overlap, the later file wins. Returns file fault 3 if the length of a file isn't that of its region, or
-/// if the image ends before the end of a region. Also returns the faults of `read_file`.
+/// Replaces the bytes at each region's addresses in `bytes`, the image in the file `image`, by the contents of the
+/// region's file. If regions overlap, the later file wins. Returns file fault 3 if a file is longer or shorter than its
+/// region, or if the image ends before the end of a region. Also returns the faults of `read_file`.
 pub fn replace_regions<'a, R: Store>(
     rt: &R,
     image: &'a str,

@@ -164,7 +164,7 @@ fn are_no_journals<'a, R: Store>(
     Ok(())
 }
 
-// A FIFO or a character device isn't read, because a read of it may block.
+// A FIFO or a character device isn't read, because such a read may block.
 fn is_no_journal<'a, R: Store>(rt: &R, name: &'a str) -> Result<(), Fault<'a>>
     ensures { IfErr result (FailsOldFile (R.state rt.now).view name.entry) }
 {

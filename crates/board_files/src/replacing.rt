@@ -16,8 +16,8 @@ use sha2::{Digest, Sha256};
 use std::alloc::{AllocError, Global};
 use std::io::Write;
 
-/// Returns the bytes that the task uses in place of `bytes`, the contents of its file: for `-v` those of `unpacked`,
-/// for a restore if `is_replaced` the journal without its unique ID, otherwise `bytes`. In the first two cases, returns
+/// Returns the bytes that the task uses in place of `bytes`, the contents of its file: for `-v` with a journal its
+/// image, for a restore with `is_replaced` the journal without its unique ID, otherwise `bytes`. May return
 /// error 15 for an invalid journal, `NotWhole` if the journal lacks a sector, or error 18 if memory runs out.
 pub fn adapted<'a>(
     alloc: Global,
@@ -35,7 +35,7 @@ pub fn adapted<'a>(
     }
 }
 
-/// Prints what `--replaced-chip` does, if the operation has this option.
+/// Prints a line about the effect of `--replaced-chip`, if the operation has this option.
 pub fn print_replaced<E: Write>(errors: &mut E, operation: &Operation<'_>) {
     if operation.is_replaced_chip {
         let _ = writeln!(errors, "{REPLACES}");
@@ -58,7 +58,7 @@ fn for_any_device<'a>(alloc: Global, name: &'a str, bytes: &[u8]) -> Result<Vec<
     }
 }
 
-/// Returns the encoding of `journal` with this status (status 1 first) in place of its own. Fails if memory runs out.
+/// Returns the encoding of `journal` with other status bytes (status 1 first). Fails if memory runs out.
 pub fn encode_with_status(
     alloc: Global,
     journal: &Journal<'_>,

@@ -1,4 +1,4 @@
-//! Checks that neither the device nor a file that a run writes has a second role in it.
+//! Checks that neither the device nor a file that a run writes has a second role in the run.
 ghost use Rattle.std.specs.Prelude.{IfErr, OnOk};
 ghost use Rattle.board_files.specs.Sources.{FailsLogRole, FailsRoles, HasOwnLog, HaveOneRole};
 
@@ -6,9 +6,9 @@ use nor_args::{Operation, Task};
 use nor_console::{Fault, FileNames, are_two_files, named_by, unprinted};
 use nor_files::Store;
 
-/// Checks that the device and the files of the task (`named_by`) are apart, except that layout and image may be one
-/// file, and that the program doesn't print to the output or the journal. Returns file fault 5 with the name of the
-/// file that has a second role, or file fault 1 if a name can't be looked up.
+/// Checks that the device and the files of the task (`named_by`) are apart, but lets the layout and the image be one
+/// file. Also checks that the program doesn't print to the output or the journal. Returns file fault 5 with the name of
+/// the file that has a second role, or file fault 1 if a name can't be looked up.
 pub fn have_one_role<'a, R: Store>(
     rt: &R,
     device: &'a str,
@@ -35,8 +35,8 @@ pub fn have_one_role<'a, R: Store>(
     unprinted(rt, journal)
 }
 
-/// Checks that the log is apart from the device and the job's files, and that the program doesn't print to it. Returns
-/// file fault 5 with the name of the log, or file fault 1 if a name can't be looked up.
+/// Checks that the log is apart from the device and the job's files, and that the program doesn't print to the log.
+/// Returns file fault 5 with the name of the log, or file fault 1 if a name can't be looked up.
 pub fn has_own_log<'a, R: Store>(
     rt: &R,
     device: &'a str,

@@ -16,9 +16,9 @@ use nor_files::Store;
 use nor_jobs::{Sources, journal_in, read_image};
 use nor_layout::Ranges;
 
-/// Returns a copy of the image of `-v`, or of `-w` without `-n` and `-N`, for a bus that reads only those sectors twice
-/// that differ from this image. Returns `None` for any other job, or if memory runs out. If `-w` misreads a sector as
-/// equal and skips it, the comparison at the end detects this, unless it misreads the sector in the same way.
+/// Returns a copy of the image of `-v`, or of `-w` without `-n` and `-N`, for a bus that reads a sector twice only
+/// if the first reply differs from this image. Returns `None` for any other job, or if memory runs out. If `-w` skips
+/// a sector that it misread as equal, the final comparison detects this, unless the sector is misread again.
 pub fn image_of(sources: &Sources, operation: &Operation<'_>) -> Option<Vec<u8>>
     ensures { MayExpectImage operation.now sources.now.bytes.items (option_map (λ image. image.items) result) }
 {
@@ -41,8 +41,8 @@ fn ends_with_image(operation: &Operation<'_>) -> bool
     }
 }
 
-/// Reads and checks the image or the journal of a task, adapts it (`adapted`), and replaces the bytes of `regions` in
-/// an image. `included` has the addresses of all regions, and `is_replaced` is true with `--replaced-chip`. Returns a
+/// Reads and checks the image or the journal of a task, adapts the bytes (`adapted`), and replaces those of `regions`
+/// in an image. `included` has the addresses of all regions. `is_replaced` is true with `--replaced-chip`. Returns a
 /// fault of `read_file`, `read_journal`, `adapted` or `replace_regions`, error 15 for an invalid journal of a restore,
 /// or file fault 4 if the journal of a change already exists.
 pub fn prepare_sources<'a, R: Store>(

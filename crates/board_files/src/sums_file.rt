@@ -35,7 +35,7 @@ pub fn noting_journal<'a>(operation: &Operation<'a>) -> Option<&'a str> {
 }
 
 /// Returns false and prints file fault 4 if a write or an erase has a new journal whose sums file exists already.
-/// Otherwise returns true, even if the journal exists too (its own fault is printed later), or if memory runs out.
+/// Otherwise returns true, even if the journal exists too (which is reported later), or if memory runs out.
 pub fn is_new<R: Store, E: Write>(files: &R, operation: &Operation<'_>, errors: &mut E) -> bool {
     let Some(journal) = noting_journal(operation) else {
         return true;
@@ -61,11 +61,11 @@ pub enum Before {
     Unwritten,
     /// The file is missing, and the journal saves a sector.
     Missing,
-    /// The file can't be read, has other contents than a session writes, or memory ran out.
+    /// The file can't be read or has other contents than a session writes, or memory ran out.
     Damaged,
-    /// The file was written for another journal: its ID, its unique ID or its sum of a saved sector differs.
+    /// The file was written for another journal: the ID, the unique ID or the checksum of a saved sector differs.
     Other,
-    /// The sums of the sectors that the journal doesn't save, from before the session.
+    /// The checksums of sectors that the journal doesn't save, from before the session.
     Known(Sums),
 }
 
@@ -111,7 +111,7 @@ fn before_of(sheet: Sheet, journal: &Journal<'_>) -> Before {
     Before::Known(sums)
 }
 
-/// The line that a restore prints if it lacks the sums. `journal` is the name of its journal, and `why` the reason.
+/// The line that a restore prints if it lacks the checksums. `journal` names its journal, and `why` is the reason.
 #[derive(Clone, Copy, Drop)]
 pub struct UnknownLine<'a> {
     pub journal: &'a str,
@@ -130,7 +130,7 @@ impl fmt::Display for UnknownLine<'_> {
 }
 
 impl Before {
-    /// Returns why the sums are lacking, or `None` if they are known or not needed.
+    /// Returns why the checksums are lacking, or `None` if they are known or not needed.
     pub fn why_unknown(&self) -> Option<&'static str> {
         match self {
             Before::Missing => Some("is missing"),

@@ -1,24 +1,24 @@
-//! The state in which a job that failed left the chip.
+//! The state of the chip after a job that failed.
 
 use board_files::Quoted;
 use nor_console::Escaped;
 use std::fmt;
 
-/// The state in which a job that failed left the chip. It is displayed as at most two sentences, each after a space.
+/// The state of the chip after a job that failed, displayed as at most two sentences, each after a space.
 #[derive(Clone, Copy, Drop)]
 pub enum ChipAfter<'a> {
     Reading,
-    /// A session that sent no modifying command.
+    /// The job was a session that sent no modifying command.
     Unchanged,
-    /// A session that may have sent a modifying command, or a restore. `journal` can restore the chip.
+    /// The job was a restore, or a session that may have sent a modifying command. `journal` names the journal's file.
     Changed {
         journal: Option<&'a str>,
-        /// True for a session with `--unlock` that may have lifted the chip's protection.
+        /// True if a session with `--unlock` may have lifted the chip's protection.
         may_be_unprotected: bool,
     },
-    /// A session or a restore that succeeded. Only the comparison after it failed.
+    /// The session or the restore succeeded. Only the comparison afterwards failed.
     Completed,
-    /// A change of SRP0 that may have sent its status write, so SRP0 may have either value.
+    /// The job was a change of SRP0 that may have sent its status write, so SRP0 may have either value.
     EitherLock,
 }
 

@@ -1,4 +1,4 @@
-//! How a printed line names a chip: by its name and its ID.
+//! The texts that name a chip in printed lines.
 
 use nor_probe::{ChipName, part_for};
 use std::fmt;
@@ -17,7 +17,7 @@ impl fmt::Display for ChipText {
     }
 }
 
-/// The sentence that says which chip is connected. For a chip without a row, it also says which name `-c` needs.
+/// The sentence that says which chip is connected and, if the table of chips lacks it, which name `-c` needs.
 #[derive(Clone, Copy, Drop)]
 pub struct Connected(pub [u8; 3]);
 

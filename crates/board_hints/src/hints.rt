@@ -1,4 +1,4 @@
-//! The line that follows the line of a fault: what to do, what was found and expected, or where the regions are.
+//! The line that follows the line of a fault: advice, what was found and expected, or which file has the regions.
 
 use crate::chip_after::ChipAfter;
 use crate::chip_names::{ChipText, Connected, Hex};
@@ -12,7 +12,7 @@ use nor_session::Refusal;
 use std::fmt;
 use std::io::Write;
 
-/// The facts about a chip and a job that the line after a fault may need.
+/// The facts about a chip and a job that may be printed in the line after the line of a fault.
 #[derive(Clone, Copy, Drop)]
 pub struct Circumstances<'a> {
     pub saved: Option<Saved>,
@@ -20,7 +20,7 @@ pub struct Circumstances<'a> {
     /// True if the chip's SFDP says that its pages have fewer than 256 bytes.
     pub has_small_pages: bool,
     pub left: ChipAfter<'a>,
-    /// The reason why the last write or sync of the journal or the output failed, if this is known.
+    /// The system's reason why a write or sync of the journal or of the output failed, if known.
     pub unwritten: Option<SystemReason>,
     pub farthest: Option<Farthest<'a>>,
 }
@@ -178,7 +178,7 @@ fn found_and_expected<'a>(
 
 const PROTECTION: u8 = 0x7C;
 
-// Returns the parts of the line after error 14 that precede and follow the command that restores the chip.
+// Returns two parts of the line that follows the line of error 14: before and after the advice how to restore the chip.
 fn advice_on_difference(task: &Task<'_>) -> [&'static str; 2] {
     match task {
         Task::Restore { .. } => [".", IF_AGAIN],
@@ -203,10 +203,10 @@ const IF_AGAIN: &str =
     " If error 14 occurs again, disconnect all power from the chip, and restore with --quick, then from a backup \
     without --quick: its erases may be others.";
 
-// Returns the advice after error 17 for a chip with the status `found`:
-// - The chip has no row, and bits 2 to 5 of status 1 differ: nothing, because these bits may protect sectors.
-// - The chip has a row, and SRP0 differs, but not SRP1: set or clear SRP0 as in the journal.
-// - The chip has a row, SRP1 differs, but not SRP0, and the journal has both clear: disconnect the chip from power.
+// Returns the advice after error 17 for a chip with the status `found`, which differs from the journal's status:
+// - Without a row in the table of chips, if bits 2 to 5 of status 1 differ: none, as these bits may protect sectors.
+// - With a row, if SRP0 differs, but SRP1 doesn't: set or clear SRP0 as in the journal.
+// - With a row, if SRP1 is set in the chip, but not in the journal, and SRP0 is clear in both: disconnect the power.
 // - Otherwise: write an image.
 fn lock_advice(saved: &Saved, found: [u8; 2]) -> &'static str {
     if part_for(true, saved.id).is_none() {
@@ -240,7 +240,7 @@ enum Hint<'a> {
     Unknown {
         id: [u8; 3],
     },
-    // The check before the job found a device that has an ID (9Fh), but neither status 1 nor SFDP.
+    // A device was found that has an ID, but neither status 1 nor an SFDP.
     NoStatus,
     Uneven {
         id: [u8; 3],

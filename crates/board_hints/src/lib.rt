@@ -1,4 +1,4 @@
-//! The line that follows the line of a fault of a job: what to do, or what was found and expected.
+//! The line that follows the line of a job's fault: advice, what was found and expected, or where the regions are.
 #![tactic(auto)]
 
 mod chip_after;

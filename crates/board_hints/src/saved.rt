@@ -1,4 +1,4 @@
-//! The facts about a chip that its journal contains, for the lines that follow a fault.
+//! The facts about a chip that its journal contains, for the lines that follow the line of a fault.
 
 use nor_journal::Journal;
 
@@ -14,7 +14,7 @@ pub struct Saved {
 }
 
 impl Saved {
-    /// Returns what the journal with these bytes says about its chip, or `None` if they are no journal.
+    /// Returns the facts about the chip in the journal with these bytes, or `None` if the bytes are no valid journal.
     pub fn read(bytes: &[u8]) -> Option<Saved> {
         match Journal::read(bytes) {
             Ok(journal) => Some(Saved {

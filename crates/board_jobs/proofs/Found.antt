@@ -41,7 +41,6 @@ module _ {T : Type 0} (P : T → Type 0) (Q : Refusal → Type 0) where
   passes_err (Ok found) result returned is = rw returned tt
   passes_err (Err refusal) result returned is = rw returned (refusal, is, refl)
 
--- Holds for the faults that may occur while the target of a change is made.
 abbrev IsBefore : JobFault → Type 0
 IsBefore (ended.Fault fault) = ⊤
 IsBefore (ended.Protected byte id) = ⊤

@@ -28,7 +28,6 @@ names_other opcode at other differs (first ∷ x ∷ []) is = refl
 names_other opcode at other differs (first ∷ x ∷ y ∷ []) is = refl
 names_other opcode at other differs (first ∷ x ∷ y ∷ z ∷ rest) is = grind (arith, nat_tests)
 
--- Holds if the sectors below `to` that the journal doesn't save were read, and `bytes` has the last replies.
 pub record HasReadUp (journal : Journal) (to : ℕ) (bytes : List ℕ) (old new : BusState) : Type 0 where
   pub reads : ℕ
   pub few : reads ≤ to

@@ -10,8 +10,6 @@ abbrev pub AreNameLines : Answer → List ℕ → Type 0
 AreNameLines (answer.Found found) text = text ≡ name_line found.name
 AreNameLines found text = AreLines found text
 
--- Holds if `text` is what a run prints for this answer: its lines and the line `further` or, with `--flash-name`
--- (`named` is true), the name of the chip that was found.
 abbrev pub AreLinesBy : (named : Bool) → Further → Answer → List ℕ → Type 0
 AreLinesBy true further found text = AreNameLines found text
 AreLinesBy false further found text = (lines : List ℕ) × AreLines found lines × (text ≡ lines ++ further_line further)

@@ -12,14 +12,15 @@ use Rattle.board_jobs.specs.BoardBits.{fitted_to, may_stay}
 use Rattle.board_jobs.specs.Sends.{KeepsSent}
 use Rattle.board_jobs.specs.StatusLocks.{ReadsStatus}
 
--- Holds if the status was read, `may_stay` is true for it, and `bytes` encode the fitted journal.
+-- Holds if the status was read as `found`, for which `may_stay` is true, and `bytes` encode the fitted journal.
 pub record IsEncodedFor (journal : Journal) (old new : BusState) (bytes : List ℕ) : Type 0 where
   pub found : List ℕ
   pub shows : ReadsStatus old new found
   pub stays : may_stay journal.status found ≡ true
   pub encoded : bytes ≡ text (fitted_to found journal)
 
--- Holds if the status was read, `may_stay` is true for it, and a restore from the fitted journal was run.
+-- Holds if the status was read as `found`, for which `may_stay` is true, and then a restore from the fitted journal had
+-- this outcome.
 pub record HasRestoredFitted (quick : Bool) (named : Option ChipName) (journal : Journal) (old new : BusState)
     (outcome : Result Answer Refusal) : Type 0 where
   pub read : BusState
@@ -28,8 +29,8 @@ pub record HasRestoredFitted (quick : Bool) (named : Option ChipName) (journal :
   pub stays : may_stay journal.status found ≡ true
   pub restored : HasRestoredNamed quick named (fitted_to found journal) read new outcome
 
--- Holds for error 17 (`restore_fitting` lists the cases), 18 (out of memory), 12 (the bus stopped) or 13 (the chip
--- stayed busy) if there is no fitted journal. No modifying command was sent.
+-- Holds for error 17 (a status bit differs), 18 (out of memory), 12 (the bus stopped) or 13 (the chip stayed busy), if
+-- no modifying command was sent.
 abbrev pub FailsToFit : (old new : BusState) → Refusal → Type 0
 FailsToFit old new StatusDiffers = KeepsSent old new
 FailsToFit old new Memory = KeepsSent old new
@@ -42,14 +43,12 @@ abbrev pub HasRestoredAgain : (quick : Bool) → Option ChipName → Journal →
 HasRestoredAgain quick named journal old new outcome = HasRestoredFitted quick named journal old new outcome
     ⊎ ((refusal : Refusal) × FailsToFit old new refusal × (outcome ≡ Err refusal))
 
--- Holds if a first restore returned error 17, and the second attempt (`HasRestoredAgain`) had this outcome.
 pub record HasBeenRefused (quick : Bool) (named : Option ChipName) (journal : Journal) (old new : BusState)
     (outcome : Result Answer Refusal) : Type 0 where
   pub refused : BusState
   pub first : HasRestoredNamed quick named journal old refused (Err StatusDiffers)
   pub again : HasRestoredAgain quick named journal refused new outcome
 
--- Holds after a restore from the journal with this outcome or, after error 17, a second attempt with this outcome.
 abbrev pub HasRestoredFitting : (quick : Bool) → Option ChipName → Journal → (old new : BusState)
     → Result Answer Refusal → Type 0
 HasRestoredFitting quick named journal old new outcome = HasRestoredNamed quick named journal old new outcome

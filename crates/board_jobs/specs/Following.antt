@@ -27,6 +27,7 @@ pub record HasReadToMemory (named : Option ChipName) (ranges : Option (List Span
   pub holds : bytes ≡ filled.bytes
 
 -- Holds if the whole chip was read, and `target` has the bytes of `image` in `spans` and the chip's bytes elsewhere.
+-- `image` and `target` are as long as the chip.
 pub record IsMerged (named : Option ChipName) (spans : List Span) (image : List ℕ) (old new : BusState)
     (target : List ℕ) : Type 0 where
   pub chip : List ℕ
@@ -37,13 +38,12 @@ pub record IsMerged (named : Option ChipName) (spans : List Span) (image : List 
   pub bytes : (a : ℕ) → a < length chip
       → slice_index target a ≡ merged_byte (contains spans) (slice_index image) (slice_index chip) a
 
--- Holds if `target` is the target of a change: `image` without ranges, and as in `IsMerged` with ranges.
+-- Holds if, without ranges, nothing was sent and `target` is `image` or, with ranges, `IsMerged` holds.
 abbrev pub IsWholeTarget : Option ChipName → (ranges : Option (List Span)) → (image : List ℕ) → (old new : BusState)
     → (target : List ℕ) → Type 0
 IsWholeTarget named None image old new target = (new ≡ old) × (target ≡ image)
 IsWholeTarget named (Some spans) image old new target = IsMerged named spans image old new target
 
--- The ranges of a change that is compared, or `None` for another change, before which the whole chip isn't read.
 abbrev pub ranges_if : (compared : Bool) → Option (List Span) → Option (List Span)
 ranges_if true ranges = ranges
 ranges_if false ranges = None
@@ -53,7 +53,7 @@ IsUnfit size spans image (ImageSize chip len) = (chip ≡ size) × (len ≡ leng
 IsUnfit size spans image RegionOutside = ReachesPast (Some spans) size
 IsUnfit size spans image _ = ⊥
 
--- Error 18 in place of error 19 (the vault refused a piece): a vault in memory refuses one only if memory runs out.
+-- Error 18 in place of error 19 (the vault refused bytes): a vault in memory refuses bytes only if memory runs out.
 abbrev pub into_memory : Refusal → Refusal
 into_memory (Output written) = Memory
 into_memory refusal = refusal
@@ -78,7 +78,8 @@ FailsToMerge named size None image old new refusal = ⊥
 FailsToMerge named size (Some spans) image old new refusal = ((new ≡ old) × IsUnfit size spans image refusal)
     ⊎ (FailsInMemory named None old new refusal ⊎ IsOtherRead named image old new refusal)
 
--- Holds if the comparison after a session found no difference, or the session failed or isn't compared.
+-- Holds if the comparison after a session found no difference. If the session failed or isn't compared, holds if
+-- nothing was sent.
 abbrev pub IsFollowed : (session : Result Answer Refusal) → (compared : Bool) → Option ChipName → (target : List ℕ)
     → (old new : BusState) → Type 0
 IsFollowed (Ok found) true named target old new =

@@ -28,7 +28,7 @@ further_line further.Unverified = unverified_line
 further_line (further.Protected start len) = protected_line (Some (start, len))
 further_line (further.Status bytes) = status_bytes_line bytes
 
--- The line after a change: the range of `--wp-range`, or, with `-n`, that nothing was verified.
+-- The line after a change: the range of `--wp-range`, or that nothing was verified (`-n`), otherwise none.
 abbrev pub further_of_change : Wanted → (verify : Bool) → Further
 further_of_change (wanted.Range start len) verify = further.Protected (if len == 0 then 0 else start) len
 further_of_change _ true = further.Nothing

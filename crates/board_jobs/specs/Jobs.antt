@@ -39,7 +39,7 @@ abbrev pub FailsToMake : Option ChipName → Text → View → (old new : BusSta
 FailsToMake named file view old new fault =
     (chip : Found) × HasIdentified named old new (Ok chip) × IsMaking view file fault
 
--- Holds if the chip was identified, and then a call that reads it into the file had this outcome.
+-- Holds if the chip was identified, and then a read of the chip into the file had this outcome.
 pub record HasReadChip (named : Option ChipName) (file : Text) (ranges : Option (List Span)) (after : View)
     (old new : BusState) (outcome : Result Answer Refusal) : Type 0 where
   pub found : BusState
@@ -47,7 +47,7 @@ pub record HasReadChip (named : Option ChipName) (file : Text) (ranges : Option 
   pub identified : HasIdentified named old found (Ok chip)
   pub read : HasReadOut named file ranges found new after outcome
 
--- Holds if the chip was identified, and then a call that saves it in a journal in a new file had this outcome.
+-- Holds if the chip was identified, and then a backup of the chip to a new file had this outcome.
 pub record HasBackedUpChip (named : Option ChipName) (file : Text) (before : View) (after : FilesState)
     (old new : BusState) (outcome : Result Answer Refusal) : Type 0 where
   pub found : BusState
@@ -131,7 +131,7 @@ FailsToFill named target ranges bytes old new fault = FailsToTarget named target
 abbrev pub ranges_of : Operation → Change → Option (List Span) → Option (List Span)
 ranges_of operation change ranges = ranges_if (is_compared operation change) ranges
 
--- Holds if the session's buffer was made, and then the session was run with its journal in a new file.
+-- Holds if the session's buffer was made, and then the session, with its journal in a new file, had this outcome.
 pub record HasRunChange (operation : Operation) (change : Change) (ranges : Option (List Span)) (bytes : List ℕ)
     (file : Text) (before : View) (after : FilesState) (old new : BusState)
     (outcome : Result Answer Refusal) : Type 0 where
@@ -148,7 +148,7 @@ pub record HasChangedAndCompared (operation : Operation) (change : Change) (rang
   pub session : HasRunChange operation change ranges bytes file before after old changed outcome
   pub followed : IsFollowed outcome (is_compared operation change) operation.named session.image changed new
 
--- Holds if a change was performed with its journal in a file. The program performs no rehearsal.
+-- Holds if a change with its journal in a file had this outcome. Never holds for a rehearsal.
 abbrev pub HasChangedBy : Operation → Change → Option (List Span) → (bytes : List ℕ) → JournalUse
     → (before : View) → (after : FilesState) → (old new : BusState) → Result Answer Refusal → Type 0
 HasChangedBy operation change ranges bytes (uses.Journal file) before after old new outcome =
@@ -198,7 +198,7 @@ FailsComparison operation change ranges bytes (uses.Journal file) before after o
     HasNotCompared operation change ranges bytes file.now before after old new refusal
 FailsComparison operation change ranges bytes (uses.Rehearse stops) before after old new refusal = ⊥
 
--- Holds if a change failed with this fault: before its session, or in the comparison after it.
+-- Holds if a change failed with this fault: before its session, or in the comparison after the session.
 abbrev pub FailsChange : Operation → Change → Option (List Span) → (bytes : List ℕ) → JournalUse
     → (before : View) → (after : FilesState) → (old new : BusState) → JobFault → Type 0
 FailsChange operation change ranges bytes kept before after old new (ended.Fault fault) =
@@ -209,7 +209,7 @@ FailsChange operation change ranges bytes kept before after old new (ended.NotCo
     FailsComparison operation change ranges bytes kept before after old new refusal
 FailsChange operation change ranges bytes kept before after old new _ = ⊥
 
--- Holds if the task had this outcome. `ranges` are those of its regions, `bytes` those of its image or journal.
+-- Holds if the task had this outcome. `ranges` are the addresses of its regions, `bytes` is its image or journal.
 abbrev pub DoesTask : Operation → Task → (ranges : Option (List Span)) → (bytes : List ℕ) → (before : View)
     → (after : FilesState) → (old new : BusState) → Result Answer Refusal → Type 0
 DoesTask operation task.Probe ranges bytes before after old new outcome =

@@ -18,7 +18,7 @@ use Rattle.board_jobs.specs.UnsavedSectors.{FailsRest, FollowsRestore, HasReadRe
 use Rattle.board_jobs.specs.declared.chip_faults.JobFault.{JobFault}
 use Rattle.board_jobs.specs.declared.chip_faults.JobFault.TheVariants as ended
 
--- Holds if the chip was identified with the journal's ID and size, and the unsaved sectors were read as `rest`.
+-- Holds if the chip was identified, has the journal's ID and size, and its unsaved sectors were read into `rest`.
 pub record HasReadBefore (named : Option ChipName) (journal : Journal) (rest : List ℕ)
     (old new : BusState) : Type 0 where
   pub chip : Found
@@ -27,8 +27,8 @@ pub record HasReadBefore (named : Option ChipName) (journal : Journal) (rest : L
   pub kind : IsOfTypeFound journal chip
   pub read : HasReadRest journal rest found new
 
--- Holds after a restore without `-N`: the sectors that the journal doesn't save were read before it. If it succeeded or
--- returned error 14, they were compared after it, without a difference.
+-- Holds after a restore without `-N`: the sectors that the journal doesn't save were read before the restore and, if it
+-- succeeded or returned error 14, were read again afterwards with the same bytes.
 pub record HasRestoredAndCompared (operation : Operation) (journal : Journal) (old new : BusState)
     (outcome : Result Answer Refusal) : Type 0 where
   pub rest : List ℕ
@@ -80,7 +80,7 @@ pub record HasNotComparedRest (operation : Operation) (journal : Journal) (old n
   pub followed : is_compared_after outcome ≡ true
   pub fails : FailsRest journal rest restored new refusal
 
--- Holds if a restore without `-N` failed with this fault: before its call to the engine, or in the comparison after it.
+-- Holds if a restore without `-N` failed with this fault: before its call to the engine, or in the later comparison.
 abbrev pub FailsCompared : Operation → Journal → (old new : BusState) → JobFault → Type 0
 FailsCompared operation journal old new (ended.Fault fault) = ((new ≡ old) × (fault ≡ end.Refused Memory))
     ⊎ FailsToReadRest operation.named journal old new fault

@@ -63,7 +63,7 @@ pub record WritesSrp0 (srp0 : Bool) (before after : List ℕ) (old new : BusStat
   pub exactly : SendsExactly 0 0 1 old wrote
   pub read : ReadsStatus wrote new after
 
--- Holds if SRP0 has this value in the end. If it had the value before, nothing was sent, and `after` is `None`.
+-- Holds if SRP0 has this value in the end. If SRP0 had this value before, nothing was sent, and `after` is `None`.
 -- Otherwise SRP0 was written, and `after` has the other non-volatile bits of `before`.
 abbrev pub IsSet : (srp0 : Bool) → (before : List ℕ) → (after : Option (List ℕ)) → (old new : BusState) → Type 0
 IsSet srp0 before None old new = (shows_srp0 (slice_index before 0) ≡ srp0) × (new ≡ old)
@@ -109,7 +109,8 @@ pub record FailsToSet (named : Option ChipName) (old new : BusState) (refusal : 
   pub identified : HasIdentified named old found (Ok chip)
   pub fails : FailsFound chip found new refusal
 
--- Holds if the status bytes `sent` were written, and `after` was read back, which differs in a non-volatile bit.
+-- Holds if the status bytes `sent` were written, and the bytes `after`, which were read back, differ from `sent` in a
+-- non-volatile bit.
 pub record HasNotSet (named : Option ChipName) (srp0 : Bool) (old new : BusState) (sent after : List ℕ) : Type 0 where
   pub chip : Found
   pub found : BusState

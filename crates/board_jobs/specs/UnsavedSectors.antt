@@ -44,8 +44,7 @@ pub record HasStoppedInRest (journal : Journal) (old new : BusState) : Type 0 wh
   pub only_reads : OnlyReads (journal.size / 4096) old new
   pub stopped : HasStopped (journal.size / 4096) old new
 
--- True if a comparison follows a restore with this outcome: after success and error 14. After other errors the bus is
--- stopped, the chip is busy, or no modifying command was sent.
+-- True if a comparison follows a restore with this outcome: success or error 14.
 abbrev pub is_compared_after : Result Answer Refusal → Bool
 is_compared_after (Ok answer) = true
 is_compared_after (Err (Mismatch address)) = true
@@ -61,7 +60,8 @@ abbrev pub FollowsRestore : (followed : Bool) → Journal → (rest : List ℕ) 
 FollowsRestore true journal rest old new = HasKeptRest journal rest old new
 FollowsRestore false journal rest old new = new ≡ old
 
--- Holds if the sectors that aren't saved were read again, and `address` is the first at which they differ from `rest`.
+-- Holds if the sectors that the journal doesn't save were read again, and `address` is the first address at which their
+-- bytes differ from `rest`.
 pub record HasLostRest (journal : Journal) (rest : List ℕ) (old new : BusState) (address : ℕ) : Type 0 where
   pub again : List ℕ
   pub read : HasReadRest journal again old new

@@ -12,7 +12,7 @@ use nor_geometry::SECTOR_LEN;
 use nor_jobs::identify_or_fault;
 use nor_probe::ChipName;
 
-/// Returns file fault 4 if the file that a backup is to create exists. Checks nothing for other jobs.
+/// Returns file fault 4 if the file of a backup already exists. Returns `Ok` for any other operation.
 pub fn check_new<'a, R: Store>(rt: &R, operation: &Operation<'a>) -> Result<(), Fault<'a>>
     ensures { IfErr result (IsExistingBackup (R.state rt.now).view operation.now) }
 {
@@ -25,8 +25,8 @@ pub fn check_new<'a, R: Store>(rt: &R, operation: &Operation<'a>) -> Result<(), 
 }
 
 /// Identifies the chip, then creates the file and saves the whole chip in it as a journal. The outer error is a fault
-/// of the identification (then no file is created) or of creating the file. The inner error is one of `backup`; the
-/// file may then contain only a prefix of the journal. Sends no modifying command.
+/// of the identification (then no file is created) or of creating the file. The inner error is an error of `backup`;
+/// the file may then contain only a prefix of the journal. Sends no modifying command.
 pub fn backup_chip<'a, R: Store, B: Progress>(
     rt: &mut R,
     bus: &mut B,

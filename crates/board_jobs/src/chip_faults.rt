@@ -1,4 +1,4 @@
-//! The faults with which a job ends, and the lines of the faults that only this program has.
+//! The faults with which a job ends, and the lines that are printed for these faults.
 ghost use Rattle.std.specs.Prelude.{◌≡◌};
 
 use crate::status_bits::status_bits;
@@ -10,20 +10,20 @@ use nor_session::Refusal;
 use std::alloc::AllocError;
 use std::fmt;
 
-/// The fault with which a job ends, displayed as its line on standard error.
+/// The fault with which a job ends, displayed as one or more lines.
 #[derive(Drop)]
 pub enum JobFault<'a> {
     Fault(Fault<'a>),
-    /// Chip fault 1, before a write or an erase: the chip's ID has no row in the table of chips, and a bit of its
+    /// Chip fault 1, before a write or an erase: the chip's block protection is unknown, and a bit of the chip's
     /// status 1 that may protect sectors is set. Nothing was changed, and no journal was created.
     Protected { status1: u8, id: [u8; 3] },
-    /// Chip fault 3 after a change of SRP0: the status bytes `sent` were written, but `found` was read back, which
-    /// differs in a non-volatile bit.
+    /// Chip fault 3 after a change of SRP0: the status bytes `sent` were written, but the bytes `found`, which were
+    /// read back, differ from `sent` in a non-volatile bit.
     NotStored { sent: [u8; 2], found: [u8; 2] },
     /// The comparison after a successful session returned this error. Error 14 is printed as chip fault 4.
     NotCompared { refusal: Refusal },
-    /// After a restore, the comparison of the sectors that the journal doesn't save returned error 12 or 14 (printed as
-    /// chip fault 4). `outcome` is the result of the restore; if it is an error, it is printed first.
+    /// After a restore, the comparison of the sectors that the journal doesn't save returned error 12 or 14. Error
+    /// 14 is printed as chip fault 4. If `outcome`, the restore's result, is an error, this error is printed first.
     RestNotCompared { outcome: Outcome, refusal: Refusal },
 }
 
@@ -96,7 +96,7 @@ impl JobFault<'_> {
         )
     }
 
-    /// Returns a last line for the fault if the comparison after a change or restore failed with another error than 14.
+    /// Returns a further line if the comparison after a change or restore failed with another error than 14.
     pub fn note(&self) -> Option<&'static str> {
         match self {
             JobFault::NotCompared {

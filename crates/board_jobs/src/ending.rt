@@ -15,7 +15,7 @@ use nor_probe::ChipName;
 use std::io;
 use std::io::Write;
 
-/// A line that follows the lines of an answer.
+/// The line, if any, that follows the lines of an answer.
 #[derive(Clone, Copy, Drop)]
 pub enum Further {
     Nothing,

@@ -20,12 +20,12 @@ use std::fmt;
 /// Restores the saved sectors and the protection bits from a journal, even if the software of the board has changed QE,
 /// the reserved bit or LB1 to LB3 since the session. These bits stay as they are in the chip.
 ///
-/// If the restore of the engine returns error 17, reads the status, prints which of these bits differ, and restores
-/// from the fitted journal, with all checks. In these cases there is no second restore, and the result stays error 17:
+/// If the engine's restore returns error 17, reads the status, prints which of these bits differ, and restores from the
+/// fitted journal (the journal with these bits as they were read). In these cases, returns error 17 instead:
 ///
-/// - SRP0 or SRP1 differs.
-/// - The journal has one of LB1 to LB3 set, and the chip has it clear. A chip can't clear such a bit.
-/// - No row has the journal's ID, so the meaning of these bits is unknown.
+/// - SRP0 or SRP1 differs from the journal.
+/// - One of LB1 to LB3 is set in the journal, but clear in the chip.
+/// - The table of chips has no row for the journal's ID, so the meaning of these bits is unknown.
 /// - The journal has no unique ID, and `--replaced-chip` is not given.
 ///
 /// Returns error 18 (out of memory), 12 (the bus stopped) or 13 (the chip stayed busy) if the second restore can't be
@@ -88,7 +88,7 @@ fn restore_again<B: Progress>(
     restore_saved(bus, terminal, named, &fitted, operation.is_quick)
 }
 
-// Reads the status, and returns the encoding of the fitted journal, or error 17, 18, 12 or 13 (see `restore_fitting`).
+// Returns the encoding of the fitted journal, or error 17, 18, 12 or 13 (see `restore_fitting`).
 fn fit<B: Progress>(
     bus: &mut B,
     is_replaced: bool,
@@ -112,7 +112,7 @@ fn fit<B: Progress>(
     }
 }
 
-// Returns whether a row has the journal's ID, and the journal has a unique ID or is used for a replaced chip.
+// Returns true if the table of chips has the journal's ID, and the journal has a unique ID or `is_replaced` is true.
 fn is_for_known_device(journal: &Journal<'_>, is_replaced: bool) -> bool {
     let has_row = part_for(true, journal.id()).is_some();
     has_row && (is_replaced || journal.unique().is_some())
@@ -135,7 +135,7 @@ fn fitted_status(saved: [u8; 2], found: [u8; 2]) -> [u8; 2]
     [saved[0], two]
 }
 
-// The line that names the bits of status 2 that differ from the journal and aren't restored.
+// The line with the names of the bits of status 2 that aren't restored.
 #[derive(Clone, Copy, Drop)]
 struct KeptLine {
     saved: u8,

@@ -19,10 +19,10 @@ use nor_read::read_out;
 use nor_session::{Refusal, Report};
 use std::alloc::Global;
 
-/// Returns the target of a change of a chip of `size` bytes: `image` or, with `ranges`, the bytes of `image` at these
-/// addresses and the chip's own bytes at all others. With `ranges`, reads the whole chip into memory, and returns error
-/// 4 (`image` isn't as long as the chip), 5 (an address isn't on the chip), 18 (out of memory) or another error of
-/// `read_out`.
+/// Returns the target of a write or an erase on a chip of `size` bytes: `image` or, with `ranges`, the bytes of `image`
+/// in the ranges and the chip's own bytes elsewhere. With `ranges`, reads the whole chip into memory, and may fail with
+/// error 4 (`image` isn't as long as the chip), 5 (an address isn't on the chip), 18 (out of memory) or another error
+/// of `read_out`.
 pub fn fill_from_chip<'a, B: Progress>(
     bus: &mut B,
     named: Option<ChipName>,
@@ -84,7 +84,7 @@ fn check_size(size: u32, len: usize) -> Result<(), Refusal>
 }
 
 /// Copies the bytes at the included addresses of the chip to `chip`, a new vault in memory, with FFh at all other
-/// addresses. `None` includes all addresses. Returns error 18 (out of memory) or another error of `read_out`.
+/// addresses. `None` includes all addresses. Fails with error 18 (out of memory) or another error of `read_out`.
 pub fn read_to_memory<B: Bus>(
     bus: &mut B,
     included: Option<&Ranges>,
@@ -117,7 +117,8 @@ fn fill_rest(target: &mut [u8], chip: &[u8], included: &Ranges)
     }
 }
 
-/// Returns how many sectors are read before a change: those with an included address, plus the whole chip if `merged`.
+/// Returns the number of reads of sectors before a change of a chip of `size` bytes: one for each sector with an
+/// included address and, if `merged` is true, one more for each sector of the chip.
 pub fn sectors_before_change(size: usize, included: Option<&Ranges>, merged: bool) -> usize {
     let scanned = sectors_to_read(size, included);
     if merged {
@@ -136,15 +137,15 @@ pub fn sectors_to_read(size: usize, included: Option<&Ranges>) -> usize {
         .count()
 }
 
-/// Returns the ranges of a change that is compared, or `None` for another change.
+/// Returns `ranges` if `compared` is true, otherwise `None`.
 pub fn ranges_if(compared: bool, ranges: Option<&Ranges>) -> Option<&Ranges>
     ensures { option_copied result ≡ ranges_if compared (option_copied ranges.entry) }
 {
     if compared { ranges } else { None }
 }
 
-/// Compares the whole chip with the target if the session succeeded and its change is `compared`. Returns the outcome
-/// of the session, or `NotCompared` with the error of the comparison.
+/// Compares the whole chip with the target if the session succeeded and `compared` is true. Returns the outcome of the
+/// session, or `NotCompared` with the error of the comparison.
 pub fn compare_chip<'a, B: Progress>(
     bus: &mut B,
     outcome: Outcome,

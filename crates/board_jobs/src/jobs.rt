@@ -33,10 +33,10 @@ use nor_probe::{ChipName, Found};
 use nor_session::Refusal;
 use std::alloc::{AllocError, Global};
 
-// Performs the job that the arguments ask for, on every bus. `sources` has the contents of the files that the job
+// Performs the job that the arguments ask for, on any bus. `sources` has the contents of the files that the job
 // reads. The inner error is that of the job's call to the engine. The outer error is a fault before this call, or a
-// fault of the comparison after it. A read, backup, write or erase identifies the chip before it creates or truncates
-// its file, so without a chip this file stays as it was.
+// fault of the comparison after the call. A read, backup, write or erase identifies the chip before it creates or
+// truncates its file, so without a chip this file stays as it was.
 fn perform<'a, R: Store, B: Progress>(
     rt: &mut R,
     bus: &mut B,
@@ -145,8 +145,8 @@ fn verify_chip<B: Progress>(bus: &mut B, named: Option<ChipName>, sources: Sourc
     verify_image(bus, named, &bytes, included.as_ref())
 }
 
-// Performs a change with its session. If the change is compared, the target has the chip's own bytes outside the
-// regions, and the chip is compared with it after the session. Returns usage fault 6 for a rehearsal.
+// Performs a change: runs its session and, if `is_compared` returns true, compares the chip with the target after the
+// session. Returns usage fault 6 for a rehearsal.
 fn change_chip<'a, R: Store, B: Progress>(
     rt: &mut R,
     bus: &mut B,
@@ -194,7 +194,7 @@ fn copy_of(bytes: &[u8], alloc: Global) -> Result<Vec<u8>, AllocError>
     bytes.to_vec(alloc)
 }
 
-/// Returns whether a task may write the status. `saved` has the status bytes in the journal, if the task is a restore.
+/// Returns on which chips a task may write the status. For a restore, `saved` has the status bytes in the journal.
 pub fn status_write_of(task: &Task<'_>, saved: Option<[u8; 2]>) -> StatusWrite {
     match task {
         Task::Change(change) if !changes_bytes(change.wanted) => StatusWrite::OnAnyChip,

@@ -21,9 +21,9 @@ use nor_session::Refusal;
 use std::alloc::Global;
 
 /// Restores the chip from the bytes of a journal: every saved sector without reading it first or, with `--quick`, only
-/// those that differ. If `-c` is given, the chip must have that name. Status bits that the board changed may stay as
-/// they are (`restore_fitting`). Without `-N`, the sectors that the journal doesn't save are read before the restore
-/// and, if it succeeds or returns error 14, again after it, and must be the same.
+/// the saved sectors that differ. If `-c` is given, the chip must have this name. Status bits that its board changed
+/// may stay as they are (`restore_fitting`). Without `-N`, the sectors that the journal doesn't save are read before
+/// the restore and, if the restore succeeds or returns error 14, read again afterwards; their bytes must be the same.
 ///
 /// The inner error is that of the restore itself. The outer error is 15 (the bytes are no journal) or, without `-N`:
 ///

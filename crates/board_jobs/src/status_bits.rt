@@ -15,8 +15,8 @@ pub(crate) struct StatusBits {
 /// chip's SFDP must say that sectors of 4 KiB can be erased everywhere. The sources are the sections Status Register of
 /// the makers' datasheets, which are cited from memory.
 ///
-/// `may_protect` lacks a bit only if this bit protects nothing on any chip of the maker that has SFDP. Such bits are
-/// QE of Macronix and ISSI, and SEC of Microchip's SST26, which says that the one-time area is locked.
+/// `may_protect` lacks bit 6 of Macronix and ISSI (QE) and bit 5 of Microchip's SST26 (SEC, which shows that the
+/// one-time area is locked), because these bits protect no sector on the makers' chips that have SFDP.
 pub(crate) fn status_bits(id: [u8; 3], status1: u8) -> StatusBits
     ensures { result.may_protect ≡ protecting_bits id }
 {
@@ -49,7 +49,7 @@ const GIGADEVICE: StatusBits = StatusBits {
     advice: CLEAR,
 };
 
-// Bits 6 to 2 are QE BP3 BP2 BP1 BP0 (MX25L12835F, MX25U6435F, MX25R6435F). MX25L6405D has CP (continuous program).
+// Bits 6 to 2 are QE BP3 BP2 BP1 BP0 (MX25L12835F, MX25U6435F, MX25R6435F). MX25L6405D: bit 6 is CP.
 const MACRONIX: StatusBits = StatusBits {
     may_protect: 0x3C,
     meaning: "On Macronix's chips its bits 2 to 5 (BP0 to BP3) protect sectors.",
@@ -118,6 +118,6 @@ const OTHERS: StatusBits = StatusBits {
 const CLEAR: &str =
     "Clear these bits with another tool (flashrom --wp-disable, then flashrom --wp-range=0,0), and try again.";
 
-// Before a write or an erase, flashrom lifts the protection of the chips that it knows (its manual page, -w and -E).
+// Before a write or an erase, flashrom lifts the protection of the chips that it knows (from memory).
 const LIFT: &str =
     "Write this chip with another tool that lifts its protection (flashrom -w), or clear these bits, and try again.";

@@ -22,8 +22,8 @@ use std::fmt;
 use std::io::Write;
 
 /// After a session that ended with error 14 or chip fault 4, reads each sector again that the session read before its
-/// first modifying command and was not to change. Prints a line with those whose bytes differ, if any. Prints no such
-/// line if the bus stops. Reads nothing after another fault or another job.
+/// first modifying command and didn't erase or program. If bytes of such sectors have changed, prints a line with these
+/// sectors, unless the bus stops. Does nothing after another fault or another job.
 pub fn report_strays<'b, B: Bus + Drop, E: Write>(
     errors: &mut E,
     bus: &mut ProgressBus<'b, B>,
@@ -117,7 +117,7 @@ impl fmt::Display for Places {
     }
 }
 
-/// Begins to note the sums of the sectors that are read (`Notes`), for a write or an erase with a journal, and for a
+/// Begins to record checksums of the sectors that are read (`Notes`), for a write or an erase with a journal, and for a
 /// restore without `-N`. Does nothing for other operations. Prints a line if memory runs out.
 pub fn begin_notes<'b, B: Bus + Drop, E: Write>(
     errors: &mut E,
@@ -152,10 +152,10 @@ fn new_notes(operation: &Operation<'_>, alloc: Global) -> Result<Option<Notes>, 
     }
 }
 
-/// Ends a run that succeeded, and returns the exit status. After a restore, compares the sectors that its journal
-/// doesn't save with their sums before the session. If one differs, prints chip fault 5, otherwise the answer. If the
-/// sums are lacking (`Before::why_unknown`), also prints why. After a session or a backup, also prints file fault 2 if
-/// its journal was lost after it was sealed.
+/// Ends a run that succeeded, and returns the exit status. If a sector that the journal of a restore doesn't save has
+/// another checksum than before the session, prints only chip fault 5. Otherwise prints the answer and, if checksums
+/// from before the session were needed but aren't known, the reason. After a session or a backup, also prints file
+/// fault 2 if the journal is lost (`report_lost_journal`).
 pub fn end_compared<'b, R: Store, B: Bus + Drop, O: Write, E: Write>(
     output: &mut O,
     errors: &mut E,
@@ -246,7 +246,7 @@ const IS_LOST: &str =
     "After this run sealed the journal, another program removed, replaced or changed it: don't \
     restore from a file with this name.";
 
-/// Returns the name of the journal that a session or a backup creates, or `None` for another operation.
+/// Returns the name of the journal that a session or a backup creates, or `None` if the operation creates none.
 pub fn new_journal_of<'a>(operation: &Operation<'a>) -> Option<&'a str> {
     let named = named_by(&operation.task);
     match &operation.task {

@@ -17,9 +17,9 @@ use nor_session::Refusal;
 // The number of sectors in 64 KiB, the longest block that is read at once.
 const LONGEST_RUN: u32 = 16;
 
-/// Reads each sector that the journal doesn't save into `bytes`, which must have one FFh for each byte of the chip.
-/// Returns `Stopped` if the bus stops. A saved sector isn't read, not even ahead: after an interrupted operation, two
-/// reads of it may differ, and this would end the job.
+/// Reads each sector that the journal doesn't save into `bytes`, which must be as long as the chip and hold only FFh.
+/// Returns `Stopped` if the bus stops. Saved sectors aren't read, not even ahead: after an interrupted operation, two
+/// reads of a saved sector may differ, which would end the job.
 pub fn read_rest<B: Progress>(
     bus: &mut B,
     journal: &Journal<'_>,
@@ -58,9 +58,9 @@ fn saves(journal: &Journal<'_>, sector: u32) -> bool
     journal.find(sector).is_some()
 }
 
-/// Reads the sectors that the journal doesn't save into `again`, which must have one FFh for each byte of the chip.
-/// Compares them with `rest`, their bytes before the restore. Returns error 14 with the first address that differs, or
-/// error 12 if the bus stopped.
+/// Reads the sectors that the journal doesn't save into `again`, which must be as long as the chip and hold only FFh.
+/// Compares these sectors with `rest`, their bytes before the restore. Returns error 14 with the first address at which
+/// a byte differs, or error 12 if the bus stopped.
 pub fn compare_rest<B: Progress>(
     bus: &mut B,
     journal: &Journal<'_>,
@@ -82,7 +82,7 @@ pub fn compare_rest<B: Progress>(
     }
 }
 
-/// Returns whether the comparison is made after a restore with this outcome: after success and after error 14.
+/// Returns whether a comparison follows a restore with this outcome: true after success and after error 14.
 pub fn is_compared_after(outcome: &Outcome) -> bool
     ensures { result ≡ is_compared_after outcome.now }
 {

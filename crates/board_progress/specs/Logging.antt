@@ -19,13 +19,13 @@ pub record IsExistingLog (view : View) (name : Bor Text) (fault : Fault) : Type 
   pub begins : BeginsNoLog start
   pub is : fault ≡ end.File file.Exists name causes.Unknown
 
--- Holds if no file except the log was changed. With a log, this is claimed only if the files obey their contract.
+-- Holds if no file except the log was changed. With a log, this needs to hold only if the files obey their contract.
 abbrev pub CreatesLog : Option (Bor Text) → (old new : FilesState) → Type 0
 CreatesLog None old new = AreUntouched old new
 CreatesLog (Some name) old new = (new.view.nature ≡ old.view.nature)
     × (is_lawful old.view ≡ true → OthersStay name.now old new)
 
--- Holds if reads of each file except the log return the same as before (with a log, if files obey their contract).
+-- Holds if reads of each other file return the same as before (with a log, if files obey their contract).
 abbrev pub StayButLog : Option (Bor Text) → (old new : View) → Type 0
 StayButLog None old new = new ≡ old
 StayButLog (Some name) old new = (new.nature ≡ old.nature)

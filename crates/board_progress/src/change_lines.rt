@@ -1,5 +1,5 @@
-//! The lines that announce what a session or a restore will change and the estimated time of the change, and the line
-//! after a journal was sealed.
+//! The lines that announce what a session or a restore will change and how long this will take, and the line that is
+//! printed after a journal was sealed.
 
 use crate::estimates::{Minutes, Rate, change_micros, tenths_of_kib, time_for};
 use crate::terminal::Transfer;
@@ -34,15 +34,15 @@ impl fmt::Display for RestoreText {
     }
 }
 
-/// The line with the estimated time of a change: the typical time of its erases and programs. If data was read before,
-/// the estimate includes the time to send and read back the touched sectors at the rate of those reads.
+/// The line with the estimated time of a change: the typical time of its erases and programs. If data was read before
+/// the change, the estimate includes the time to send and read back the touched sectors at the rate of those reads.
 #[derive(Clone, Copy, Drop)]
 pub struct ExpectedTime {
     pub announcement: Announcement,
     pub read: Transfer,
 }
 
-// The number of bytes that are transferred for a touched sector: the sector is programmed and read back.
+// The number of data bytes that are transferred for a touched sector: its 4,096 bytes are sent and read back.
 const SECTOR_TRANSFER: u64 = 2 * 4096;
 
 const SECOND: u64 = 1_000_000;
@@ -70,8 +70,8 @@ impl fmt::Display for ExpectedTime {
 }
 
 /// The line before the first modifying command of a session, with the name of the journal's file if it is known. The
-/// line asks you to disconnect the programmer from power after an interruption, because the programmer may wait for the
-/// rest of a frame, and would take the first bytes of the next run for this rest.
+/// line asks you to disconnect the programmer from power after an interruption: the programmer may still wait for the
+/// rest of a frame, and would mistake the first bytes of the next run for this rest.
 #[derive(Clone, Copy, Drop)]
 pub struct SealedLine<'a>(pub Option<&'a str>);
 

@@ -25,7 +25,7 @@ pub fn tenths_of_kib(bytes: u64, micros: u64) -> Option<u64>
     Some(cap(u128::from(bytes) * 10_000_000 / (u128::from(micros) * 1024)))
 }
 
-/// Returns the time for `amount` if `done` took `micros` (rounded down, at most `u64::MAX`), or `None` if `done` is 0.
+/// Returns `amount * micros / done`, rounded down and at most `u64::MAX`, or `None` if `done` is 0.
 pub fn time_for(amount: u64, done: u64, micros: u64) -> Option<u64>
     ensures { result ≡ time_for amount done micros }
 {

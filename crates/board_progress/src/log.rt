@@ -5,7 +5,7 @@ ghost use Rattle.board_progress.specs.Estimates.{millis_in, whole_seconds_in};
 
 use std::fmt;
 
-/// The line of a modifying transaction that sends `out`, `micros` microseconds after the `Terminal` was created.
+/// The line of a modifying transaction that sends `out`. `micros` is the time since the `Terminal` was created.
 #[derive(Clone, Copy, Drop)]
 pub struct CommandText<'a> {
     pub micros: u64,
@@ -60,7 +60,7 @@ impl fmt::Display for Bytes {
     }
 }
 
-/// The line for the start of a step that only reads, or for a stop of the bus, `micros` microseconds after the
+/// The line for the start of a step that only reads, or for a stop of the bus. `micros` is the time since the
 /// `Terminal` was created.
 #[derive(Clone, Copy, Drop)]
 pub struct EventText {

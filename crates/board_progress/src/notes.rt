@@ -1,5 +1,5 @@
-//! The notes of a run about the sectors of the chip. They contain the sum of each sector that it read before the first
-//! modifying command, and of each sector that it read in the comparison after a restore.
+//! The checksums that a run records of sectors that it reads: before the first modifying command, and in the comparison
+//! after a restore.
 ghost use Rattle.std.specs.Prelude.{◌≡◌, ◌+◌, ◌*◌, ◌/◌};
 
 use crate::replies::Replies;
@@ -12,21 +12,21 @@ use nor_sums::{SECTORS, SHEET_LEN, Sums, encode};
 use std::alloc::{AllocError, Global};
 use std::fmt;
 
-/// Checksums (`nor_sums`) of the sectors that a run reads. `before` has the sum of the last read of each sector before
-/// the first modifying command, but none for a sector that was then erased or programmed. `after` has the sum of the
-/// last read of each sector in the comparison after a restore. All memory is allocated by `new`.
+/// Checksums (`nor_sums`) of sectors that a run reads. `before` has the checksum of the last read of each sector before
+/// the first modifying command, except for sectors that were then erased or programmed. `after` has the checksum of the
+/// last read of each sector in the comparison after a restore.
 #[derive(Drop)]
 pub struct Notes {
     before: Sums,
     after: Sums,
-    // the name of the file for `before`, and memory for its bytes; `None` if no file is written
+    // the name of the file for `before`, and memory for the bytes of this file; `None` if no file is written
     file: Option<(String, Vec<u8>)>,
 }
 
 impl Notes {
     ghost use Rattle.board_progress.specs.Notes.{after_of};
 
-    /// Returns empty notes. If `name` is given, `write` creates a file of this name. Fails if memory runs out.
+    /// Returns `Notes` without checksums. `name` is the file that `write` creates, if any. Fails if memory runs out.
     pub fn new(alloc: Global, name: Option<String>) -> Result<Notes, AllocError> {
         let file = match name {
             Some(name) => Some((name, Vec::with_capacity(alloc, SHEET_LEN)?)),
@@ -39,9 +39,9 @@ impl Notes {
         })
     }
 
-    /// Notes a transaction that was carried out in this phase. A read of a whole sector records the sum of its reply:
-    /// in `before` in the phase `Before`, and in `after` in the phase `After` if no file is written. An erase or a
-    /// program removes the sums of its sectors from `before`.
+    /// Records a transaction that was carried out in this phase. For a read of a whole sector, stores the checksum of
+    /// the reply: in `before` in the phase `Before`, and in `after` in the phase `After` if `new` received no name. For
+    /// an erase or a program, removes the checksums of the addressed sectors from `before`.
     pub fn note(&mut self, phase: Phase, out: &[u8], reply: &[u8]) {
         match (phase, read_sector_of(out, reply)) {
             (Phase::Before, Some(sector)) => self.before.record(sector, reply),
@@ -65,20 +65,20 @@ impl Notes {
         }
     }
 
-    /// Returns the sum of the sector in `before`, if there is one.
+    /// Returns the checksum of the sector in `before`, if there is one.
     pub fn before(&self, sector: usize) -> Option<[u8; 8]> {
         self.before.get(sector)
     }
 
-    /// Returns the sums of the sectors that were read in the comparison after a restore.
+    /// Returns the checksums of the sectors that were read in the comparison after a restore.
     pub fn after(&self) -> &Sums
         ensures { result.now ≡ after_of self.now }
     {
         &self.after
     }
 
-    /// Writes `before` to a new file and syncs it, if `new` received a name. Must be called before the first modifying
-    /// command. If the file can't be created or written, prints and logs a line.
+    /// If `new` received a name, writes `before` to a new file with this name and syncs the file. Must be called before
+    /// the first modifying command. If the file can't be created or written, prints and logs a line.
     pub fn write(&mut self, terminal: Terminal<'_>, replies: Replies) {
         let Some((name, room)) = &mut self.file else {
             return;

@@ -1,5 +1,5 @@
-//! A bus that shows the progress of a job on standard error: its steps, and what the user must know before the first
-//! modifying command.
+//! A bus that shows the progress of a job on standard error: the steps of the job, and what the user must know before
+//! the first modifying command.
 ghost use Rattle.std.specs.Prelude.{◌≡◌};
 
 mod durations;
@@ -24,14 +24,14 @@ const BUSY: u8 = 0x01;
 
 const QE: u8 = 0x02;
 
-// The line before the first modifying command of a restore or of a change of SRP0. A session has a `SealedLine` there.
+// The line before the first modifying command of a restore or of a change of SRP0. A session prints a `SealedLine`.
 const CHANGED: &str = "The chip is changed from here on.";
 
 // The line before `CHANGED` or `SealedLine` if SRP1 is set without SRP0 (W25Q64FV datasheet, Status Register Protect).
 const POWER_LOCKED: &str =
     "Keep its power on: a loss of power clears SRP1, and a restore then ends with error 17.";
 
-// The line before `CHANGED` or the `SealedLine` if QE is set and the job may write the status.
+// The line before `CHANGED` or `SealedLine` if QE is set and the job may write the status.
 const QUAD: &str =
     "Keep its power on: a status write that is cut off may clear QE, and a restore doesn't set it again.";
 
@@ -42,10 +42,10 @@ const BUSY_CHIP: &str =
 // The number of polls that show BUSY before `BUSY_CHIP` is printed. Without contact, replies are FFh and show BUSY.
 const POLLS_UNTIL_LINE: u32 = 256;
 
-/// A bus that shows the progress of a job. The functions of this trait don't change the state that contracts see.
+/// A bus that shows the progress of a job. The functions of this trait don't change the bus state used in contracts.
 pub trait Progress: Bus {
     /// Records that the job reads `sectors` sectors before it changes anything. If this is called again, the greatest
-    /// number counts. A greater number after all recorded reads were done begins a second scan of the further sectors.
+    /// number counts. If all recorded reads were done before, a greater number begins a second scan (of the rest).
     fn expect_reads(&mut self, sectors: usize)
         ensures { Self.state self.new ≡ Self.state self.old };
 
@@ -53,27 +53,27 @@ pub trait Progress: Bus {
     fn expect_comparison(&mut self, sectors: usize)
         ensures { Self.state self.new ≡ Self.state self.old };
 
-    /// Sets the address at which each further block that is read ahead ends at the latest, unless the read itself needs
-    /// more bytes. `u32::MAX` removes this limit.
+    /// Limits the reads ahead: from now on, each block that is read ends at `address` or before, unless the read itself
+    /// needs more bytes. `u32::MAX` removes this limit.
     fn end_blocks_at(&mut self, address: u32)
         ensures { Self.state self.new ≡ Self.state self.old };
 }
 
 /// A bus that shows the progress of a job on standard error, as the `ProgressStyle` of its `Terminal` requires:
 /// - `ProgressStyle::Line` rewrites a `StepLine` at most ten times a second, and ends it when the step is complete.
-/// - `ProgressStyle::Plain` prints a line for the first transaction of a step, and then after each `Step::stride`
-///   further ones.
+/// - `ProgressStyle::Plain` prints a line for the first transaction of a step, and for every transaction that comes a
+///   multiple of `Step::stride` transactions later.
 /// - `ProgressStyle::Minutes` prints a `StepLine` at most once per minute.
 /// - `ProgressStyle::Hidden` prints none of these lines.
 ///
 /// The lines of `-V` are printed in any style. The log (`-o`) receives the lines of `ProgressStyle::Plain` and `-V`,
-/// and how long the change takes and took. In contracts, the state of this bus is that of the bus inside.
+/// and how long the change takes and took. In contracts, the state of a `ProgressBus` is the state of `bus`.
 #[derive(Drop)]
 pub struct ProgressBus<'a, B> {
     bus: B,
     terminal: Terminal<'a>,
     in_session: bool,
-    // the name of the journal's file; `None` if the job is no session, or if memory for the name ran out
+    // the name of the journal's file, if known
     journal: Option<String>,
     phase: Phase,
     // the number of sectors that the present scan or comparison reads, if known
@@ -86,7 +86,7 @@ pub struct ProgressBus<'a, B> {
     replies: Replies,
     // the number of polls that showed BUSY before the ID was read
     busy_polls: u32,
-    // when `print_each_minute` last printed a line; before its first line, when the terminal was created
+    // when `print_each_minute` last printed a line or, before its first line, when the terminal was created
     said: Option<Instant>,
     notes: Option<Notes>,
 }
@@ -98,7 +98,7 @@ pub enum StatusWrite {
     /// Only on a chip whose protection bits may protect an address.
     IfProtected,
     OnAnyChip,
-    /// Only on a chip whose protection bits may protect an address, or aren't those of the given status bytes.
+    /// Only on a chip whose protection bits may protect an address, or differ from those in these status bytes.
     Restoring([u8; 2]),
 }
 
@@ -139,7 +139,7 @@ impl<'a, B: Bus + Drop> ProgressBus<'a, B> {
         self.replies
     }
 
-    /// Records facts for the lines before the job's first modifying command. `journal` is the journal's file name.
+    /// Records facts for the lines before the job's first modifying command. `journal` names the journal's file.
     pub fn begin_job(
         &mut self,
         in_session: bool,
@@ -255,7 +255,7 @@ impl<B> ProgressBus<'_, B> {
         });
     }
 
-    // A read between the announcement and the first modifying command repeats one of the scan.
+    // A read after the announcement of a change and before the first modifying command isn't part of the scan.
     fn step_of(&self, out: &[u8]) -> Option<Step> {
         match step_of(out, self.phase) {
             Some(Step::Scan) if self.terminal.announced().is_some() => Some(Step::ReadBack),

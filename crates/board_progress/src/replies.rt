@@ -13,7 +13,7 @@ pub struct Replies {
     /// Status 1 and status 2.
     pub status: [u8; 2],
     density: Option<u32>,
-    /// True if an SFDP table was read that doesn't offer erases of 4 KiB everywhere (JESD216, double word 1).
+    /// True if the SFDP table that was read last doesn't offer erases of 4 KiB everywhere (JESD216, double word 1).
     pub is_uneven: bool,
 }
 
@@ -35,8 +35,8 @@ impl Replies {
         }
     }
 
-    /// Returns the chip's size in bytes: that of the table of chips or, if the table has no row for the ID, that of the
-    /// SFDP. Returns `None` if the ID was not read, or if the SFDP is needed but was not read or gives no size.
+    /// Returns the chip's size in bytes: from the table of chips or, if the table has no row for the ID, from the SFDP.
+    /// Returns `None` if the ID was not read, or if the SFDP is needed but was not read or gives no size.
     pub fn size(&self) -> Option<u32> {
         match part_for(true, self.id?) {
             Some(part) => Some(part.size),

@@ -19,8 +19,8 @@ pub const VERSION: &str = "1.0";
 
 pub type LogWriter = BufWriter<LogFile<File>>;
 
-/// The log of a run (`-o`): what the run prints, its progress as plain lines, and the lines of `-V`. A log without a
-/// file drops each line. After a line that can't be written, nothing more is written, and `lost` returns the reason.
+/// The log of a run (`-o`): what the run prints, its progress as plain lines, and the lines of `-V`. Without a file,
+/// the log drops each line. After a line that can't be written, nothing more is written, and `lost` returns the reason.
 #[derive(Drop)]
 pub struct RunLog {
     file: RefCell<Option<LogWriter>>,
@@ -38,9 +38,9 @@ impl RunLog {
         }
     }
 
-    /// Starts the log in this file by writing its first line. If the file contains a log, truncates it before or, if
-    /// `appends` is true, appends an empty line first. A FIFO or a device isn't read. If another file can't be read or
-    /// has other contents than a log, leaves it as it is, and `is_refused` returns true afterwards.
+    /// Starts the log in this file by writing its first line. If the file contains a log, truncates the file before
+    /// or, if `appends` is true, appends an empty line first. A FIFO or a device isn't read. If another file can't be
+    /// read or has other contents than a log, leaves it as it is, and `is_refused` returns true afterwards.
     pub fn start(&self, file: LogWriter, appends: bool) {
         let mut file = file;
         match file.get_mut().is_empty_or_begins(FIRST.as_bytes()) {
@@ -185,8 +185,8 @@ fn may_begin_log(start: &[u8]) -> bool
     start.is_empty() || start == FIRST.as_bytes()
 }
 
-/// Starts the log in the file `name`, if a name is given. Creates the file or, if it contains a log, truncates it or,
-/// if `appends` is true, appends to it. Leaves any other file as it is; `check_started` then returns the fault.
+/// Starts the log in the file `name`, if a name is given. Creates the file if it is missing. Truncates a log or, if
+/// `appends` is true, appends to it. Leaves a file with other contents as it is: `check_started` returns the fault.
 ///
 /// Returns a fault of `create_log`: file fault 4 if the file is a journal, file fault 5 if another process has locked
 /// it, error 18 if memory runs out, or file fault 2 if it can't be created or truncated for another reason.

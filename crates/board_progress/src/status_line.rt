@@ -4,8 +4,8 @@
 use nor_buses::{ChangedByte, CheckFault, OtherChip};
 use std::fmt;
 
-/// The line for a fault that a `CheckedStatus` found. It follows the line of error 12, or is that of
-/// `JobFault::NotStored` after a change of SRP0.
+/// The line for a `CheckFault`. This line follows the line of error 12, or is the line of chip fault 3 after a change
+/// of SRP0.
 #[derive(Clone, Copy, Drop)]
 pub struct StatusLine(pub CheckFault);
 
@@ -42,7 +42,7 @@ impl fmt::Display for ChangedLine {
     }
 }
 
-/// The line that follows the line of error 12 if a `SameChip` stopped because the chip's unique ID has changed.
+/// The line that follows the line of error 12 if the run stopped because the chip's unique ID has changed.
 #[derive(Clone, Copy, Drop)]
 pub struct OtherLine(pub OtherChip);
 

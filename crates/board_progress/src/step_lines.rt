@@ -3,7 +3,7 @@ use crate::estimates::Minutes;
 use crate::steps::Step;
 use std::fmt;
 
-/// The number of transactions that the bus was asked to carry out for each step. A second scan is counted from 0.
+/// The number of transactions of each step, including one that the bus stopped. A second scan is counted from 0.
 #[derive(Clone, Copy, Default)]
 pub struct Counts {
     pub identify: u64,

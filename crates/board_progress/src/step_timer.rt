@@ -53,7 +53,7 @@ impl Tallies {
 pub struct StepTimer {
     tallies: Tallies,
     running: Option<(Step, u64)>,
-    // when the last operation was counted, or `restart` was called, whichever was later
+    // when the last operation was counted, or `new` or `restart` was called, whichever was latest
     last: Option<Instant>,
     drawn: Option<Instant>,
 }
@@ -125,7 +125,7 @@ impl StepTimer {
         }
     }
 
-    /// Returns the line of a step. Its time includes that of an operation that the chip is still performing.
+    /// Returns the line of a step. The time in it includes the time of an operation that the chip is still performing.
     pub fn line(&self, step: Step, total: Total, now: Option<Instant>) -> StepLine {
         let mut tally = self.tallies.of(step);
         if self.running.is_some() {
@@ -135,7 +135,7 @@ impl StepTimer {
         StepLine { step, tally, total }
     }
 
-    /// Returns whether the line may be drawn again: no drawing was recorded in the last tenth of a second.
+    /// Returns whether the progress line may be drawn again: no drawing was recorded in the last tenth of a second.
     pub fn is_due(&self, now: Option<Instant>) -> bool {
         self.drawn.is_none() || micros_between(self.drawn, now) >= BETWEEN
     }

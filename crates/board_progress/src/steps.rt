@@ -45,8 +45,8 @@ pub fn step_of(out: &[u8], phase: Phase) -> Option<Step> {
 }
 
 impl Step {
-    /// Returns the number of transactions of this step from one line of `ProgressStyle::Plain` to the next. It is
-    /// smaller for erases, because one erase can take seconds (64 KiB: up to 2 seconds, W25Q64FV datasheet).
+    /// Returns the number of transactions of this step from one line of `ProgressStyle::Plain` to the next. The number
+    /// is smaller for erases, because one erase can take seconds (64 KiB: up to 2 seconds, W25Q64FV datasheet).
     pub fn stride(self) -> u64
         ensures { 1 ≤ result }
     {
@@ -124,9 +124,9 @@ impl Total {
     }
 }
 
-/// The line that shows a step. While the step runs, it has the percentage and the rate if the number of operations is
-/// known exactly, otherwise the number so far, and also the time that is left or has passed. Afterwards it has the
-/// number of operations, the rate and the duration.
+/// The line that shows a step. During the step, the line has the percentage and the rate if the total is known exactly,
+/// otherwise the number of finished operations, and in both cases the time that is left or has passed. After the step,
+/// the line has the number of operations, the rate (if data was transferred) and the duration.
 #[derive(Clone, Copy, Drop)]
 pub struct StepLine {
     pub step: Step,

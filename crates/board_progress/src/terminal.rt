@@ -53,7 +53,7 @@ pub struct Transfer {
 }
 
 impl Screen {
-    /// Returns a screen without a progress line and without a file for the log.
+    /// Returns a `Screen` without a progress line and without a file for the log.
     pub fn new() -> Screen {
         Screen {
             state: Cell::new(ScreenState {
@@ -84,7 +84,7 @@ pub enum ProgressStyle {
     Minutes,
 }
 
-/// Standard error, the way in which the progress of a job is shown on it, and the log of the run.
+/// Standard error, the way in which it shows the progress of a job, and the log of the run.
 #[derive(Clone, Copy)]
 pub struct Terminal<'a> {
     rt: &'a HostRuntime,
@@ -96,8 +96,8 @@ pub struct Terminal<'a> {
 }
 
 impl<'a> Terminal<'a> {
-    /// Returns the terminal at standard error. In the mode `Auto`, it shows one line on a terminal, several lines on
-    /// another character device, and otherwise at most one line per minute. `is_verbose` is true with `-V`.
+    /// Returns a `Terminal` for standard error. The mode `Auto` selects the style `Line` on a terminal, `Plain` on
+    /// another character device, and otherwise `Minutes`. `is_verbose` is true with `-V`.
     pub fn new(
         rt: &'a HostRuntime,
         screen: &'a Screen,
@@ -275,8 +275,8 @@ impl<'a> Terminal<'a> {
     }
 
     /// Logs that the run waits for its programmer, because a read from a port that isn't set up may wait forever. The
-    /// first time, also shows the line: with `ProgressStyle::Plain` for good, and with `ProgressStyle::Line` until the
-    /// next output.
+    /// first time, also prints this line with `ProgressStyle::Plain` or, until the next output replaces it, with
+    /// `ProgressStyle::Line`.
     pub fn print_waiting(&self) {
         self.log().write_line(&WAITING);
         let state = self.screen.state.get();
@@ -301,7 +301,7 @@ impl<'a> Terminal<'a> {
     }
 
     /// Writes a line to the log that says how long the change will take or took. With `ProgressStyle::Line`, also
-    /// prints it.
+    /// prints this line.
     pub fn print_time<T: fmt::Display>(&self, text: &T) {
         if self.style == ProgressStyle::Line {
             self.end_line();
@@ -310,13 +310,13 @@ impl<'a> Terminal<'a> {
         self.log().write_line(text);
     }
 
-    /// Shows what a session will change and its journal's length (`print`), and the time of a change (`print_time`).
+    /// Shows what a session will change, the journal's length and, if a sector is touched, the estimated time.
     pub fn print_session(&self, announcement: Announcement) {
         self.print(&SessionText(announcement));
         self.announce(announcement);
     }
 
-    /// Shows what a restore will change (`print`), and the estimated time of a change (`print_time`).
+    /// Shows what a restore will change and, if a sector is touched, the estimated time.
     pub fn print_restore(&self, announcement: Announcement) {
         self.print(&RestoreText(announcement));
         self.announce(announcement);

@@ -1,4 +1,4 @@
--- The results of sessions and of reading a chip out, for the request and the addresses of the job's change.
+-- Lemmas about the results of sessions and of `read_out`, with the request and the included addresses of the job.
 use Rattle.std.proofs.Common.{◌≡◌, ◌≤◌, ℕ, List, Option, None, Result, Ok, Err, IfOk, IsOk, MatchResult, OnErr, arith}
 use Rattle.std.proofs.Common.{false, true}
 use Rattle.std.specs.Borrow.{Bor}

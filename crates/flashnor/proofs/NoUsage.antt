@@ -1,4 +1,4 @@
--- A job of flashnor has no usage fault. Only a layout without a file would cause one, and flashnor has no such layout.
+-- A job of flashnor has no usage fault: only a layout without a file would cause one, and flashnor has no such layout.
 use Rattle.std.proofs.Common.{◌≡◌, Bool, List, Option, None, Some, arith, false, inl, inr, refl, true}
 use Rattle.std.specs.Prelude.{IsSomeAnd, option_map}
 use Rattle.std.specs.Borrow.{Bor}

@@ -1,4 +1,4 @@
--- The faults of comparing files and streams are faults that `FailsFileRoles` allows.
+-- Each fault that occurs when files and streams are compared is a fault that `FailsFileRoles` allows.
 use Rattle.std.proofs.Common.{◌≡◌, IfErr, IfSome, Option, None, Some, Result, true, arith, inl, inr, refl}
 use Rattle.std.specs.Prelude.{IsSomeAnd}
 use Rattle.std.specs.Borrow.{Bor}

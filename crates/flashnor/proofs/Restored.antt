@@ -1,4 +1,4 @@
--- The result of a restore on a modelled bus that is steady or idle, from its promises on every bus.
+-- On a modelled bus that is steady or idle, the result of a restore follows from what `restore` promises on every bus.
 use Rattle.std.proofs.Common.{◌∙◌, Option, None, Some, Result, Ok, Err, inl, inr, true}
 use Rattle.nor_model.specs.Bus.{BusState}
 use Rattle.nor_driver.specs.OnlyReads.{IsSteadyOrIdle, OnlyReads}

@@ -1,4 +1,4 @@
--- Runs that follow one another: the journal stays able to restore the original chip, and a success leaves this chip.
+-- Runs that follow one another: a journal that can restore the original chip still can after each run.
 use mathlib.Core.HLevel.{is_prop→PathP}
 use Rattle.std.proofs.Common.{◌≡◌, ◌<◌, ◌∙◌, ◌∷◌, [], ℕ, Bool, List, Option, None, Some, Result}
 use Rattle.std.proofs.Common.{Ok, ◌⊎◌, IfSome, IsTrue, ap, arith, drop, inl, inr, length, option_map, refl, replicate}

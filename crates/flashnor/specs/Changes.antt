@@ -38,7 +38,7 @@ abbrev pub ReportsChange : Request → List ℕ → (old new : BusState) → Ans
 ReportsChange request image old new (answer.Done report) = IsDone request image old new report
 ReportsChange request image old new _ = ⊥
 
--- Holds if a session returned this error. Errors 1 to 11 leave the chip as it was, errors 1 to 8 also the vault.
+-- Holds if a session may return this error. Errors 1 to 11 leave the chip as it was, errors 1 to 8 also the vault.
 pub record FailsSession (request : Request) (image : List ℕ) (old new : BusState)
     (vault vault' : VaultState) (refusal : Refusal) : Type 0 where
   pub refuses : SessionErrors request image old new vault vault' refusal
@@ -52,8 +52,8 @@ pub record IsSafe (old opened : BusState) (vault : VaultState) : Type 0 where
   pub back : vault.sealed ≡ true → vault.telling ≡ true
       → (journal : Journal) → IsContent journal → vault.bytes ≡ text journal → CanRestore journal old.chip opened
 
--- Holds if a session had this outcome: the chip is as before unless the vault is sealed. A sealed faithful vault can
--- undo the session.
+-- Holds if a session may have this outcome. The chip is as before unless the vault is sealed. With the journal of a
+-- sealed faithful vault, the session can be undone.
 pub record HasKeptChange (request : Request) (image : List ℕ) (old new : BusState) (vault vault' : VaultState)
     (outcome : Result Answer Refusal) : Type 0 where
   pub returned : MatchResult outcome (ReportsChange request image old new)
@@ -63,7 +63,7 @@ pub record HasKeptChange (request : Request) (image : List ℕ) (old new : BusSt
   pub undo : vault'.sealed ≡ true → CanBeUndone request image old new vault'
   pub over : (opened : BusState) → IsWrittenOver old.chip new.chip opened.chip → IsSafe old opened vault'
 
--- Holds if a rehearsal of this request has this result. `chip` is the chip before it, and `vault` the vault after it.
+-- Holds if a rehearsal of this request may have this result, with `chip` as before and `vault` as after the rehearsal.
 pub record IsRehearsed (request : Request) (image stops : List ℕ) (chip : Chip)
     (vault : VaultState) (rehearsal : Rehearsal) : Type 0 where
   pub counts : IsRehearsal (length stops) vault rehearsal
@@ -87,7 +87,7 @@ pub record HasRehearsed (request : Request) (image stops : List ℕ) (old new : 
   pub returned : MatchResult outcome (ReportsRehearsal request image stops old.chip vault')
       (RehearsalErrors request image old.chip vault vault')
 
--- Holds if the journal's file keeps `vault'` (`IsKeptFile`) or, for a rehearsal, if the vault in memory is faithful.
+-- Holds if lawful files keep `vault'` in the journal's file, or if the vault of a rehearsal is faithful (`telling`).
 abbrev pub IsKeptIn : JournalUse → (vault vault' : VaultState) → FilesState → Type 0
 IsKeptIn (uses.Journal file) vault vault' files =
     is_lawful files.view ≡ true → IsKeptFile file.now vault' files
@@ -100,7 +100,7 @@ HasDone request image (uses.Journal file) old new vault vault' outcome =
 HasDone request image (uses.Rehearse stops) old new vault vault' outcome =
     HasRehearsed request image stops.items old new vault vault' outcome
 
--- Holds if a change was made with its journal in a file that was missing, or rehearsed with its journal in memory.
+-- Holds if a change with its journal in a new file, or a rehearsal with its journal in memory, may have this outcome.
 pub record HasMadeChange (request : Request) (image : List ℕ) (kept : JournalUse) (old new : BusState)
     (before : View) (after : FilesState) (outcome : Result Answer Refusal) : Type 0 where
   pub missing : IsMissing (journal_of kept) before
@@ -118,7 +118,7 @@ abbrev pub ProbeRefuses : Option ChipName → (old new : BusState) → Refusal �
 ProbeRefuses named old new refusal =
     (fault : ProbeFault) × (refusal ≡ of_probe fault) × ProbeErrors named old new fault
 
--- Holds if a restore returned this error. After an error of the first checks (`IsCheckedFirst`), the chip is as before.
+-- Holds if a restore may return this error. Errors of the first checks (`IsCheckedFirst`) leave the chip as it was.
 pub record RestoreRefuses (journal : Journal) (old new : BusState) (refusal : Refusal) : Type 0 where
   pub refuses : RestoreErrors journal old new refusal
   pub same : IsCheckedFirst refusal → IsSame old.chip new.chip
@@ -133,8 +133,8 @@ pub record Passes (named : Option ChipName) (old new : BusState) : Type 0 where
   pub steady_or_idle : IsSteadyOrIdle new
   pub name : HasGivenName named old.chip
 
--- Holds if a restore, after a check of the name, had this outcome. Even if writing to the chip's files is interrupted,
--- the journal can still restore each original chip that it could restore.
+-- Holds if a restore, after a check of the name, may have this outcome. Even if writing to the chip's files is
+-- interrupted, the journal can restore each original chip that it could restore before.
 pub record HasRestoredEmulated (journal : Journal) (named : Option ChipName) (old new : BusState)
     (outcome : Result Answer Refusal) : Type 0 where
   -- the bus after the identification that checks the name or, if no name is given, the bus before the restore

@@ -22,7 +22,7 @@ use Rattle.flashnor.specs.declared.chips.Content.{Content}
 use Rattle.nor_console.specs.declared.messages.Fault.{Fault}
 use Rattle.nor_console.specs.declared.messages.Fault.TheVariants as end
 
--- Holds if the configuration is that of this emulated chip with the given unique ID, or with eight zero bytes.
+-- Holds if `config` is that of the emulated chip, with the given unique ID (eight zero bytes if none is given).
 abbrev pub IsConfigWith : Emulated → Option (List ℕ) → Config → Type 0
 IsConfigWith chip None config = IsConfigOfEmulated chip config
 IsConfigWith chip (Some unique) config =
@@ -31,8 +31,8 @@ IsConfigWith chip (Some unique) config =
 abbrev pub allowance_of : Programmer → ℕ
 allowance_of programmer = unwrap_or programmer.stop 18446744073709551615
 
--- Holds if the bus is well-behaved and punctual, its emulated chip is idle, and no modifying command was sent over it.
--- The bus is steady if and only if `power=` is missing.
+-- Holds if the bus is well-behaved and punctual with the allowance of `stop=`, its emulated chip is idle, and nothing
+-- that may modify a chip was sent over the bus. The bus is steady if and only if `power=` is missing.
 pub record IsReady (programmer : Programmer) (bus : BusState) : Type 0 where
   pub config : IsConfigWith programmer.chip programmer.unique bus.chip.config
   pub idle : bus.chip.busy ≡ 0
@@ -42,7 +42,7 @@ pub record IsReady (programmer : Programmer) (bus : BusState) : Type 0 where
   pub steady : bus.steady ≡ is_none programmer.power
   pub unsent : bus.sent ≡ []
 
--- Holds if `content` is read from the chip's files. A missing image has bytes FFh, and a missing status file zeros.
+-- Holds if a run reads `content` from the chip's files. A missing image is all FFh, a missing status file two zeros.
 pub record IsContentOf (view : View) (programmer : Programmer) (content : Content) : Type 0 where
   pub bytes : AreOfFile view programmer.image (emulated_part programmer.chip).size
       (replicate (emulated_part programmer.chip).size 255) content.bytes.items
@@ -57,7 +57,6 @@ pub record OpensChip (programmer : Programmer) (content : Content) (bus : BusSta
   pub ready : IsReady programmer bus
   pub holds : HasContent content bus.chip
 
--- Holds if the bus is as in `IsReady`, with any allowance and any effect of a stop, and its chip has this content.
 pub record HoldsFiles (programmer : Programmer) (content : Content) (bus : BusState) : Type 0 where
   pub config : IsConfigWith programmer.chip programmer.unique bus.chip.config
   pub idle : bus.chip.busy ≡ 0
@@ -68,7 +67,7 @@ pub record HoldsFiles (programmer : Programmer) (content : Content) (bus : BusSt
   pub kept : bus.chip.kept ≡ kept_in content.status
   pub latch : bus.chip.latch ≡ (slice_index content.status 0 / 2 % 2 == 1)
 
--- Holds if the simulated bus leads to a chip with this content, with the polls of `busy=` and the byte of `power=`.
+-- Holds if the simulated bus is ready with this content on its chip, the delay of `busy=` and the byte of `power=`.
 pub record StartsBus (programmer : Programmer) (content : Content) (bus : SimBus) : Type 0 where
   pub opens : OpensChip programmer content (sim_state bus)
   pub pace : pace_of bus ≡ unwrap_or programmer.busy 0
@@ -84,8 +83,8 @@ FailsToHold view programmer fault = (fault ≡ end.Refused Memory)
     ⊎ (IsSomeAnd programmer.image (λ name. IsLockingFault view name.now (emulated_part programmer.chip).size fault)
     ⊎ IsSomeAnd programmer.status (λ name. IsLockingFault view name.now 2 fault))
 
--- Holds if the chip was written back, except to the files `image` and `status`, which could not be written. The others
--- durably have the chip's bytes and status bytes, if the files obey their contract.
+-- Holds if the chip's bytes and status bytes are durably in its files (if the files obey their contract), except in the
+-- files `image` and `status`, which could not be written.
 pub record AreWrittenBack (programmer : Programmer) (chip : Chip) (image status : Option (Bor Text))
     (files : FilesState) : Type 0 where
   pub bytes : List ℕ

@@ -32,7 +32,7 @@ all_written = record { image = None; status = None; trace = None; journal = None
 abbrev pub lines_after : (is_printed : Bool) → Unwritten → List ℕ
 lines_after is_printed unwritten = line_if_lost is_printed ++ lines_of_unwritten unwritten
 
--- the lines that report the faults of a run, or `None` if the lines of its fault aren't known
+-- the lines that a run with this outcome prints to report faults, or `None` if the text of the fault isn't known
 abbrev pub lines_printed : Wording → Detail → Result Answer Fault → (is_printed : Bool) → Unwritten → Option (List ℕ)
 lines_printed wording detail (Ok found) is_printed unwritten = Some (lines_after is_printed unwritten)
 lines_printed wording detail (Err fault) is_printed unwritten =
@@ -43,7 +43,7 @@ abbrev pub stream_for : Result Answer Fault → (to : Reports) → Reports
 stream_for (Ok found) to = at.Errors
 stream_for (Err fault) to = to
 
--- Holds if this is the end of a run with an answer or help. Standard error had the contents `err`, and now has `err'`.
+-- Holds if a run with an answer or help may have this `ending`. Standard error had the contents `err`, now `err'`.
 pub record EndsWell (is_printed : Bool) (unwritten : Unwritten) (err err' : Option (List ℕ))
     (ending : Ending) : Type 0 where
   pub few : ending.status ≤ 1
@@ -52,7 +52,7 @@ pub record EndsWell (is_printed : Bool) (unwritten : Unwritten) (err err' : Opti
   pub reported : ending.reported ≡ true → Appends err err' (lines_after is_printed unwritten)
   pub silent : is_printed ≡ true → unwritten ≡ all_written → err' ≡ err
 
--- Holds if this is the end of a run with this fault. The fault's stream had the contents `err`, and now has `err'`.
+-- Holds if a run with this fault may have this `ending`. The fault's stream had the contents `err`, and now has `err'`.
 pub record EndsBadly (wording : Wording) (detail : Detail) (fault : Fault) (unwritten : Unwritten)
     (err err' : Option (List ℕ)) (ending : Ending) : Type 0 where
   pub status : ending.status ≡ 1
@@ -60,7 +60,7 @@ pub record EndsBadly (wording : Wording) (detail : Detail) (fault : Fault) (unwr
   pub reported : ending.reported ≡ true → IfSome (lines_printed wording detail (Err fault) false unwritten)
       (Appends err err')
 
--- Holds if this is the end of a run with this outcome. A fault is printed in this wording to the stream `to`.
+-- Holds if a run with this outcome may have this `ending`. A fault is printed in this wording to the stream `to`.
 pub record HasPrinted (wording : Wording) (detail : Detail) (outcome : Result Answer Fault) (unwritten : Unwritten)
     (to : Reports) (out out' err err' : Option (List ℕ)) (ending : Ending) : Type 0 where
   pub few : ending.status ≤ 1
@@ -81,7 +81,7 @@ pub record IsUnread (error : Error) (wording : Wording) (out out' err err' : Opt
   pub of_words : IsOfArguments error fault
   pub prints : HasPrinted wording Unsaid (Err fault) all_written at.Errors out out' err err' ending
 
--- Holds if a run ends with file fault 1, because no directory could be opened in place of closed standard streams.
+-- Holds if a run may end with file fault 1 because it could not open a directory in place of closed standard streams.
 pub record IsWithoutStreams (wording : Wording) (out out' err err' : Option (List ℕ)) (ending : Ending) : Type 0 where
   pub name : Bor Text
   pub prints : HasPrinted wording Unsaid (Err (end.File file.Read name because.Unknown)) all_written at.Errors

@@ -16,7 +16,7 @@ abbrev pub MakesDurable : Option (Bor Text) → Found → FilesState → Type 0
 MakesDurable None content files = ⊤
 MakesDurable (Some name) content files = IsDurable name.now content files
 
--- Holds if a file of the chip was locked and read: no file changed, and what was found is durable.
+-- Holds if no file changed, and the named file, if any, durably has the contents `found` (`None` if it is missing).
 pub record IsHeld (name : Option (Bor Text)) (found : Found) (old new : FilesState) : Type 0 where
   pub stay : AllStay old new
   pub durable : MakesDurable name found new
@@ -35,8 +35,8 @@ pub record FillsMissing (programmer : Programmer) (held : Held) : Type 0 where
       → held.content.bytes.items ≡ replicate (emulated_part programmer.chip).size 255
   pub status : held.status_there ≡ false → held.content.status ≡ 0 ∷ 0 ∷ []
 
--- Holds if a host crash may leave `left` while `bytes` are written to a file: a mix of `had` and `bytes`, or for a new
--- file no file, `bytes`, or contents of another length.
+-- Holds if a host crash may leave `left` while `bytes` are written to a file. If the file existed (`there`), `left` is
+-- a mix of `had` and `bytes`. If not, `left` is `None`, is `bytes`, or has another length than `bytes`.
 abbrev pub IsAmid : (there : Bool) → (had bytes : List ℕ) → Found → Type 0
 IsAmid true had bytes left = (has : List ℕ) × (left ≡ Some has) × IsMixed had bytes has
 IsAmid false had bytes left = (left ≡ None)
@@ -49,7 +49,7 @@ abbrev pub LeavesAmid : Option (Bor Text) → (there : Bool) → (had bytes : Li
 LeavesAmid None there had bytes files = ⊤
 LeavesAmid (Some name) there had bytes files = LeavesFileAmid name.now there had bytes files
 
--- Holds if a known file durably has the bytes `had` or is durably missing, and `had` is as long as `bytes`.
+-- Holds if a known file durably has the bytes `had` (`there`) or is durably missing, and `had` is as long as `bytes`.
 pub record IsReadyFile (name : Text) (there : Bool) (had bytes : List ℕ) (files : FilesState) : Type 0 where
   pub known : IsKnownFile name files.view
   pub durable : IsDurable name (was there had) files

@@ -1,4 +1,4 @@
--- What a host crash may leave of a chip's files and journal, and the chip that a later run opens from them.
+-- What a host crash may leave of a chip's files and of its journal, and the chip that a later run opens from its files.
 use Rattle.std.specs.Prelude.{◌≡◌, ◌⊎◌, ◌∷◌, [], ℕ, Bool, true, false, List, Option, None, Some}
 use Rattle.std.specs.Prelude.{IfSome, IsSomeAnd, length, replicate, slice_index, unwrap_or, ⊤}
 use Rattle.std.specs.Borrow.{Bor}
@@ -15,12 +15,13 @@ use Rattle.flashnor.specs.Chips.{IsContentOf, OpensChip}
 use Rattle.nor_console.specs.Stored.{IsNot, IsRead, LeavesNoMoreOf}
 use Rattle.flashnor.specs.declared.chips.Content.{Content}
 
--- Holds if a later run may find `found` under this name: a host crash may leave it, or the file is missing as at first.
+-- Holds if a host crash may leave `found`, or if `found` is `None` and the file was missing at first or isn't named.
 abbrev pub MayFind : Option (Bor Text) → (was found : Found) → FilesState → Type 0
 MayFind None was found files = found ≡ None
 MayFind (Some name) was found files = files.may_leave name.now found ⊎ ((was ≡ None) × (found ≡ None))
 
--- Holds if `chip` is the idle chip of these files. A missing image has bytes FFh, and a missing status file zeros.
+-- Holds if `chip` is idle, has the configuration `setup`, and has the bytes of `image` (FFh if `None`) and the
+-- non-volatile status bits of `status` (zeros if `None`), and if `image` and `status` have the right lengths.
 pub record IsOpenedFrom (image status : Found) (setup : Config) (chip : Chip) : Type 0 where
   pub config : chip.config ≡ setup
   pub whole : IfSome image (λ bytes. length bytes ≡ setup.size)
@@ -32,14 +33,14 @@ pub record IsOpenedFrom (image status : Found) (setup : Config) (chip : Chip) : 
 abbrev pub LeavesOneJournal : (file : Text) → Journal → FilesState → Type 0
 LeavesOneJournal file journal files = (left : Found) → files.may_leave file left → left ≡ Some (text journal)
 
--- The chip that a run opens from its files: `content` is what it reads from them, and `bus` is a bus to the chip.
+-- A chip as a run opens it: `content` is what the run reads from the chip's files, and `bus` is a bus to the chip.
 pub record Opened (programmer : Programmer) (files : FilesState) : Type 0 where
   pub content : Content
   pub read : IsContentOf files.view programmer content
   pub bus : BusState
   pub opens : OpensChip programmer content bus
 
--- Holds if `Is` holds for every bus whose chip a later run may open, from the files that it may find (`MayFind`).
+-- Holds if `Is` holds for each bus to a chip that a later run may open from files that `MayFind` allows.
 abbrev pub LeavesOnly : {programmer : Programmer} {old : FilesState} → Opened programmer old → (BusState → Type 0)
     → FilesState → Type 0
 LeavesOnly {programmer} first Is files = (image status : Found) (opened : BusState)
@@ -47,8 +48,8 @@ LeavesOnly {programmer} first Is files = (image status : Found) (opened : BusSta
     → MayFind programmer.status first.read.status.found status files
     → IsOpenedFrom image status first.bus.chip.config opened.chip → Is opened
 
--- Holds if a host crash can leave only one valid journal in `file`, and this journal can restore the original chip (the
--- chip of `first`) from every chip that a later run may open (`LeavesOnly`).
+-- Holds if a host crash always leaves the same valid journal in `file`, and this journal can restore the original chip
+-- (the chip of `first`) from every chip that a later run may open (`LeavesOnly`).
 pub record IsRestorableFrom {programmer : Programmer} {old : FilesState} (file : Text) (first : Opened programmer old)
     (files : FilesState) : Type 0 where
   pub journal : Journal
@@ -61,14 +62,14 @@ pub record IsNoFileOf (nature : Nature) (programmer : Programmer) (name : Text) 
   pub status : IsNot nature programmer.status name
   pub trace : IsNot nature programmer.trace name
 
--- Holds if no file is named, if it was missing, or if a host crash can leave it only with the length that it had.
+-- Holds if no file is named, if the file was missing, or if a host crash can leave the file only with its old length.
 abbrev pub LeavesAsLong : Option (Bor Text) → (old new : FilesState) → Type 0
 LeavesAsLong None old new = ⊤
 LeavesAsLong (Some name) old new = (had : List ℕ) → old.view.seen name.now ≡ Some had → (left : Found)
     → new.may_leave name.now left → IsSomeAnd left (λ has. length has ≡ length had)
 
--- Holds if a change with its journal in `file`, which was missing, doesn't lose the original chip: each chip that a
--- later run may open is the original chip (`same`), or the one journal that a crash can leave can restore it (`back`).
+-- Holds if the original chip isn't lost after a change with its journal in the new file `file`: a later run opens the
+-- original chip (`same`), or the journal can restore it (`back`). The other fields say more.
 pub record LeavesOriginalRestorable (programmer : Programmer) (file : Text) (old new : FilesState) : Type 0 where
   pub missing : old.view.seen file ≡ None
   pub others : (name : Text) → IsNoFileOf old.view.nature programmer name → AreApart old.view.nature file name
@@ -80,7 +81,7 @@ pub record LeavesOriginalRestorable (programmer : Programmer) (file : Text) (old
   pub same : sealed ≡ false → LeavesOnly first (λ opened. IsSame first.bus.chip opened.chip) new
   pub back : sealed ≡ true → IsRestorableFrom file first new
 
--- Holds if a host crash can leave only what it could before, except for the trace and an empty file of the journal.
+-- Holds if a host crash can leave only what it could before, any trace, and an empty file for a missing journal.
 pub record LeavesAll (programmer : Programmer) (file : Text) (old new : FilesState) : Type 0 where
   pub image : LeavesNoMoreOf programmer.image old new
   pub status : LeavesNoMoreOf programmer.status old new
@@ -88,19 +89,20 @@ pub record LeavesAll (programmer : Programmer) (file : Text) (old new : FilesSta
       → LeavesNoMore name old new
   pub empty : LeavesOrEmpty file old new
 
--- Holds if a host crash can leave nothing new, or if the original chip isn't lost (`LeavesOriginalRestorable`).
+-- Holds if only what `LeavesAll` allows changed, or if the original chip isn't lost (`LeavesOriginalRestorable`).
 abbrev pub KeepsOriginalFiles : Programmer → (file : Text) → (old new : FilesState) → Type 0
 KeepsOriginalFiles programmer file old new =
     LeavesAll programmer file old new ⊎ LeavesOriginalRestorable programmer file old new
 
--- Holds if a host crash can leave only what it could before, except for the trace.
+-- Holds if a host crash can leave of each file, except the trace, only what it could leave before.
 pub record LeavesSources (programmer : Programmer) (file : Text) (old new : FilesState) : Type 0 where
   pub image : LeavesNoMoreOf programmer.image old new
   pub status : LeavesNoMoreOf programmer.status old new
   pub journal : LeavesNoMore file old new
   pub others : (name : Text) → IsNot old.view.nature programmer.trace name → LeavesNoMore name old new
 
--- Holds if the journal in `file` can still restore each original chip, from every chip that a later run may open.
+-- Holds if the journal in `file` can restore each chip that it could restore before, from every chip that a later run
+-- may open. The other fields say more.
 pub record LeavesRestorable (programmer : Programmer) (file : Text) (old new : FilesState) : Type 0 where
   pub others : (name : Text) → IsNoFileOf old.view.nature programmer name → KeepsFile name old new
   pub image : LeavesAsLong programmer.image old new
@@ -112,7 +114,7 @@ pub record LeavesRestorable (programmer : Programmer) (file : Text) (old new : F
   pub stays : KeepsFile file old new
   pub back : (first : Chip) → CanRestore journal first found.bus → LeavesOnly found (CanRestore journal first) new
 
--- Holds if a host crash can leave nothing new, or if the journal can still restore (`LeavesRestorable`).
+-- Holds if only what `LeavesSources` allows changed, or if the journal can still restore (`LeavesRestorable`).
 abbrev pub KeepsRestorable : Programmer → (file : Text) → (old new : FilesState) → Type 0
 KeepsRestorable programmer file old new =
     LeavesSources programmer file old new ⊎ LeavesRestorable programmer file old new

@@ -69,13 +69,13 @@ is_written job role.Layout = false
 is_written job role.Wanted = false
 is_written job _ = true
 
--- True if `earlier` precedes `later`, and they need different files. (`Image` and `Wanted` may be the same file.)
+-- True if `earlier` precedes `later` and the two roles need different files. (`Image` and `Wanted` may share one.)
 abbrev pub must_differ : ChipJob → (earlier later : Role) → Bool
 must_differ job role.Image role.Wanted = false
 must_differ job earlier later =
     nat_lt (order_of earlier) (order_of later) && (is_written job earlier || is_written job later)
 
--- Holds if this is file fault 5 with the name of the later of two roles that need different files, but may have one.
+-- Holds if this is file fault 5 with the later role's file: the roles must differ, but the files may be the same.
 abbrev pub IsTwice : Nature → ChipJob → Fault → Type 0
 IsTwice nature job fault = (earlier later : Role) × (must_differ job earlier later ≡ true)
     × IsShared nature (file_with_role job earlier) (file_with_role job later) fault

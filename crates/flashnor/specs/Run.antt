@@ -59,7 +59,7 @@ use Rattle.flashnor.specs.declared.printing.Ending.{Ending}
 use Rattle.flashnor.specs.declared.streams.Reports.{Reports}
 use Rattle.flashnor.specs.declared.streams.Reports.TheVariants as at
 
--- Holds if `change` had this outcome, as a session or a rehearsal, at the addresses of its regions.
+-- Holds if a session or rehearsal of `change`, at the addresses of its regions, may have this outcome.
 pub record ChangesChip (view : View) (after : FilesState) (chip : Emulated) (named : Option ChipName)
     (change : Change) (old new : BusState) (outcome : Result Answer Refusal) : Type 0 where
   pub ranges : Option (List Span)
@@ -107,13 +107,13 @@ DoesJob view after programmer named (task.Change change) old new outcome =
 DoesJob view after programmer named (task.Restore journal) old new outcome =
     DoesRestore view named journal.now old new outcome
 
--- Holds if `unwritten` names only files of the chip that may fail to be written, and none if nothing is written back.
+-- Holds if the image and status of `unwritten` name only files whose write may fail (neither without a write-back).
 abbrev pub AreReported : Bool → Programmer → Unwritten → View → Type 0
 AreReported true programmer unwritten view =
     IsReportedOf programmer.image unwritten.image view × IsReportedOf programmer.status unwritten.status view
 AreReported false programmer unwritten view = (unwritten.image ≡ None) × (unwritten.status ≡ None)
 
--- Holds if each known file except the trace is the same in `amid`, after the trace was created, as in `old`.
+-- Holds if `amid`, the view after the trace was created, has the nature and the known files of `old`, except the trace.
 pub record IsViewBut (trace : Option (Bor Text)) (old amid : View) : Type 0 where
   pub nature : amid.nature ≡ old.nature
   pub stays : (name : Name) → IsNot old.nature trace name → IsKnownFile name old
@@ -128,8 +128,8 @@ abbrev pub DoesStarted : (files after : FilesState) → ChipJob → Content → 
 DoesStarted files after job content new outcome = (bus : SimBus) × StartsBus job.programmer content bus
     × DoesTraced files after job (sim_state bus) new outcome
 
--- Holds if the call was made on the chip in the programmer's files. `left`: if the chip is written back, `unwritten`
--- names each of its files that wasn't written. `traced`, `kept`: only the run's own trace and journal may be lost.
+-- Holds if a call to the engine, on the chip in the programmer's files, had this outcome. `traced`, `kept`: only the
+-- run's own trace and journal may be named as lost.
 pub record IsCalled (files after : FilesState) (job : ChipJob) (unwritten : Unwritten)
     (outcome : Result Answer Refusal) : Type 0 where
   pub roles : FilesHaveOneRole files.view.nature job
@@ -190,19 +190,18 @@ pub record StayBut (programmer : Programmer) (made : Option (Bor Text)) (old new
   pub others : (name : Name) → IsNot old.view.nature programmer.trace name → IsNot old.view.nature made name
       → KeepsFile name old new
 
--- Holds if a change doesn't lose the original chip, or if a rehearsal changes no file except the trace.
 abbrev pub KeepsChange : Programmer → JournalUse → (old new : FilesState) → Type 0
 KeepsChange programmer (uses.Journal file) old new = KeepsOriginalFiles programmer file.now old new
 KeepsChange programmer (uses.Rehearse stops) old new = StayBut programmer None old new
 
--- Holds if the files are as the task promises at every exit of a run that started with files at rest (`AreAtRest`).
+-- Holds if the files `new` are as the task promises at every exit of a run that starts with the files `old` at rest.
 abbrev pub KeepsFiles : Programmer → Task → (old new : FilesState) → Type 0
 KeepsFiles programmer (task.Change change) old new = KeepsChange programmer change.journal_use old new
 KeepsFiles programmer (task.Restore journal) old new = KeepsRestorable programmer journal.now old new
 KeepsFiles programmer done old new = StayBut programmer (made_by done) old new
 
--- Holds if a change ended with this answer and all files were written: the chip's files durably hold the target chip,
--- and the journal's file durably holds one journal, which can restore the original chip.
+-- Holds if the chip's files durably hold the target chip of a change that returned this answer, and the journal's file
+-- durably holds one journal, which can restore the original chip.
 pub record HoldsTarget (programmer : Programmer) (named : Option ChipName) (change : Change) (file : Text)
     (found : Answer) (old new : FilesState) : Type 0 where
   pub first : Opened programmer old
@@ -216,7 +215,7 @@ pub record HoldsTarget (programmer : Programmer) (named : Option ChipName) (chan
   pub restorable : IsRestorableFrom file first new
   pub durable : IsDurable file (Some (text restorable.journal)) new
 
--- Holds if a restore ended with this answer and all files were written: the chip's files durably hold its result.
+-- Holds if the chip's files durably hold the result of a restore that returned this answer, and the journal stays.
 pub record HoldsRestored (programmer : Programmer) (file : Text) (found : Answer) (old new : FilesState) : Type 0 where
   pub opened : Opened programmer old
   pub last : BusState
@@ -236,7 +235,7 @@ HoldsChange programmer named change (uses.Journal file) found old new =
     HoldsTarget programmer named change file.now found old new
 HoldsChange programmer named change (uses.Rehearse stops) found old new = ⊤
 
--- Holds if the files hold the result of the task. Nothing is claimed for a rehearsal, or if no chip changes.
+-- Holds if the files hold the result of a change or restore. Always holds for a rehearsal and for any other task.
 abbrev pub HoldsTask : Programmer → Option ChipName → Task → Answer → (old new : FilesState) → Type 0
 HoldsTask programmer named (task.Change change) found old new =
     HoldsChange programmer named change change.journal_use found old new
@@ -244,7 +243,7 @@ HoldsTask programmer named (task.Restore journal) found old new =
     HoldsRestored programmer journal.now found old new
 HoldsTask programmer named done found old new = ⊤
 
--- Holds if the files hold the result of the task, or if there was a fault or a file could not be written.
+-- Holds if the files hold the result of the task, if there was a fault, or if a file was lost or could not be written.
 abbrev pub HoldsResult : ChipJob → Unwritten → Result Answer Fault → (old new : FilesState) → Type 0
 HoldsResult job unwritten (Ok found) old new = unwritten ≡ all_written
     → HoldsTask job.programmer job.named job.task found old new
@@ -256,7 +255,7 @@ EndsChipJob files after on_chip unwritten (Err (end.Refused refusal)) =
     IsCalled files after on_chip unwritten (Err refusal) ⊎ FailsJob files.view on_chip (end.Refused refusal)
 EndsChipJob files after on_chip unwritten (Err fault) = FailsJob files.view on_chip fault
 
--- Holds if this job may have this result. The clauses about files require that they were at rest at the start.
+-- Holds if this job may have this result. `AreAtRest` is a premise of what a chip job promises about files.
 abbrev pub AnswersJob : (files after : FilesState) → Job → Unwritten → Result Answer Fault → Type 0
 AnswersJob files after job.List unwritten (Ok answer.Chips) = (unwritten ≡ all_written) × AllStay files after
 AnswersJob files after job.List unwritten _ = ⊥
@@ -280,7 +279,7 @@ abbrev pub IsPrintedAt : Nature → Result Answer Fault → Reports → Type 0
 IsPrintedAt nature (Ok found) to = to ≡ at.Errors
 IsPrintedAt nature (Err fault) to = IsReportedTo nature fault to
 
--- Holds if this may be the end of a run with these arguments. Status 0 requires that the run succeeds (`RunSucceeds`).
+-- Holds if a run with these arguments may have this `ending`. Status 0 requires that the run succeeds (`RunSucceeds`).
 pub record IsStatus (files after : FilesState) (words : List Text) (wording : Wording)
     (out out' err err' : Option (List ℕ)) (ending : Ending) : Type 0 where
   pub few : ending.status ≤ 1

@@ -9,8 +9,8 @@ use Rattle.nor_console.specs.declared.messages.FileFault.TheVariants as file
 use Rattle.flashnor.specs.declared.streams.Reports.{Reports}
 use Rattle.flashnor.specs.declared.streams.Reports.TheVariants as to
 
--- Holds if the fault may be printed to this stream: to standard error, or elsewhere if it is file fault 5 and the
--- program may print to the file that it names.
+-- Holds if the fault may be printed to this stream. Every fault may go to standard error. Only file fault 5 may go to
+-- standard output or nowhere, if the program may print to the file that this fault names.
 abbrev pub IsReportedTo : Nature → Fault → Reports → Type 0
 IsReportedTo nature fault to.Errors = ⊤
 IsReportedTo nature (end.File file.Taken of cause) where_to = nature.fails (Printed of.now) ≡ true

@@ -16,8 +16,8 @@ use Rattle.nor_console.specs.declared.answers.Answer.{Answer}
 use Rattle.flashnor.specs.declared.holding.Unwritten.{Unwritten}
 use Rattle.nor_console.specs.declared.messages.Fault.{Fault}
 
--- Holds if a run may find the files `new` at rest after an earlier run left `old`, even if that run was killed or the
--- host crashed. You may have moved aside a file of the chip that was missing at first.
+-- Holds if a run may find the files `new` at rest after an earlier run left `old`, even if the earlier run was killed
+-- or the host crashed. You may have moved aside a file of the chip that was missing at first.
 pub record Follows {programmer : Programmer} {start : FilesState} (file : Text) (first : Opened programmer start)
     (old new : FilesState) : Type 0 where
   pub rest : AreAtRest new

@@ -19,7 +19,7 @@ pub struct Content {
     pub status: [u8; 2],
 }
 
-/// Reads the chip's files, with the faults of `read_chip_file`. A missing image is FFh, a missing status file zeros.
+/// Reads the chip's files (a missing image is FFh, a missing status zeros). Returns file fault 1 or 3, or error 18.
 pub fn read_content<'a, R: Store>(rt: &R, programmer: &Programmer<'a>) -> Result<Content, Fault<'a>>
     ensures len { IfOk result (λ content. vec_len content.bytes ≡ (emulated_part programmer.now.chip).size) }
     ensures ok { IfOk result (IsContentOf (R.state rt.now).view programmer.now) }
@@ -31,7 +31,7 @@ pub fn read_content<'a, R: Store>(rt: &R, programmer: &Programmer<'a>) -> Result
     Ok(content_of(rt.alloc(), size, image, status)?)
 }
 
-/// Returns a chip's contents: FFh for a missing image, and zeros for a missing status. Fails if memory runs out.
+/// Returns a chip's contents: all FFh for a missing image, zeros for a missing status. Fails if memory runs out.
 pub fn content_of(
     alloc: Global,
     size: u32,
@@ -98,7 +98,7 @@ fn cause_of_length(wanted: u32, found: usize) -> Cause {
 }
 
 /// Returns a bus to the idle chip with these contents. The bus stops after `stop=` transactions (default: `u64::MAX`).
-/// After each operation, `busy=` polls show BUSY (default: none). With `power=`, a stop cuts the chip's power.
+/// After each operation, `busy=` polls (default: 0) show BUSY. With `power=`, a stop cuts the chip's power.
 pub fn start(programmer: &Programmer<'_>, content: Content) -> SimBus
     requires { vec_len content.bytes ≡ (emulated_part programmer.now.chip).size }
     ensures { StartsBus programmer.now content result }

@@ -124,7 +124,7 @@ fn chip_detail(saved: &Journal<'_>, chip: Emulated) -> Detail {
     }
 }
 
-/// The line with this detail and its line feed, or no text if nothing is known.
+/// The line that prints this detail, with its line feed, or no text for `Unsaid`.
 #[derive(Drop)]
 pub struct DetailLine(pub Detail);
 

@@ -95,7 +95,7 @@ fn hold_whole<'a, R: Store>(
     }
 }
 
-// Syncs the directory too, since a run that created the file may have been killed before it synced the directory.
+// Syncs the directory too: an earlier run may have been killed between creating the file and syncing the directory.
 fn read_held<'a, R: Store>(rt: &mut R, name: &'a str, len: u32) -> Result<Vec<u8>, Fault<'a>>
     ensures nature { (R.state rt.new).view.nature ≡ (R.state rt.old).view.nature }
     ensures len { IfOk result (λ bytes. vec_len bytes ≡ len) }
@@ -244,8 +244,8 @@ fn write_over<R: Store>(rt: &mut R, name: &str, bytes: &[u8]) -> io::Result<()>
     rt.sync(name)
 }
 
-// Creates a file with these bytes. Until all are synced, the file is empty or has one byte more than `bytes`. So if the
-// files obey their contract, a host crash can leave a file as long as `bytes` only with exactly these bytes.
+// Creates a file with these bytes. Until all bytes are synced, the file is empty or has one byte more than `bytes`. So
+// if the files obey their contract, a host crash can leave a file as long as `bytes` only with exactly these bytes.
 fn make_with<R: Store>(rt: &mut R, name: &str, bytes: &[u8]) -> io::Result<()>
     ensures nature { (R.state rt.new).view.nature ≡ (R.state rt.old).view.nature }
     ensures others { is_lawful (R.state rt.old).view ≡ true → OthersStay name.now (R.state rt.old) (R.state rt.new) }

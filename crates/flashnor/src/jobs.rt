@@ -76,7 +76,7 @@ pub fn call_on<'a, R: Store>(
     call(rt, bus, log, job, sources)
 }
 
-// The roles are checked again, because another name may be a link to the trace's file, which didn't exist before.
+// Checks the roles again, because another name may be a link to the trace's file, which may not have existed before.
 fn open_trace<'a, R: Store>(
     rt: &mut R,
     job: &ChipJob<'a>,

@@ -15,11 +15,11 @@ use nor_files::Store;
 /// States that the original chip of a change can be restored, even if kills or host crashes interrupt restores.
 ///
 /// `restorable`: if the journal can restore the original chip from everything that a host crash may leave of the chip's
-/// files (`IsRestorableFrom`), it still can after each run that restores from it. `ends`: a run that restores, returns
-/// an answer and writes all files leaves the original chip.
+/// files (`IsRestorableFrom`), it still can after each run of `--restore` with this journal. `ends`: such a run, if it
+/// returns an answer and writes all files, leaves the original chip.
 ///
-/// Each run must have the same chip and files (`HaveOneChip`) and find them at rest (`AreAtRest`). Between two runs
-/// nothing else may change them (`Follows`), but you may move aside a file of the chip that was missing at first.
+/// Each run must have the same chip and files (`HaveOneChip`) and find the files at rest (`AreAtRest`). Between runs
+/// nothing else may change the files (`Follows`), but you may move aside a chip's file that was missing at first.
 pub fn runs_restore_original<R: Store>()
     ensures restorable { (programmer : Programmer) (file : Text) (start old mid new : R)
         (first : Opened programmer (R.state start)) (on_chip : ChipJob)

@@ -30,8 +30,8 @@ pub struct Ending {
 }
 
 /// Prints an answer or the help to `output`, or `detail` (unless `Numbered`) and the fault to the stream `to`. Then
-/// prints, to `errors` or after a fault to that stream, a message for each file that could not be written. If the
-/// answer or the help can't be printed, prints file fault 2 to `errors`, and the status is 1.
+/// prints a message for each file that could not be written: after a fault to the stream `to`, otherwise to `errors`.
+/// If the answer or the help can't be printed, prints file fault 2 to `errors`, and the status is 1.
 #[tactic(auto, using(crate::proofs::Printed::printed_well, crate::proofs::Printed::printed_badly))]
 pub fn print_end<O: Write, E: Write>(
     output: &mut O,

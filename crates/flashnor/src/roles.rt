@@ -10,7 +10,7 @@ use nor_args::ChipJob;
 use nor_console::{Cause, Fault, FileNames, Role, apart_as, look_ahead, named_by};
 use nor_files::Store;
 
-/// Checks that the trace's file is none of the other files of a session. Returns the faults of `files_have_one_role`.
+/// Checks that the trace isn't another file of a session. Returns file fault 5, or file fault 1 if a look-up fails.
 pub fn has_own_trace<'a, R: Store>(rt: &R, job: &ChipJob<'a>) -> Result<(), Fault<'a>>
     ensures ok { OnOk result (HasOwnTrace (R.state rt.now).view.nature job.now) }
     ensures err { IfErr result (FailsFileRoles (R.state rt.now).view.nature job.now) }
@@ -50,8 +50,8 @@ pub fn files_have_one_role<'a, R: Store>(rt: &R, job: &ChipJob<'a>) -> Result<()
     check_pair(rt, job, Role::Wanted, Role::Journal)
 }
 
-/// Looks up the layout and the image to write or compare, before the run opens any file. If this fails on a `Disk`, a
-/// later `read_file` returns file fault 1, unless the run locked the file. Returns error 18 if memory runs out.
+/// Looks up the layout and the image to write or compare before the run opens files. If a look-up fails on a `Disk`,
+/// `read_file` later returns file fault 1, unless the run locked the file. Returns error 18 if memory runs out.
 pub fn look_at_sources<'a, R: Store>(rt: &R, job: &ChipJob<'a>) -> Result<(), Fault<'a>>
     ensures { IfErr result (λ fault. fault ≡ Faults.Refused Refusals.Memory) }
 {

@@ -34,7 +34,7 @@ use std::rt::Files;
 /// Performs the job given by the arguments (the first is the program's name), or prints the help. Returns the exit
 /// status: 1 after a fault, or if the result could not be printed or a file could not be written; otherwise 0. Results
 /// are printed to `output`, and faults to `errors`. If standard error prints to a file of the job, the fault that
-/// reports this is printed to `output`, unless standard output prints to such a file, too.
+/// reports this is printed to `output`, unless standard output prints to a file of the job, too.
 pub fn run_words<R: Files + AllocGlobal, O: Write, E: Write>(
     rt: &R,
     given: io::Result<Args>,
@@ -113,7 +113,7 @@ pub fn run_over<R: Store, O: Write, E: Write>(
         (O.contents output.old) (O.contents output.new)
         (E.contents errors.old.writer) (E.contents errors.new.writer) result }
 {
-    // The prover checks the contract of this theorem only in a program that calls it.
+    // The prover checks the contract of `runs_restore_original` only in a program that calls this function.
     runs_restore_original::<R>();
     let (work, to) = run(rt, words);
     let Work {

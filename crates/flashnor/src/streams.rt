@@ -1,4 +1,4 @@
-//! Checks that the program prints to no file of a job. If it does, chooses where the fault is printed.
+//! Checks that the program prints to no file of a job, or chooses the stream for the fault that reports this.
 ghost use Rattle.std.specs.Prelude.{◌≡◌, IfErr, IfOk, IfSome};
 ghost use Rattle.flashnor.specs.Roles.{FailsFileRoles, IsPrintedName, changes_files};
 ghost use Rattle.flashnor.specs.Streams.{IsReportedTo};
@@ -34,9 +34,9 @@ const ROLES: [Role; 7] = [
     Role::Journal,
 ];
 
-/// Checks that the program prints to no regular file that the job names. Returns file fault 5 with the first file (by
-/// `Role`) to which standard output or else standard error prints, or file fault 1 with a name that can't be looked up.
-/// If the job may change files, the names of the standard streams are looked up, too.
+/// Checks that the program prints to no regular file that the job names. Returns file fault 5 with the first such file
+/// (in the order of `Role`) of standard output or, if it has none, of standard error. Returns file fault 1 with a name
+/// that can't be looked up; if the job may change files, this can be a name of a standard stream.
 pub fn are_unprinted<'a, R: Store>(rt: &R, job: &ChipJob<'a>) -> Result<(), StreamFault<'a>>
     ensures fails { IfErr result (λ refused. FailsFileRoles (R.state rt.now).view.nature job.now refused.fault) }
     ensures to { IfErr result (λ refused. IsReportedTo (R.state rt.now).view.nature refused.fault refused.to) }

@@ -1,11 +1,11 @@
-//! Which tasks write the chip back, and the journal that a task creates.
+//! Which tasks write the chip's contents back to its files, and the journal that a task creates.
 ghost use Rattle.std.specs.Prelude.{◌≡◌};
 ghost use Rattle.flashnor.specs.Tasks.{journal_by, writes_back};
 
 use nor_args::{Change, JournalUse, Task};
 use nor_console::journal_of;
 
-/// Returns whether the chip is written back after the call: for a restore, or a change that isn't a rehearsal.
+/// Returns true for a restore or a change that isn't a rehearsal: the chip is then written back to its files.
 pub fn writes_back(task: &Task<'_>) -> bool
     ensures { result ≡ writes_back task.now }
 {

@@ -17,7 +17,7 @@ abbrev pub expected_in : BoardBus → Option (List ℕ)
 expected_in bus = option_map (λ image. image.items)
     (expected_of (known_by (kept_by (adapted_by (checked_by bus.layers)))))
 
--- The bytes that each call of the port was asked to send, those of the last call first.
+-- The bytes that the port was asked to send: one list for each call, with the last call first.
 abbrev pub asked_in : BoardBus → List (List ℕ)
 asked_in bus = asked_over (link_of (paced_of (watched_by (split_of (bus_of (twice_of
     (known_by (kept_by (adapted_by (checked_by bus.layers))))))))))

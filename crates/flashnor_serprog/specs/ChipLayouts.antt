@@ -32,13 +32,13 @@ form_on_chip (Some regions) = form_of_shown regions regions.layout
 abbrev pub descriptor_span : Span
 descriptor_span = record { first = 0; last = 4095 }
 
--- Holds if `ranges` are read for a layout of this form: 4 KiB for a flash descriptor, the chip (`None`) for an FMAP.
+-- Holds if `ranges` must be read for a layout of this form: the first 4 KiB of the chip for a flash descriptor,
+-- otherwise the whole chip (`None`).
 abbrev pub AreReadFor : LayoutForm → (ranges : Option (List Span)) → Type 0
 AreReadFor form.Descriptor None = ⊥
 AreReadFor form.Descriptor (Some spans) = IsSetOf (descriptor_span ∷ []) spans
 AreReadFor _ ranges = ranges ≡ None
 
--- Holds if the chip was identified, `found` is the bus after that, and `ranges` are what is read next.
 pub record HasFoundFirst (named : Option ChipName) (layout : LayoutForm) (old : BusState) : Type 0 where
   pub found : BusState
   pub chip : Found
@@ -46,7 +46,7 @@ pub record HasFoundFirst (named : Option ChipName) (layout : LayoutForm) (old : 
   pub ranges : Option (List Span)
   pub for_layout : AreReadFor layout ranges
 
--- Holds if `bytes` are the copy of the chip that `read_out` made in memory, for a layout of this form.
+-- Holds if the chip was identified and then read into memory for a layout of this form. `bytes` are the bytes read.
 pub record HasReadLayout (named : Option ChipName) (layout : LayoutForm) (old new : BusState) (bytes : List ℕ)
     : Type 0 where
   pub first : HasFoundFirst named layout old
@@ -63,8 +63,8 @@ pub record HasNoLayout (named : Option ChipName) (layout : LayoutForm) (old new 
 abbrev pub FailsToReadShown : Option ChipName → LayoutForm → (old new : BusState) → Fault → Type 0
 FailsToReadShown named layout old new fault = FailsToFind named old new fault ⊎ HasNoLayout named layout old new fault
 
--- Holds if `bytes` were read for a layout of this form over a bus of its own, whose state was first that of `start` and
--- then `last`. This bus expects no image, so it reads all data twice. No modifying command was sent over it.
+-- Holds if `bytes` were read for a layout of this form over a new bus to `device`. The state of this bus was first that
+-- of `start` and then `last`. This bus expects no image, and no modifying command was sent over this bus.
 pub record IsReadFirst (state : Connected → BusState) (device : Text) (named : Option ChipName) (layout : LayoutForm)
     (bytes : List ℕ) : Type 0 where
   pub start : Connected
@@ -75,7 +75,7 @@ pub record IsReadFirst (state : Connected → BusState) (device : Text) (named :
   pub read : HasReadLayout named layout (state start) last bytes
   pub sends : KeepsSent (state start) last
 
--- Holds if `shown` is `None` because the layout isn't on the chip, or if `shown` are the bytes that were read for it.
+-- With a layout on the chip: holds if `shown` are the bytes read for this layout. Otherwise: if `shown` is `None`.
 abbrev pub IsShown : (state : Connected → BusState) → (device : Text) → Option ChipName → Option LayoutForm
     → (shown : Option (List ℕ)) → Type 0
 IsShown state device named None shown = shown ≡ None

@@ -9,10 +9,10 @@ use Rattle.flashnor_serprog.specs.declared.connect.Connected.{Connected}
 abbrev pub device_of : Connected → Text
 device_of connected = string_bytes connected.device
 
--- The image that the bus expects, if any. Data that equals this image is read once, all other data twice (`EndsTwice`).
+-- The image that the bus expects, if any. Sectors that equal it at their addresses are read once, other data twice.
 abbrev pub expected_by : Connected → Option (List ℕ)
 expected_by connected = expected_in (ahead_of (shown_bus connected.bus))
 
--- The bytes that each call of the device's port was asked to send, those of the last call first.
+-- The bytes that the device's port was asked to send: one list for each call, with the last call first.
 abbrev pub asked_by : Connected → List (List ℕ)
 asked_by connected = asked_in (ahead_of (shown_bus connected.bus))

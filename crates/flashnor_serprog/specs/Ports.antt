@@ -4,6 +4,6 @@ use Rattle.nor_serprog.specs.Wire.{asked_on}
 use Rattle.nor_serprog.specs.declared.link.Link.{Link}
 use Rattle.flashnor_serprog.specs.declared.port.DevicePort.{DevicePort}
 
--- The bytes that each call of the link's port was asked to send, those of the last call first.
+-- The bytes that the link's port was asked to send: one list for each call, with the last call first.
 abbrev pub asked_over : {C : Type 0} → Link DevicePort C → List (List ℕ)
 asked_over link = asked_on link.port.wire

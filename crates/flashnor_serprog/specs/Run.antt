@@ -40,7 +40,7 @@ use Rattle.flashnor_serprog.specs.declared.run_fault.RunFault.TheVariants as run
 abbrev pub program : Text
 program = codes "flashnor-serprog"
 
--- Holds if the arguments ask for this operation, and `device` is the device in the value of their `-p`.
+-- Holds if the arguments ask for this operation, and `device` is the device in the value of `-p`.
 pub record IsAskedFor (words : List Text) (device : Bor Text) (operation : Operation) : Type 0 where
   pub programmer : Bor Text
   pub asked : IsHardwareJob program words
@@ -52,8 +52,8 @@ IsAskedByArguments words asked.List = IsHardwareJob program words hardware.List
 IsAskedByArguments words (asked.Description file image) = IsHardwareJob program words (hardware.CheckJournal file image)
 IsAskedByArguments words (asked.Chip setting operation) = IsAskedFor words setting.device operation
 
--- Holds if no file of the operation has two roles, `ranges` are its included addresses, `bytes` are the bytes that its
--- job uses, and `files` are its regions with a file.
+-- Holds if no file of the operation has two roles, `ranges` are the included addresses, `bytes` are the bytes that the
+-- job uses, and `files` are the regions with a file. The fields say more.
 pub record IsPrepared (state : Connected → BusState) (view : View) (device : Bor Text) (operation : Operation)
     (files : List RegionFile) (ranges : Option (List Span)) (bytes : List ℕ) : Type 0 where
   pub shown : Option (List ℕ)
@@ -74,8 +74,8 @@ abbrev pub LooksAfter : Result Answer JobFault → (ended new : BusState) → Ty
 LooksAfter (Ok found) ended new = new ≡ ended
 LooksAfter (Err fault) ended new = KeepsSent ended new
 
--- Holds for a run of a job on a chip that sent only what this job may send. `ended` is the bus when the job ended. If
--- the exit status is 0, the answer was printed and, after a read, the bytes of regions were copied into their files.
+-- Holds if a job ended with `outcome` and sent only what its task may send. `ended` is the bus after the job. If the
+-- exit status is 0, the answer was printed and, after a read, the bytes of regions were copied into their files.
 pub record HasRun (operation : Operation) (files : List RegionFile) (ranges : Option (List Span)) (bytes : List ℕ)
     (before : View) (after : FilesState) (old new : BusState) (out out' : Option (List ℕ)) (status : ℕ)
     : Type 0 where
@@ -88,7 +88,7 @@ pub record HasRun (operation : Operation) (files : List RegionFile) (ranges : Op
   pub printed : status ≡ 0 → HasPrintedAnswer operation outcome out out'
   pub copied : status ≡ 0 → AreCopied operation files after.view
 
--- Holds for a run of an operation on a chip. A run of `--wp-enable` or `--wp-disable` changed no file.
+-- Holds if a run performed this operation on a chip. With `--wp-enable` or `--wp-disable` the run also changed no file.
 abbrev pub HasRunBy : (srp0 : Option Bool) → Operation → List RegionFile → Option (List Span) → (bytes : List ℕ)
     → (before : View) → (after : FilesState) → (old new : BusState) → (out out' : Option (List ℕ)) → (status : ℕ)
     → Type 0
@@ -105,7 +105,7 @@ abbrev pub AsksForHelp : RunFault → Type 0
 AsksForHelp (run_fault.Fault fault) = IsAnswered (Err fault) ⊎ AsksForVersion fault
 AsksForHelp _ = ⊥
 
--- Holds if the arguments ask for the help or the version whenever `ended` contains one of them.
+-- Holds if the arguments ask for the help or the version, or if `ended` is no request for the help or the version.
 abbrev pub IsHelpAskedBy : List Text → RunFault → Type 0
 IsHelpAskedBy words ended = AsksForHelp ended → ArgumentsAskForHelp words
 
@@ -134,7 +134,7 @@ pub record HasRunJob (state : Connected → BusState) (files after : FilesState)
   pub asked : IsAskedFor words name operation
   pub run : HasRunOperation state files after name operation device last out out' status
 
--- Holds if the journal that `--check-journal` names is sealed and undamaged. If an image was requested, it was written.
+-- Holds if the journal `file` is sealed and undamaged and, if an image was requested, the image was written.
 pub record HasChecked (before after : View) (words : List Text) : Type 0 where
   pub file : Bor Text
   pub image : Option (Bor Text)

@@ -37,7 +37,7 @@ is_wrong settings setting = not (is_serprog_setting setting) || not (is_alone_in
 abbrev pub first_wrong : List Text → Option Text
 first_wrong settings = find (is_wrong settings) settings
 
--- True if the key is `ip`, which names a programmer in the network in flashrom.
+-- True if the key of the setting is `ip`. (In flashrom this key names a programmer in the network.)
 abbrev pub names_network : Text → Bool
 names_network = has_key (codes "ip")
 
@@ -55,7 +55,7 @@ pub record IsDeviceOf (text device : Text) : Type 0 where
   pub begins : names_serprog text ≡ true
   pub named : device_in (serprog_settings text) ≡ Some device
 
--- Holds if `text`, the value of `-p`, describes this programmer.
+-- Holds if `text` is a correct value of `-p` and contains these settings.
 pub record IsSetting (text : Text) (setting : Setting) : Type 0 where
   pub device : IsDeviceOf text setting.device.now
   pub sound : first_wrong (serprog_settings text) ≡ None

@@ -12,7 +12,7 @@ use std::alloc::Global;
 #[derive(Drop)]
 pub enum Asked<'a> {
     List,
-    /// A description of the journal in `file`. The image in this backup is also written to `image`, if given.
+    /// A description of the journal in `file`. If `image` is given, the journal's image is also written to `image`.
     Description {
         file: &'a str,
         image: Option<&'a str>,
@@ -23,7 +23,7 @@ pub enum Asked<'a> {
     },
 }
 
-/// Returns the job that the arguments ask for, or the first fault. `names` receives all values of `-i`, with commas.
+/// Returns the job that the arguments ask for, or the first fault. `names` gets the values of `-i`, joined by commas.
 pub fn read_words<'a>(
     alloc: Global,
     words: &'a [String],

@@ -31,7 +31,7 @@ type Twice<'a> = ReadTwice<CheckedStatus<Parts<'a>>>;
 
 type Parts<'a> = SplittingBus<Watched<Paced<BatchingBus<DevicePort>, &'a HostRuntime>>>;
 
-// The IDs of the chips with a row in nor_probe, which return status 2 for 35h (datasheets, Read Status Register-2).
+// The IDs in nor_probe's table of chips. These chips return status 2 for 35h (datasheets, Read Status Register-2).
 const WITH_ROW: [[u8; 3]; 9] = [
     [0xEF, 0x40, 0x16],
     [0xEF, 0x40, 0x17],
@@ -44,10 +44,10 @@ const WITH_ROW: [[u8; 3]; 9] = [
     [0xEF, 0x70, 0x18],
 ];
 
-/// What the layers found out about a transaction that returned `Stopped`. The first of these causes explains it.
+/// What the layers found out about a transaction that returned `Stopped`. The first cause that is present explains it.
 #[derive(Clone, Copy)]
 pub struct Causes<'a> {
-    /// The two unique IDs, if the chip was another one before the first modifying command.
+    /// The two unique IDs that were read, if they differed before the first modifying command.
     pub other: Option<OtherChip>,
     pub failure: Option<&'a Failure<PortFault>>,
     pub status: Option<CheckFault>,
@@ -95,7 +95,7 @@ impl<'a> BoardBus<'a> {
         self.checked().has_begun()
     }
 
-    /// Returns the bytes that the port seems to change when it receives them, if there are any.
+    /// Returns the change of received bytes that the port seems to make, or `None`.
     pub fn changed_byte(&self) -> Option<ChangedByte> {
         self.checked().changed_byte()
     }

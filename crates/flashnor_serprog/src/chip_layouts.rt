@@ -1,4 +1,4 @@
-//! A layout on the chip itself (`--fmap`, `--ifd`): reads the part of the chip that contains it, before the job.
+//! A layout on the chip itself (`--fmap`, `--ifd`): reads the part of the chip with the layout, before the job.
 ghost use Rattle.std.specs.Prelude.{◌≡◌, IfErr, IfOk, option_map};
 ghost use Rattle.nor_journal.specs.MemVault.{held_by};
 ghost use Rattle.flashnor_serprog.specs.ChipLayouts.{AreReadFor, FailsToReadShown, HasReadLayout, IsReadFirst};
@@ -30,10 +30,10 @@ const DESCRIPTOR: Span = Span {
 
 const READING: &str = "Reading the layout from the chip.";
 
-/// Returns a copy of the part of the chip that contains the task's layout: the first 4 KiB for a flash descriptor (FFh
-/// elsewhere), the whole chip for an FMAP. Returns `None` and uses no programmer if the layout isn't on the chip. Sends
-/// no modifying command, and reads all data twice. Returns the faults of `connect_by`. Any other fault is printed with
-/// its cause, and returned as `RunFault::AlreadyPrinted`.
+/// Returns a copy of the part of the chip that contains the task's layout: the first 4 KiB for a flash descriptor (with
+/// FFh after them), the whole chip for an FMAP. Returns `None`, and uses no programmer, if the layout isn't on the
+/// chip. Sends no modifying command, and reads all data twice. Returns the faults of `connect_by`. Any other fault is
+/// printed with its cause, and returned as `RunFault::AlreadyPrinted`.
 pub fn read_chip_layout<'a, 'b, E: Write>(
     rt: &'b HostRuntime,
     terminal: Terminal<'b>,

@@ -29,7 +29,7 @@ use std::{fmt, fs, io};
 /// The bus of a job, which reads ahead and shows the progress of the job.
 pub type ChipBus<'a> = ProgressBus<'a, ReadAhead<BoardBus<'a>>>;
 
-/// Returns the bus to the chip, which knows why a transaction failed.
+/// Returns the inner bus, which knows why a transaction failed.
 pub fn board_in<'b, 'a>(bus: &'b ChipBus<'a>) -> &'b BoardBus<'a> {
     bus.inner().inner()
 }
@@ -117,13 +117,13 @@ impl From<ProgrammerFault> for Unconnected {
 }
 
 // Opens and locks the device, and identifies the programmer. Sets its clock if `hertz` is given, and its chip select if
-// `chip_select` is given. Wakes the chip, makes trial reads (`try_reads`), and looks for the chip after either of them
+// `chip_select` is given. Wakes the chip, makes trial reads (`try_reads`), and looks for the chip after each of the two
 // (`expect_chip`). Before the first exchange, logs and shows what to do if no reply ever arrives.
 //
 // Returns a programmer fault from 1 to 12, 14 or 15 if a step fails, or an error of `expect_chip`.
 //
-// The returned bus has carried out no transaction yet, and belongs to this device. Until then the port was asked for
-// nothing that modifies a chip (`harmless`). `image` is that of `BoardBus::new`.
+// The returned bus has carried out no transaction yet, and belongs to this device. Before `connect` returns a bus, the
+// port is asked for nothing that modifies a chip (`harmless`). `image` is passed to `BoardBus::new`.
 fn connect<'a>(
     rt: &'a HostRuntime,
     terminal: Terminal<'a>,
@@ -185,7 +185,7 @@ fn identify(
     }
 }
 
-// Prints a line if the clock that the programmer set is higher than that of `spispeed=`, in hertz.
+// Prints a line if the clock that the programmer set is higher than that of `spispeed=`. Both are in hertz.
 fn report_higher_clock(terminal: Terminal<'_>, asked: Option<u32>, set: Option<u32>) {
     match (asked, set) {
         (Some(asked), Some(set)) if set > asked => {

@@ -1,4 +1,4 @@
-//! Finds out whether a chip replies, and frees a chip that was left in QPI mode.
+//! Finds out whether a chip replies, and tries to free a chip that was left in QPI mode.
 
 ghost use Rattle.std.specs.Prelude.{◌≡◌, false};
 ghost use Rattle.nor_model.specs.Command.{begins_change};
@@ -25,18 +25,18 @@ const SIGNATURE: [u8; 4] = [b'S', b'F', b'D', b'P'];
 pub enum Contact {
     /// A chip, which may be busy.
     Present,
-    /// Nothing: each received byte is FFh, for example because a clip has no contact.
+    /// Nothing: only FFh is received, for example because a clip has no contact.
     Missing,
     /// A device that has an ID, but neither status 1 nor SFDP: no SPI NOR flash.
     NoStatus,
 }
 
 /// Returns what replies to 9Fh (Read ID) and 05h (Read Status Register-1). `heard` is an earlier reply: if it has a
-/// byte other than FFh, a chip is present, and nothing is sent. If only FFh is received for 1.5 seconds, first sends
-/// what may free a chip from another mode (`leave_modes`).
+/// byte other than FFh, a chip is present, and nothing is sent. If only FFh is received for 1.5 seconds, sends what may
+/// free a chip from another mode (`leave_modes`), and then 9Fh again.
 ///
-/// A device whose status 1 is FFh for 1.5 seconds, but that returns an ID, is present if it has SFDP. A busy chip
-/// whose status 1 is FFh for that time can't be distinguished from a missing one.
+/// If status 1 is FFh for 1.5 seconds, but an ID is returned, the device counts as a chip only if it has SFDP. A busy
+/// chip whose status 1 is FFh for 1.5 seconds can't be distinguished from a missing chip.
 pub fn look_for_chip(
     rt: &HostRuntime,
     link: &mut Link<DevicePort>,
@@ -68,19 +68,19 @@ pub fn look_for_chip(
     }
 }
 
-/// Sends FFh and then FFh FFh, each as one transaction, to a chip that seems to be missing. (The facts are from memory
-/// of the datasheets, instruction sets.)
+/// Sends FFh and then FFh FFh, each as one transaction, to a chip that seems to be missing. (The facts below are
+/// cited from memory, from the instruction sets in datasheets.)
 ///
 /// In QPI mode a chip receives each byte over four lines in two clocks. WP#, HOLD# and the line for replies are high,
-/// so FFh on the fourth line is FFh for the chip. Chips of Winbond, GigaDevice, Eon and Microchip then leave QPI mode.
-/// In a continuous read over two or four lines, the ones of FFh FFh are mode bits that end the read.
+/// so FFh on the data input is FFh for the chip. Chips of Winbond, GigaDevice, Eon and Microchip then leave QPI mode.
+/// In a continuous read over two or four lines, FFh FFh also sets all mode bits, which ends the read.
 ///
 /// Other opcodes that leave QPI mode (F5h, 66h with 99h) are not sent: in QPI mode they need WP# or HOLD# to be low,
 /// and 66h with 99h would interrupt the erase of a busy chip.
 ///
 /// A chip that receives FFh over one line ends a continuous read or quad mode, or ignores FFh. A SPI NAND resets
-/// itself, which interrupts nothing, because its operations take at most 10 ms and it was asked for 1.5 seconds
-/// before.
+/// itself, which interrupts nothing, because its operations take at most 10 ms, and 9Fh and 05h were sent for
+/// 1.5 seconds before.
 fn leave_modes(link: &mut Link<DevicePort>) -> Result<(), Failure<PortFault>>
     ensures harmless { StaysHarmless (asked_over link.old) (asked_over link.new) }
 {

@@ -29,7 +29,7 @@ use nor_model::Bus;
 use std::fs::File;
 use std::io::Write;
 
-/// The contents of an operation's files, and its programmer, which was identified.
+/// The contents of an operation's files, and the bus to its chip.
 #[derive(Drop)]
 pub struct Prepared<'a, 'b> {
     pub regions: Vec<RegionFile<'a>>,
@@ -40,7 +40,7 @@ pub struct Prepared<'a, 'b> {
 }
 
 /// Prepares the operation, and returns the first fault. Checks and reads the files (`read_files`), starts the log, and
-/// identifies the programmer for the job. `names` must be the names of the regions without files (`plain_names`).
+/// identifies the programmer for the job. `names` must come from `plain_names`.
 #[tactic(auto, using(crate::proofs::LogMade::log_steps))]
 pub fn prepare<'a, 'b, R: Store<Log = LogFile<File>>, E: Write>(
     rt: &'b HostRuntime,
@@ -163,7 +163,7 @@ fn rules_for(operation: &Operation<'_>, bytes: &[u8]) -> Rules {
     }
 }
 
-// Returns the ID in the journal if its status 2 isn't 00h, because the session then has read status 2 with 35h.
+// Returns the journal's ID if the journal's status 2 isn't 00h, because the session then read status 2 with 35h.
 fn id_before(journal: &Journal<'_>) -> Option<[u8; 3]> {
     if journal.status()[1] != 0 {
         Some(journal.id())

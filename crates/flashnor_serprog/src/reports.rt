@@ -70,8 +70,8 @@ pub fn print_job_fault<E: Write>(
     }
 }
 
-/// Removes the incomplete journal of a session that returned an error and didn't change the chip. If this file is left,
-/// or that of a backup that returned an error, prints that the next run needs another name.
+/// Removes the incomplete journal of a session that returned an error and didn't change the chip. If this file
+/// or the file of a backup that returned an error still exists, prints that the next run needs another name.
 pub fn clear_journal<R: Store, E: Write>(
     errors: &mut E,
     files: &R,
@@ -112,7 +112,7 @@ fn has_removed<R: Store>(files: &R, terminal: Terminal<'_>, name: &str) -> bool 
     }
 }
 
-// Returns whether these bytes begin as a journal does, but are no whole journal.
+// Returns whether these bytes begin with `MAGIC` or are a prefix of `MAGIC`, but are no whole journal.
 fn is_begun_journal(bytes: &[u8]) -> bool {
     let len = bytes.len().min(MAGIC.len());
     bytes[..len] == MAGIC[..len] && Journal::read(bytes).is_err()

@@ -2,22 +2,22 @@
 
 use board_progress::StatusWrite;
 
-/// What the bus to a chip refuses, and how it treats a chip without a row.
+/// What the bus to a chip refuses, and how the bus treats a chip without a row in the table of chips.
 #[derive(Clone, Copy)]
 pub struct Rules {
     pub checks: Checks,
-    /// The ID of a chip whose status 2 an earlier run read, so 35h is sent to it, too.
+    /// The ID of a chip whose status 2 an earlier run read: 35h is sent to a chip with this ID even if it has no row.
     pub before: Option<[u8; 3]>,
-    /// True if bit 6 of status 1 is returned as 0 when it is QE (`KeptQuad`).
+    /// True if bit 6 of status 1 is returned as 0 for a chip that has QE there (`KeptQuad`).
     pub hides_quad: bool,
-    /// Each byte of the unique ID that is returned for a chip without one (`OtherMakers`).
+    /// If a chip has no unique ID, this byte is returned in place of each of the eight bytes (`OtherMakers`).
     pub missing_unique: u8,
-    /// True if a chip without sectors of 4 KiB everywhere, or with pages below 256 bytes, is refused (`OtherMakers`).
+    /// True if a chip without sectors of 4 KiB everywhere, or with pages of less than 256 bytes, is refused.
     pub refuses_uneven: bool,
 }
 
 impl Rules {
-    /// Returns the rules of a job that only reads, and makes no journal.
+    /// Returns the rules of a job that only reads and makes no journal.
     pub fn reading() -> Rules {
         Rules {
             checks: Checks::Protection,
@@ -32,7 +32,7 @@ impl Rules {
 /// Which modifying commands the bus to a chip refuses.
 #[derive(Clone, Copy)]
 pub enum Checks {
-    /// Status writes that would change other bits than the protection bits.
+    /// Status writes that would change bits other than the protection bits.
     Protection,
     /// For a session: also the first modifying command, if the port seems to change bytes (`CheckedStatus::guarding`).
     Guarded,
@@ -41,7 +41,7 @@ pub enum Checks {
 }
 
 impl Checks {
-    /// Returns whether a job with these checks may write the status. `begin_job` may replace this value.
+    /// Returns whether the status may be written, as assumed until `begin_job` sets the value of the actual task.
     pub fn status_write(self) -> StatusWrite {
         match self {
             Checks::Lock => StatusWrite::OnAnyChip,

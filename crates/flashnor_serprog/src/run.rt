@@ -330,7 +330,7 @@ fn end_with_files<R: Store, O: Write, E: Write>(
     }
 }
 
-// Returns what the journal of a restore says about its chip. Returns `None` for another task, or without a journal.
+// Returns what the journal of a restore says about its chip. Returns `None` if there is no such journal.
 fn saved_by(task: &Task<'_>, sources: &Sources) -> Option<Saved> {
     match task {
         Task::Restore { .. } => Saved::read(&sources.bytes),

@@ -180,7 +180,7 @@ enum Remedy {
 }
 
 impl ProgrammerFault {
-    /// Returns the number of the fault, as printed: 1 to 12, 14 or 15. (13 is that of `ChangedLine`.)
+    /// Returns the number of the fault, as printed: 1 to 12, 14 or 15. (`ChangedLine` prints 13.)
     pub fn number(&self) -> u8 {
         match self {
             ProgrammerFault::NotOpened(_) => 1,

@@ -25,7 +25,7 @@ pub struct Setting<'a> {
 pub enum WrongSetting<'a> {
     /// The key `ip=` names a programmer in the network, which this program does not support.
     Network,
-    /// The device ends with a colon and a baud rate, as flashrom accepts it. Here `stty` sets the baud rate.
+    /// The device ends with a colon and a baud rate, as in flashrom. For this program, `stty` sets the baud rate.
     BaudRate { device: &'a str, rate: &'a str },
     /// The value doesn't begin with `serprog:`.
     NoPrefix,

@@ -1,4 +1,4 @@
-//! Reads that find a chip in four-byte mode, and a programmer that changes long frames, before a job begins.
+//! Reads that detect, before a job begins, a chip in four-byte mode or a programmer that changes long frames.
 ghost use Rattle.std.specs.Prelude.{◌≡◌, ◌≤◌, ◌<◌, ◌^◌, false, IfOk, IfSome, length};
 ghost use Rattle.nor_model.specs.Command.{begins_change};
 ghost use Rattle.nor_serprog.specs.Harmless.{StaysHarmless};
@@ -14,32 +14,31 @@ const READ: u8 = 0x03;
 
 const READ_STATUS: u8 = 0x05;
 
-// The greatest number of bytes of a trial read, and of the one in a long frame.
+// The greatest number of bytes that a trial read returns: `MOST` at each address, and `FEW` in a long frame.
 const MOST: usize = 32;
 
 const FEW: usize = 4;
 
-// The trial addresses are multiples of `STEP`. A chip in four-byte mode reads at about 256 times this address.
+// The trial addresses are `PLACES` multiples of `STEP`. A chip in four-byte mode reads at about 256 times the address.
 const PLACES: u32 = 8;
 
 const STEP: u32 = 0x1110;
 
-// The number of times that a long frame must fail in the same way.
+// A long frame is reported (`LongFrames`) only if reads in it return the same wrong bytes this number of times.
 const TIMES: u32 = 3;
 
-// The number of bytes that a page program sends, with its opcode and its address.
+// The number of bytes that a page program sends, including its opcode and its address.
 const PROGRAM: usize = 260;
 
 /// Makes trial reads, and compares their data. Returns one of these faults:
 ///
-/// - `Addresses`: overlapping reads differ in most bytes at one address, or in a few bytes at each of eight addresses,
-///   and agree nowhere. A chip in four-byte mode (W25Q256FV datasheet, Address Modes) causes this, unless the bytes at
-///   all addresses are equal, as on an empty chip.
-/// - `LongFrames`: a read fails or returns other data if its frame is as long as that of a page program.
-/// - `Handshake`: another exchange failed.
+/// - `Addresses`: overlapping reads agree at none of eight addresses, and differ in most bytes at one of them or in a
+///   few bytes at each. A chip in four-byte mode (W25Q256FV datasheet, Address Modes) may cause this.
+/// - `LongFrames`: a frame as long as that of a page program fails, or a read in this frame returns wrong bytes.
+/// - `Handshake`: another exchange failed, or the system reported an error.
 ///
-/// An interrupted erase may leave bytes that change from read to read, and these must not prevent a restore. So reads
-/// that differ count only if each of them returns the same bytes again.
+/// An interrupted erase may leave bytes that change from read to read, and these must not prevent a restore. So a
+/// difference counts only if both reads, when repeated, return the same bytes as before.
 pub fn try_reads(
     link: &mut Link<DevicePort>,
     programmer: &AnyProgrammer,
@@ -60,20 +59,21 @@ fn shorter(len: usize, most: u32) -> usize
     len.min(most as usize)
 }
 
-// How two reads that overlap compare.
+// The result of comparing two reads that overlap.
 #[derive(Clone, Copy)]
 enum Overlap {
-    // They agree, and their bytes aren't all equal.
+    // The reads agree, and the bytes aren't all equal.
     Agrees,
-    // Most bytes differ.
+    // More than half of the bytes differ.
     DiffersInMost,
-    // A few bytes differ: on an empty chip in four-byte mode, the first byte if the line is low until the chip replies.
+    // At most half of the bytes differ: for example only the first byte, on an empty chip in four-byte mode.
     DiffersInFew,
-    // All bytes are equal, or some change from read to read.
+    // All bytes are equal, or a repeated read returned other bytes.
     Unknown,
 }
 
-// Returns the first address at which overlapping reads agree, or `None`. Returns `Addresses` as `try_reads` does.
+// Returns the first trial address at which overlapping reads agree, or `None`. Fails with `Addresses` if the reads
+// differ as they do on a chip in four-byte mode.
 fn find_place(link: &mut Link<DevicePort>, len: usize) -> Result<Option<u32>, ProgrammerFault>
     requires some { 1 ≤ len }
     requires most { len ≤ 32 }
@@ -98,7 +98,7 @@ fn find_place(link: &mut Link<DevicePort>, len: usize) -> Result<Option<u32>, Pr
     }
 }
 
-// Reads `len` bytes at `address`, and all but the first of them at the next address. If bytes differ, repeats both
+// Reads `len` bytes at `address`, and `len - 1` bytes at the next address. If the overlapping bytes differ, repeats the
 // reads.
 fn try_overlap(
     link: &mut Link<DevicePort>,
@@ -145,8 +145,8 @@ fn are_alike(one: &[u8], other: &[u8]) -> bool {
 }
 
 // Reads `replies` bytes after padding, in a frame that sends `len` bytes, and compares them with the reply to a short
-// frame. The bytes are those at `place` or, if it is `None`, status 1. Returns `LongFrames` if the replies differ three
-// times in the same way, or if the long frame fails.
+// frame. The bytes are those at `place + len - 4` or, if `place` is `None`, status 1. Returns `LongFrames` if the two
+// replies differ three times in the same way, or if the long frame fails (if refused, also without a reply).
 fn try_long_frame(
     link: &mut Link<DevicePort>,
     place: Option<u32>,
@@ -181,8 +181,8 @@ fn try_long_frame(
     Err(ProgrammerFault::LongFrames)
 }
 
-// Reads in a frame that sends `len` bytes. If the programmer refuses the frame, sends it without a reply, because its
-// buffer may be just long enough for a page program, and returns false.
+// Reads in a frame that sends `len` bytes. If the programmer refuses the frame, sends the frame without a reply
+// and returns false, because the buffer of the programmer may be just long enough for a page program.
 fn read_behind(
     link: &mut Link<DevicePort>,
     place: Option<u32>,
@@ -194,7 +194,7 @@ fn read_behind(
     requires few { length reply.old ≤ 4 }
     ensures harmless { StaysHarmless (asked_over link.old) (asked_over link.new) }
 {
-    // The padding is 00h, which is no instruction that changes a chip, in case the programmer sends it as an opcode.
+    // The padding is 00h, because this byte changes no chip, even if the programmer sends it as an opcode.
     let mut out = [0; PROGRAM];
     out[..4].copy_from_slice(&first_bytes(place));
     match operate(link, &out[..len], reply) {

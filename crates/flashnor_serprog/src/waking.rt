@@ -7,8 +7,8 @@ use crate::port::{DevicePort, PortFault};
 use crate::run_fault::ProgrammerFault;
 use nor_serprog::{AnyProgrammer, Command, Failure, HandshakeFault, Link};
 
-// ABh, and 12 bytes that the chip ignores. If the port changes their number, 0Dh, to 0Ah, the programmer takes the last
-// three bytes as commands. They are harmless: 10h is SYNCNOP, to which the programmer only replies NAK and ACK.
+// ABh, and 12 bytes that the chip ignores. If the port changes 0Dh, the length of `WAKE`, to 0Ah, the programmer takes
+// the last three bytes as commands. These are harmless: 10h is SYNCNOP, to which the programmer only replies NAK, ACK.
 const WAKE: [u8; 13] = [
     0xAB, 0x10, 0x10, 0x10, 0x10, 0x10, 0x10, 0x10, 0x10, 0x10, 0x10, 0x10, 0x10,
 ];

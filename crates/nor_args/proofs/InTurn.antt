@@ -1,4 +1,4 @@
--- The pieces of a text between its commas, read one after the other.
+-- Lemmas about the pieces of a text between its commas, which are parsed one after the other.
 use Rattle.std.proofs.Common.{◌≡◌, ◌∙◌, ℕ, ◌+◌, ◌<◌, true, List, [], ◌∷◌, length, drop, get_or, lit<, ap, sym, arith}
 use Rattle.std.specs.Str.Iter.{split_has_more, split_pattern, split_steps, split_text}
 use Rattle.std.specs.Str.Pattern.{FindsChar}

@@ -15,7 +15,7 @@ use Rattle.nor_args.specs.declared.reasons.OptionName.TheVariants as option
 use Rattle.nor_args.specs.declared.words.UsageFault.{UsageFault}
 use Rattle.nor_args.specs.declared.words.UsageFault.TheVariants as why
 
--- a pair: whether the options have a usage fault, and this fault
+-- a usage fault, and whether the options have this fault
 abbrev pub Case : Type 0
 Case = Bool × UsageFault
 
@@ -82,7 +82,7 @@ abbrev pub has_unneeded : Texts → Bool
 has_unneeded given =
     ((given.no_verify || given.unlock) && not (is_new_content given)) || has_unneeded_for_hardware given
 
--- the faults 2 to 9, in this order, each with whether the options have it
+-- the usage faults 2 to 9 in this order, and for each fault whether the options have this fault
 abbrev pub usage_faults : Texts → List Case
 usage_faults given =
     (not (is_some given.programmer) && not given.list, why.NoProgrammer)
@@ -99,7 +99,7 @@ usage_faults given =
     )
     ∷ []
 
--- the faults 4 to 9, each with whether the options have it; the value of `-p` is ignored
+-- the usage faults 4 to 9, and for each fault whether the options have it if `-p` is ignored
 abbrev pub operation_faults : Texts → List Case
 operation_faults given = drop 2 (usage_faults (record given { programmer = None }))
 
@@ -122,7 +122,7 @@ usage_fault_number why.Memory = 10
 abbrev pub numbered : ℕ → List ℕ
 numbered number = codes "Usage fault " ++ (decimal number ++ codes ".")
 
--- the message of a fault; `None` for fault 1, whose message begins with that of `clap`
+-- the message of a fault; `None` for fault 1, whose message begins with the message of `clap`
 abbrev pub usage_fault_text : UsageFault → Option (List ℕ)
 usage_fault_text (why.Words error) = None
 usage_fault_text fault = Some (numbered (usage_fault_number fault))

@@ -13,7 +13,7 @@ use Rattle.nor_args.specs.declared.job.LayoutForm.TheVariants as form
 use Rattle.nor_args.specs.declared.job.ProgressMode.{ProgressMode}
 use Rattle.nor_args.specs.declared.job.ProgressMode.TheVariants as mode
 
--- The values of the options: `None` or false if an option isn't given. `names` is that of `-i`, `log` that of `-o`.
+-- The values of options: `None` or false if an option isn't given. `names` is the value of `-i`, `log` that of `-o`.
 pub record Texts : Type 0 where
   pub programmer : Option Text
   pub chip : Option Text

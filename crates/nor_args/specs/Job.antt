@@ -1,4 +1,4 @@
--- The job that the options ask for; for programs for hardware also the fault of options that ask for none.
+-- The job that the options ask for. For programs for hardware also the fault of options that ask for no job.
 use Rattle.std.specs.Prelude.{◌≡◌, ◌⊎◌, [], ◌∷◌, true, false, MatchResult, Option, Some, None, is_some, not}
 use Rattle.std.specs.Prelude.{map, option_and_then, option_map}
 use Rattle.std.specs.Borrow.{Bor}
@@ -37,7 +37,7 @@ use Rattle.nor_args.specs.declared.words.UsageFault.TheVariants as why
 abbrev pub NamesFile : Option Text → Bor Text → Type 0
 NamesFile option text = option ≡ Some text.now
 
--- Holds if the layout's file (`None` if it is read from the chip), its form and the names are those of the options.
+-- Holds if the options give exactly these regions (`None` if they give neither a layout nor `-i`).
 abbrev pub IsRegions : Texts → Option Regions → Type 0
 IsRegions given None = (gives_layout given ≡ false) × (given.names ≡ None)
 IsRegions given (Some regions) = (gives_layout given ≡ true)
@@ -81,7 +81,7 @@ abbrev pub IsAsked : Texts → Job → Type 0
 IsAsked given job.List = given.list ≡ true
 IsAsked given (job.Chip on_chip) = (given.list ≡ false) × IsChipJob given on_chip
 
--- the row that `-c` names, in upper or lower case, by its own name or by that of another chip with its ID
+-- the row for this value of `-c` in upper or lower case: the name of the row, or of another chip with the row's ID
 abbrev pub name_in_any_case : Text → ChipName
 name_in_any_case text = row_named (map to_ascii_uppercase text)
 
@@ -108,7 +108,7 @@ pub record LacksProgrammer (given : Texts) (wrong : WrongArguments) : Type 0 whe
   pub reason : wrong.reason ≡ because.NoProgrammer
   pub lacks : given.programmer ≡ None
 
--- Holds if the options ask for no job because of this fault: one of 4 to 9 with `--check-journal` or `-L`, else 2.
+-- Holds if there is no job because of this fault: a fault from 4 to 9 with `--check-journal` or `-L`, else fault 2.
 abbrev pub IsWrongForHardware : Texts → WrongArguments → Type 0
 IsWrongForHardware given wrong = ((is_on_chip given ≡ false) × IsWrongOperation given wrong)
     ⊎ ((is_on_chip given ≡ true) × LacksProgrammer given wrong)

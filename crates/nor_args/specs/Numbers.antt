@@ -39,7 +39,7 @@ abbrev pub clock_parts : Text → Text × ℕ
 clock_parts text = with_unit (before_either (codes "k") (codes "K") text)
     (before_either (codes "M") (codes "m") text) text
 
--- the clock in hertz, from 1 to 4,294,967,295: a number, in kHz before `k` or `K`, in MHz before `M` or `m`
+-- the clock in hertz, 1 to 4,294,967,295: a number in Hz, in kHz if `k` or `K` follows, in MHz if `M` or `m` follows
 abbrev pub clock_of : Text → Option ℕ
 clock_of text = option_and_then
     (λ number. if nat_lt 0 number && nat_le (number * (clock_parts text).1) 4294967295

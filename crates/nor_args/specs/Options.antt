@@ -67,7 +67,7 @@ pub record IsOption (option : Rule) (arg : Arg) : Type 0 where
   pub rule : rule_of arg ≡ option
   pub local : arg.global ≡ false
 
--- the `clap` command of a program, without options; `clap` parses no program's name and adds no help option
+-- the `clap` command of a program, without options: `clap` expects no program's name, and adds no help option
 abbrev pub no_options_of : Text → App
 no_options_of program = let app = new_app program in
     record app { top = record app.top { no_binary_name = true; disable_help_flag = true } }
@@ -86,7 +86,7 @@ options =
 abbrev pub is_for_hardware : Text → Bool
 is_for_hardware id = not (bytes_eq id (codes "rehearse"))
 
--- the options of programs for hardware that flashnor doesn't have, without `-R`; `hardware_form` adds the long names
+-- the options, except `-R`, that only programs for hardware have; `hardware_form` adds the long names
 abbrev pub own_rules : List Rule
 own_rules =
     by_name (valued (codes "backup"))
@@ -123,7 +123,7 @@ long_form rule =
 abbrev pub repeated_names : Rule → Rule
 repeated_names rule = record (by_name rule) { action = Some Append; aliases = codes "image" ∷ [] }
 
--- the form of the option `rule` in a program for hardware, where each option has a long name
+-- the form of the option `rule` in programs for hardware, in which each option has a long name
 abbrev pub hardware_form : Rule → Rule
 hardware_form rule =
     if bytes_eq rule.id (codes "include") then repeated_names rule

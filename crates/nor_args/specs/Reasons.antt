@@ -101,7 +101,7 @@ abbrev pub dash_reason : Option OptionName → Reason
 dash_reason (Some option) = because.Dash option
 dash_reason None = because.Unsaid
 
--- Holds if `reason` explains fault 5: a wrong `--progress` precedes a wrong `--wp-range`, and both precede a file `-`.
+-- Holds if `reason` explains fault 5 by the first of these: a wrong `--progress`, a wrong `--wp-range`, a file `-`.
 abbrev pub IsWrongValue : (wrong_mode wrong_range : Bool) → Texts → Reason → Type 0
 IsWrongValue true wrong_range given reason = IsWrongMode given.progress reason
 IsWrongValue false true given reason = IsWrongRange given.wp_range reason
@@ -139,7 +139,7 @@ journal_option_reason given =
     else if given.quick && not (is_some given.restore) then because.NoRestore option.Quick
     else because.NoRestore option.ReplacedChip
 
--- the reason of fault 8: the option that is given without the operation that it needs
+-- the reason of fault 8: an option is given without the operation that it needs
 abbrev pub unneeded_reason : Texts → Reason
 unneeded_reason given =
     if is_new_content given then journal_option_reason given
@@ -151,7 +151,7 @@ unneeded_reason given =
 abbrev pub first_unread : Text → Option Text
 first_unread text = find (λ piece. not (reads decimal_number piece)) (pieces_of text)
 
--- Holds if this is the reason of fault 9. If the value of `--rehearse` is correct, the fault is a `stop=` of `-p`.
+-- Holds if this is the reason of fault 9. If the value of `--rehearse` is correct, the reason is that `-p` has `stop=`.
 abbrev pub IsWrongStops : Option Text → Reason → Type 0
 IsWrongStops (Some text) (because.Stop piece) = first_unread text ≡ Some piece.now
 IsWrongStops (Some text) because.ManyStops = (first_unread text ≡ None) × (stops_of text ≡ None)
@@ -163,7 +163,7 @@ abbrev pub IsProgrammerReason : Option Text → Reason → Type 0
 IsProgrammerReason (Some text) reason = IsWrongProgrammer text reason
 IsProgrammerReason None reason = reason ≡ because.Unsaid
 
--- Holds if `reason` is the reason of this fault. A reason is meaningful only if the options have its fault.
+-- Holds if `reason` is the reason of this fault. The reason is meaningful only if the options have this fault.
 abbrev pub IsReason : Texts → UsageFault → Reason → Type 0
 IsReason given why.NoProgrammer reason = reason ≡ because.NoProgrammer
 IsReason given why.Programmer reason = IsProgrammerReason given.programmer reason

@@ -1,4 +1,4 @@
--- Which arguments ask for which job, and which have which usage fault.
+-- The job that arguments ask for, or the usage fault that they have.
 use Rattle.std.specs.Prelude.{◌≡◌, ◌≢◌, [], List, Some, None, ⊤, ◌⊎◌, drop, false, map, string_bytes, true}
 use Rattle.std.specs.Global.{Global}
 use Rattle.std.specs.Vec.Iter.{into_iter_items}
@@ -24,7 +24,7 @@ use Rattle.nor_args.specs.declared.words.UsageFault.TheVariants as why
 abbrev pub arguments_of : IntoIter (String Global) Global → List Text
 arguments_of args = map string_bytes (drop 1 (into_iter_items args))
 
--- the kinds of error with which `clap` may reject the arguments of flashnor; none if `clap` accepts them
+-- the kinds of error with which `clap` may reject the arguments of flashnor; no kind if `clap` accepts the arguments
 abbrev pub refusals_of : List Text → Kinds
 refusals_of words = fault_of options words
 

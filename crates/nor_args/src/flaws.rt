@@ -1,4 +1,4 @@
-//! Why the value of `-p` is wrong: which setting in it has a flaw, and which flaw.
+//! The reason why the value of `-p` is wrong: the first setting with a flaw, and this flaw.
 ghost use Rattle.std.specs.Prelude.{◌≡◌, option_map};
 ghost use Rattle.nor_args.specs.Programmer.{are_settings, is_setting};
 ghost use Rattle.nor_args.specs.Reasons.{IsWrongProgrammer, first_flawed, flaw_of, has_known_key, is_flawed};
@@ -25,7 +25,7 @@ pub fn programmer_reason(text: &str) -> Reason<'_>
     }
 }
 
-/// Returns whether each setting in `list` has a known key and a correct value, and no two have the same key.
+/// Returns whether each setting in `list` has a known key and a correct value, and no two settings have the same key.
 pub fn are_settings(list: &str) -> bool
     ensures { result ≡ are_settings (pieces_of list.now) }
 {

@@ -85,7 +85,7 @@ pub struct Given<'a> {
 impl<'a> Given<'a> {
     ghost use Rattle.nor_args.specs.Given.{texts_of};
 
-    /// Collects flashnor's options from the result of `clap`; those that only programs for hardware have are missing.
+    /// Collects flashnor's options from the result of `clap`. All options that flashnor lacks get `None` or false.
     pub fn of(matches: &ArgMatches<'a>) -> Given<'a>
         ensures { texts_of result ≡ given_in (rows_of (found_of matches.now)) }
     {
@@ -158,7 +158,7 @@ impl<'a> Given<'a> {
         }
     }
 
-    /// Returns the job that the options ask for, or the first of their faults 2 to 9. `--check-journal` must be absent.
+    /// Returns the job that the options ask for, or the first of the faults 2 to 9. `--check-journal` must be absent.
     pub fn job(self) -> Result<Job<'a>, UsageFault>
         requires { (texts_of self).check_journal ≡ None }
         ensures { MatchResult result
@@ -180,7 +180,7 @@ impl<'a> Given<'a> {
 
     /// Returns the job of a program for hardware. `named` must be the result of `chip_named`. Returns fault 2 if `-p`,
     /// `--check-journal` and `-L` are all missing. With `--check-journal` or `-L`, returns the first of the faults 4 to
-    /// 9 if the options have one. With neither option, this fault is part of the job.
+    /// 9 if the options have one. Without these two options, that fault is part of the job.
     pub fn hardware_job(
         self,
         named: Option<ChipName>,
@@ -317,7 +317,7 @@ impl<'a> Given<'a> {
         }
     }
 
-    // Without `--journal`, `--rehearse` is a list of stops, so the `unwrap` can't fail.
+    // Without `--journal`, the value of `--rehearse` is a correct list of stops, so the `unwrap` can't fail.
     fn journal_use(&self) -> JournalUse<'a>
         requires { (texts_of self.now).journal ≡ None
             → is_some (option_and_then stops_of (texts_of self.now).rehearse) ≡ true }

@@ -51,7 +51,7 @@ pub struct ProgrammerJob<'a> {
 #[derive(Drop)]
 pub struct Operation<'a> {
     pub named: Option<ChipName>,
-    /// True without `-N`: compare what a restore left alone, and the whole chip after a verified write or erase.
+    /// True without `-N`: compare what a restored journal lacks, and the whole chip after a verified write or erase.
     pub verifies_all: bool,
     /// True with `--quick`: a restore writes only the saved sectors that differ.
     pub is_quick: bool,
@@ -103,7 +103,7 @@ impl ProgressMode {
 /// An operation on a chip.
 #[derive(Drop)]
 pub enum Task<'a> {
-    /// Identify the chip. In a program for hardware, `is_flash_name` and `srp0` of `Operation` say what follows.
+    /// Identify the chip. In a program for hardware, `is_flash_name` and `srp0` of `Operation` may ask for more.
     Probe,
     FlashSize,
     WpStatus,

@@ -22,7 +22,7 @@ pub fn read_polls(text: &str) -> Option<u16>
     u16::try_from(polls).ok()
 }
 
-/// Parses `START,LENGTH`, each decimal or `0x..` as in `number_or_length`. Returns `None` for any other text.
+/// Parses `START,LENGTH`, each as decimal digits or as `0x` and hexadecimal digits. Returns `None` for any other text.
 pub fn read_range(text: &str) -> Option<(u32, u32)>
     ensures { result ≡ range_of text.now }
 {
@@ -83,7 +83,7 @@ fn read_numeral(text: &str, radix: u32, most: usize, greatest: u64) -> Option<u6
     }
 }
 
-// Returns true for an empty text, too. In contrast to `from_str_radix`, this function accepts no leading plus sign.
+// Returns whether all characters are digits, and true for an empty text. (`from_str_radix` also accepts a plus sign.)
 fn has_digits(text: &str, radix: u32) -> bool
     requires { (2 ≤ radix) × (radix ≤ 36) }
     ensures { result ≡ list_all (λ digit. is_digit digit radix) text.now }

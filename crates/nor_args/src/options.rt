@@ -85,7 +85,7 @@ The manual page, flashnor(8), says what to do about each fault.";
 // An option, and its line in the help.
 struct Choice {
     letter: Option<char>,
-    // The ID for `clap` and, except for `-L`, the long name. In flashnor only options without a letter have a long one.
+    // The ID for `clap`, and (except for `-L`) the long name. flashnor has long names only for options without letter.
     name: &'static str,
     // The placeholder of the option's value in the help; a flag has none.
     value: Option<&'static str>,

@@ -80,7 +80,7 @@ impl OptionName {
     }
 }
 
-/// What is wrong with a setting of `-p`: an unknown key, a wrong value, or a key that another setting has, too.
+/// The flaw of a setting of `-p`: an unknown key, a wrong value, or a key that another setting has, too.
 #[derive(Clone, Copy)]
 pub enum Flaw {
     Key,

@@ -56,7 +56,7 @@ fn message_of_unknown(alloc: Global, program: Program, text: &str) -> Result<Str
     Ok(message)
 }
 
-// Nothing after the argument repeats `AFTER_UNKNOWN`, so the argument ends before the last `AFTER_UNKNOWN`.
+// Returns the unknown argument that the text of an error names: the part before the last `AFTER_UNKNOWN`.
 fn unknown_in(text: &str) -> &str {
     let rest = text.strip_prefix(BEFORE_UNKNOWN).unwrap_or(text);
     match rest.rsplit_once(AFTER_UNKNOWN) {

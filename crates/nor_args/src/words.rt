@@ -14,7 +14,7 @@ use std::alloc::{AllocError, Global};
 use std::fmt;
 use thiserror::Error;
 
-/// A usage fault, with its number: the lowest of the faults 1 to 9 that applies, or 10 if memory runs out.
+/// A usage fault: the one with the lowest number from 1 to 9 that applies, or 10 if memory runs out.
 #[derive(Debug, Drop, Error)]
 pub enum UsageFault {
     /// 1: `clap` rejects the arguments, or they ask for the help or the version. The error contains the text to print.
@@ -26,9 +26,9 @@ pub enum UsageFault {
     TwoOperations,
     /// 5: `--wp-range` or `--progress` has a wrong value, or an option of a program for hardware names the file `-`.
     Range,
-    /// 6: a change without exactly one of `--journal` and `--rehearse`, or either of these without a change.
+    /// 6: a change without exactly one of `--journal` and `--rehearse`, or one of these two options without a change.
     Journal,
-    /// 7: a layout without `-i`, `-i` without a layout, both without `-r`, `-v`, `-w` or `-E`, or several layouts.
+    /// 7: a layout without `-i`; `-i` without a layout; both without any of `-r`, `-v`, `-w`, `-E`; or several layouts.
     Layout,
     /// 8: an option without the operation that it needs (see `Reason`).
     Unneeded,
@@ -106,7 +106,7 @@ pub fn request_of<'a>(alloc: Global, words: &'a [String]) -> Result<Job<'a>, Usa
     }
 }
 
-/// Returns the job or the fault that `request_of` returns, and with a fault also its reason.
+/// Returns the job that the arguments after the program's name ask for, or their first usage fault with its reason.
 pub fn explained_request_of<'a>(
     alloc: Global,
     words: &'a [String],
@@ -125,7 +125,7 @@ pub fn explained_request_of<'a>(
 /// values of all `-i`, joined with commas.
 ///
 /// Returns with its reason: fault 1 or 10; fault 2 if `-p`, `--check-journal` and `-L` are all missing; or, with
-/// `--check-journal` or `-L`, the first of the faults 4 to 8. With neither, this fault is part of the `ProgrammerJob`.
+/// `--check-journal` or `-L`, the first of the faults 4 to 8. Without either, that fault is part of `ProgrammerJob`.
 pub fn operation_of<'a>(
     alloc: Global,
     help: Help,

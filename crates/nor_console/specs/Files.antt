@@ -34,7 +34,7 @@ IsReadingFault view name most (end.File file.Read of cause) =
     (of.now ≡ name) × (ReadsFile name most None view ⊎ Happens view (Unread name))
 IsReadingFault view name most _ = ⊥
 
--- Holds if this is file fault 1, and the named file has more than `most` bytes or isn't known (`IsKnownFile`).
+-- Holds if this is file fault 1 with `name`, and this file has more than `most` bytes or isn't known (`IsKnownFile`).
 abbrev pub IsTooLong : View → Text → ℕ → Fault → Type 0
 IsTooLong view name most (end.File file.Read of cause) =
     (of.now ≡ name) × ((bytes : List ℕ) × IsRead view name (most + 1) bytes × (most < length bytes))

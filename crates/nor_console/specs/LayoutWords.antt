@@ -12,7 +12,7 @@ place_after place.Start byte =
     if nat_eq byte 10 then place.Start else if is_separator byte then place.Start else place.Word
 place_after _ byte = if nat_eq byte 10 then place.Start else if is_separator byte then place.Blank else place.Word
 
--- the bytes that replace `byte`: none for a blank, a space and `byte` if it begins a later word of a line, else `byte`
+-- the bytes that replace `byte`: none for a blank; a space and `byte` at the start of a further word; otherwise `byte`
 abbrev pub kept_in_words : (before : Place) → (byte : ℕ) → List ℕ
 kept_in_words place.Blank byte =
     if nat_eq byte 10 then byte ∷ [] else if is_separator byte then [] else 32 ∷ byte ∷ []

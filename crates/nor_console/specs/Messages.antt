@@ -1,4 +1,4 @@
--- The numbers of file faults, the fault of arguments that could not be collected, and the fault of standard output.
+-- The numbers of file faults, and the faults of unreadable arguments, of refused calls and of standard output.
 use Rattle.std.specs.Prelude.{◌≡◌, ◌≢◌, ◌⊎◌, ℕ, List, Result, Ok, Err, codes}
 use Rattle.std.specs.IoError.{error_kind}
 use Rattle.std.specs.declared.io.Error.{Error}

@@ -1,4 +1,4 @@
--- The lines that say what is wrong, byte by byte; each is printed before the numbered line of a fault.
+-- The lines that say what is wrong, byte by byte. Such a line is printed before the numbered line of a fault.
 use Rattle.std.specs.Prelude.{ℕ, List, [], ◌∷◌, codes, if◌then◌else◌}
 use Rattle.std.specs.List.{concat}
 use Rattle.std.specs.Str.{bytes_eq}

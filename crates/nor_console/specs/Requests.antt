@@ -50,7 +50,7 @@ request_for change named ranges = record {
 abbrev pub any_size : ℕ
 any_size = 4294967295
 
--- Holds if `text` is a layout of this form with these regions. Those of an FMAP or descriptor may lie outside the chip.
+-- Holds if `text` is a layout of this form with these regions. In an FMAP or descriptor they may lie outside the chip.
 abbrev pub HasLayout : LayoutForm → (text : List ℕ) → List Region → Type 0
 HasLayout form.Lines text regions = IsLayout text regions
 HasLayout form.Words text regions = IsLayout (in_words place.Start text) regions
@@ -64,8 +64,8 @@ pub record AreIncluded (form : LayoutForm) (text names : List ℕ) (ranges : Lis
   pub known : are_known regions names ≡ true
   pub union : (a : ℕ) → contains ranges a ≡ is_included regions names a
 
--- Holds if `text` has at most 16 MiB, and is the content of the layout's file (if this file is known) or, without a
--- file, what the chip returned (`shown`).
+-- Holds if `text` has at most 16 MiB, and is the content of the layout's file (any content if `IsKnownFile` isn't true)
+-- or, without a file, what the chip returned (`shown`).
 abbrev pub IsLayoutText : View → (shown : Option (List ℕ)) → (file : Option (Bor Text)) → (text : List ℕ) → Type 0
 IsLayoutText view shown (Some name) text = IsRead view name.now 16777217 text × (length text ≤ 16777216)
 IsLayoutText view shown None text = (shown ≡ Some text) × (length text ≤ 16777216)

@@ -9,13 +9,13 @@ use Rattle.nor_console.specs.declared.messages.Fault.{Fault}
 use Rattle.nor_console.specs.declared.messages.Fault.TheVariants as end
 use Rattle.nor_console.specs.declared.messages.FileFault.TheVariants as file
 
--- Holds if this is file fault 5 with the name `later`, and both names are given and may refer to one file.
+-- Holds if this is file fault 5 with the name `later`, if both names are given, and if they may refer to one file.
 abbrev pub IsShared : Nature → (earlier later : Option (Bor Text)) → Fault → Type 0
 IsShared nature earlier later (end.File file.Taken of cause) = IsSomeAnd earlier (λ one. IsSomeAnd later (λ other.
     (of.now ≡ other.now) × (nature.fails (Shared one.now other.now) ≡ true)))
 IsShared nature earlier later _ = ⊥
 
--- Holds if this is file fault 5 with the given name, and the program may print to this file.
+-- Holds if this is file fault 5 with the name `named`, and the program may print to this file.
 abbrev pub IsPrintedTo : Nature → Option (Bor Text) → Fault → Type 0
 IsPrintedTo nature named (end.File file.Taken of cause) = IsSomeAnd named (λ name.
     (of.now ≡ name.now) × (nature.fails (Printed name.now) ≡ true))

@@ -20,19 +20,19 @@ IsFileFound view None len found = found ≡ None
 IsFileFound view (Some name) len found = ReadsFile name.now (len + 1) found view
 
 -- Holds if `bytes` are the `len` bytes of the named file, or `missing` if no file is named or the file is missing. If
--- the file isn't known (`IsKnownFile`), either is possible.
+-- the file isn't known (`IsKnownFile`), `bytes` are any `len` bytes or `missing`.
 pub record AreOfFile (view : View) (name : Option (Bor Text)) (len : ℕ) (missing bytes : List ℕ) : Type 0 where
   pub found : Option (List ℕ)
   pub is_found : IsFileFound view name len found
   pub whole : IfSome found (λ all. length all ≡ len)
   pub same : bytes ≡ unwrap_or found missing
 
--- Holds if no file is named, or its content is durably `bytes`. This is claimed only if the files obey their contract.
+-- Holds if no file is named, if the files don't obey their contract, or if the named file durably has these bytes.
 abbrev pub Has : Option (Bor Text) → List ℕ → FilesState → Type 0
 Has None bytes files = ⊤
 Has (Some name) bytes files = is_lawful files.view ≡ true → IsDurable name.now (Some bytes) files
 
--- Holds if `bytes` were durably written to the file `name`, or if writing failed and `failed` is this name.
+-- Holds if `failed` is `None` and `Has` holds for `name`, or if `failed` is `name` and a write of this file may fail.
 abbrev pub ArePut : Option (Bor Text) → List ℕ → Option (Bor Text) → FilesState → Type 0
 ArePut name bytes None files = Has name bytes files
 ArePut name bytes (Some failed) files = (name ≡ Some failed) × Happens files.view (Unwritten failed.now)
@@ -62,8 +62,8 @@ abbrev pub IsMissing : Option (Bor Text) → View → Type 0
 IsMissing None view = ⊤
 IsMissing (Some name) view = IsKnownFile name.now view → view.seen name.now ≡ None
 
--- Holds if a host crash in `new` can leave the named file only as a crash in `old` could, or empty if it was missing.
--- This is claimed only for a file that was known (`IsKnownFile`).
+-- If the named file was known (`IsKnownFile`): holds if a host crash in `new` can leave this file only as a crash in
+-- `old` could, or empty if it was missing. Otherwise: always holds.
 abbrev pub MakesNothing : Option (Bor Text) → (old new : FilesState) → Type 0
 MakesNothing None old new = ⊤
 MakesNothing (Some name) old new = IsKnownFile name.now old.view → LeavesOrEmpty name.now old new

@@ -17,7 +17,7 @@ pub enum Answer {
     Size(u32),
     /// The report on a chip that was read into a file, or saved in a backup.
     Read(Report),
-    /// The report on a chip whose included bytes equal those of an image.
+    /// The report on a chip whose included bytes equal the image.
     Verified(Report),
     /// The report on a change or a restore.
     Done(Report),

@@ -1,5 +1,5 @@
-//! Calls to the engine that read, compare, change or back up a chip, and the files that they write. A given `named`
-//! is the name that the chip must have.
+//! Calls to the engine that read, compare, change or back up a chip, and the files that they write. `named`, if
+//! given, is the name that the chip must have.
 ghost use Rattle.std.specs.Prelude.{◌≡◌, IfErr, IfOk, OnErr, false, option_copied, replicate, true};
 ghost use Rattle.nor_files.specs.Calls.{BorrowsNone};
 ghost use Rattle.nor_files.specs.Files.{OthersStay, is_lawful};
@@ -37,7 +37,7 @@ pub fn list_ranges<B: Bus>(bus: &mut B, named: Option<ChipName>) -> Outcome
 }
 
 /// Reads the chip into `file`, which `create_output` creates or truncates before the first transaction. Addresses that
-/// aren't included get FFh. The outer error is a fault of `create_output`. After an inner error, which is one of
+/// aren't included get FFh. The outer error is a fault of `create_output`. After an inner error, an error of
 /// `read_out`, the file may hold a prefix of the copy. If `included` is `None`, every address is included.
 pub fn read_to_file<'a, R: Store, B: Bus>(
     rt: &mut R,
@@ -95,8 +95,8 @@ pub fn erased(alloc: Global, size: u32) -> Result<Vec<u8>, AllocError>
 }
 
 /// Runs the session that `request` asks for, with its journal in `file`, which `create_journal` creates before the
-/// first transaction. `announce` must accept every announcement. The outer error is a fault of `create_journal`, the
-/// inner error one of `session_announced`.
+/// first transaction. `announce` must accept every announcement. The outer error is a fault of `create_journal`, and
+/// the inner error is an error of `session_announced`.
 pub fn session_in_file<'a, R: Store, B: Bus, F: FnOnce(Announcement) + Drop>(
     rt: &mut R,
     bus: &mut B,
@@ -143,7 +143,7 @@ fn run_session<B: Bus, V: Vault, F: FnOnce(Announcement) + Drop>(
 }
 
 /// Saves the whole chip in a journal in `file`, which `create_journal` creates before the first transaction. The outer
-/// error is a fault of `create_journal`. After an inner error, which is one of `backup`, the file may hold a prefix of
+/// error is a fault of `create_journal`. After an inner error, an error of `backup`, the file may hold a prefix of
 /// the journal.
 pub fn backup_in_file<'a, R: Store, B: Bus>(
     rt: &mut R,

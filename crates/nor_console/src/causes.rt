@@ -46,7 +46,7 @@ impl SystemReason {
         }
     }
 
-    /// Returns the reason of an error of a call that creates or writes a file: `NotFound` means a missing directory.
+    /// Returns the reason why a call that creates or writes a file failed: `NotFound` then means a missing directory.
     pub fn of_making(error: &io::Error) -> SystemReason {
         match SystemReason::of_reading(error) {
             SystemReason::Missing => SystemReason::NoDirectory,

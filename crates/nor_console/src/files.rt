@@ -67,7 +67,7 @@ pub fn unread_by(name: &str, cause: Cause) -> Fault<'_>
     Fault::File { fault, name, cause }
 }
 
-/// Creates or truncates the file `name`, and returns a vault that writes to it. `making` lists the faults.
+/// Creates or truncates the file `name`, and returns a vault that writes to it. Returns the faults of `making`.
 pub fn create_output<'a, R: Store>(rt: &mut R, name: &'a str) -> Result<R::Filed, Fault<'a>>
     ensures nature { (R.state rt.new).view.nature ≡ (R.state rt.old).view.nature }
     ensures fresh { IfOk result (λ vault. IsFresh (R.Filed.state vault)) }
@@ -83,7 +83,7 @@ pub fn create_output<'a, R: Store>(rt: &mut R, name: &'a str) -> Result<R::Filed
     }
 }
 
-/// Creates the file `name`, which must not exist, and returns a vault that writes to it. `making` lists the faults.
+/// Creates the file `name`, which must be missing, and returns a vault that writes to it. Returns faults of `making`.
 pub fn create_journal<'a, R: Store>(rt: &mut R, name: &'a str) -> Result<R::Filed, Fault<'a>>
     ensures nature { (R.state rt.new).view.nature ≡ (R.state rt.old).view.nature }
     ensures fresh { IfOk result (λ vault. IsFresh (R.Filed.state vault)) }
@@ -103,8 +103,8 @@ pub fn create_journal<'a, R: Store>(rt: &mut R, name: &'a str) -> Result<R::File
     }
 }
 
-/// Creates the file `name` or opens it to be truncated (`Store::log_in`), and returns a buffered writer to it. `making`
-/// lists the faults. Error 18 is possible even after the file was created or truncated.
+/// Creates the file `name` or opens it to be truncated (`Store::log_in`), and returns a buffered writer to it. Returns
+/// the faults of `making`. Error 18 is possible even after the file was created or truncated.
 pub fn create_log<'a, R: Store>(rt: &mut R, name: &'a str) -> Result<BufWriter<R::Log>, Fault<'a>>
     ensures nature { (R.state rt.new).view.nature ≡ (R.state rt.old).view.nature }
     ensures others { is_lawful (R.state rt.old).view ≡ true
@@ -119,8 +119,8 @@ pub fn create_log<'a, R: Store>(rt: &mut R, name: &'a str) -> Result<BufWriter<R
 }
 
 /// Returns the fault of a file that can't be created or truncated: error 18 if memory ran out, file fault 5 if another
-/// process has locked the file, file fault 4 with the cause `there` if the file must be new but exists, or if it is a
-/// journal (which `Disk` never truncates), and otherwise file fault 2.
+/// process has locked the file, file fault 4 with the cause `there` if the file exists but must be new, or is a journal
+/// (which `Disk` never truncates), and otherwise file fault 2.
 pub fn making(fault: CreateFault, name: &str, there: Cause) -> Fault<'_>
     ensures { (view : View) → IsCreateFault view.nature name.now fault → IsMaking view name.now result }
 {
@@ -170,7 +170,7 @@ pub fn lost_output() -> Fault<'static>
 }
 
 /// Locks the file `journal` against changes by other runs, if the file system has locks, and returns up to
-/// `MOST_JOURNAL_BYTES` bytes of it, which may be no journal.
+/// `MOST_JOURNAL_BYTES` bytes of this file, even if they are no journal.
 ///
 /// Returns file fault 1 if the file is missing or can't be read, file fault 2 if it can't be locked, file fault 5 if
 /// another process has locked it to change it, or error 18 if memory runs out.

@@ -16,8 +16,8 @@ use std::{fmt, io};
 /// A failure of a file. Its number is part of the message.
 #[derive(Clone, Copy)]
 pub enum FileFault {
-    /// The file is missing, can't be looked up or read, is a layout of more than 16 MiB, or is a chip's file of which a
-    /// read might never end.
+    /// The file is missing, can't be looked up or read, is a layout of more than 16 MiB, or is a file of the emulated
+    /// chip whose read might never end.
     Read = 1,
     /// The file can't be created, locked, written or (after it was read) truncated; the file or its directory can't be
     /// synced; a file of the chip or a sealed journal was removed or replaced, or its length changed; or standard
@@ -42,7 +42,7 @@ impl FileFault {
 }
 
 /// The fault that ends a run with exit status 1, or a request for help or the version. The requested text is printed to
-/// standard output, with exit status 0 if that succeeds.
+/// standard output, with exit status 0 if printing succeeds.
 #[derive(Drop)]
 pub enum Fault<'a> {
     /// A usage fault and its reason, or a request for the help or the version.
@@ -55,7 +55,7 @@ pub enum Fault<'a> {
     Layout(LayoutFault),
     /// An FMAP or a flash descriptor that is missing or can't be used. The fault's text is only the numbered line.
     Map(MapFault),
-    /// Layout fault 8: the first of the given names that is not the name of a region.
+    /// Layout fault 8: `name` is the first given name that no region has.
     NoRegion {
         name: &'a str,
     },

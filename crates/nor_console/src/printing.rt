@@ -19,7 +19,7 @@ use nor_session::{Rehearsal, Report};
 use std::io::Write;
 use std::{fmt, io};
 
-/// Returns the parser's error with the text of the help, if the fault is a request for it.
+/// Returns the parser's error with the text of the help, if the fault is a request for the help.
 pub fn help_of<'a>(fault: &'a Fault<'_>) -> Option<&'a WordsError>
     ensures some { IsSome result → IsAnswered (Err fault.now) }
     ensures none { IsNone result → IsAnswered (Err fault.now) → ⊥ }
@@ -33,7 +33,7 @@ pub fn help_of<'a>(fault: &'a Fault<'_>) -> Option<&'a WordsError>
     }
 }
 
-/// Returns the parser's error with the text of the version, if the fault is a request for it.
+/// Returns the parser's error with the text of the version, if the fault is a request for the version.
 pub fn version_of<'a>(fault: &'a Fault<'_>) -> Option<&'a WordsError>
     ensures some { IsSome result → AsksForVersion fault.now }
     ensures none { IsNone result → AsksForVersion fault.now → ⊥ }

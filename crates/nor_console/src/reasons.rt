@@ -145,7 +145,7 @@ fn text_of_line(fault: LineFault) -> &'static str
 
 pub const NO_JOURNAL: &str = "error: the file is no journal, or is damaged\n";
 
-/// The line that says what may be wrong with an invalid journal, or no text for any other error.
+/// The line that says what is wrong with an invalid journal, or no text for any other error.
 #[derive(Drop)]
 pub struct JournalLine<'a>(pub &'a Refusal);
 

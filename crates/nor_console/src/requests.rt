@@ -132,7 +132,7 @@ fn parse_words<'a>(alloc: Global, text: &[u8]) -> Result<Layout, Fault<'a>>
     }
 }
 
-/// Returns the addresses of the named regions of `layout`, or as the error the first of the names that is no region.
+/// Returns the addresses of the named regions of `layout`, or (as the error) the first name that no region has.
 #[tactic(auto, using(crate::proofs::Included::named_unknown))]
 pub fn include_regions<'a>(layout: &Layout, names: &'a str) -> Result<Ranges, &'a str>
     ensures known { OnOk result (are_known layout.now names.now ≡ true) }

@@ -101,7 +101,7 @@ pub fn journal_of<'a>(change: &Change<'a>) -> Option<&'a str>
 }
 
 /// Checks that two names, if both are given, refer to different files. Returns file fault 5 with the name `later` if
-/// they don't, or file fault 1 with the name that can't be looked up.
+/// they don't, or file fault 1 if a name can't be looked up.
 pub fn are_two_files<'a, R: Store>(
     rt: &R,
     earlier: Option<&'a str>,
@@ -113,7 +113,7 @@ pub fn are_two_files<'a, R: Store>(
     apart_as(rt, earlier, later, Cause::Unknown)
 }
 
-/// Checks the two names as `are_two_files` does. A file fault 5 gets this cause.
+/// Checks that two names, if both are given, refer to different files. A returned file fault 5 has the given cause.
 pub fn apart_as<'a, R: Store>(
     rt: &R,
     earlier: Option<&'a str>,
@@ -140,8 +140,8 @@ fn unseen_cause<R: Store>(rt: &R, name: &str) -> Cause {
     }
 }
 
-/// Checks that the program doesn't print to the file `name`, if it is given and a regular file. Returns file fault 5 if
-/// the program does, or file fault 1 if the name can't be looked up.
+/// If `name` names a regular file, checks that the program doesn't print to it. Returns file fault 5 if the
+/// program prints to this file, or file fault 1 if the name can't be looked up.
 pub fn unprinted<'a, R: Store>(rt: &R, name: Option<&'a str>) -> Result<(), Fault<'a>>
     ensures { IfErr result (FailsUnprinted (R.state rt.now).view.nature name.entry) }
 {

@@ -30,8 +30,8 @@ pub fn keep_streams<R: Files>(files: &R) -> io::Result<Streams<R::File>> {
     })
 }
 
-/// Returns a writer that sends each line of up to `LINE_BYTES` bytes in one write, so that it isn't mixed with lines of
-/// other programs. If memory is lacking, lines are sent in pieces.
+/// Returns a writer that sends each line of up to `LINE_BYTES` bytes in one write, so that no line is mixed with lines
+/// of other programs. If memory runs out, a line may take several writes.
 pub fn line_buffered<W: Write + Copy + Drop>(alloc: Global, stream: W) -> LineWriter<W> {
     match LineWriter::with_capacity(alloc, LINE_BYTES, stream) {
         Ok(writer) => writer,

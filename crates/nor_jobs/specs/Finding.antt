@@ -1,4 +1,4 @@
--- The results of an identification, as a whole job or before a further call to the engine, on every bus.
+-- The results of an identification on any bus. It is a whole job, or precedes another call to the engine.
 use Rattle.std.specs.Prelude.{◌≡◌, true, Option, None, Some, Result, Ok, Err, IfOk}
 use Rattle.nor_model.specs.Bus.{BusState}
 use Rattle.nor_probe.specs.Found.{IsConfigOf, ProbeAlways, ProbeHonest}
@@ -44,7 +44,7 @@ abbrev pub FailsToFind : Option ChipName → (old new : BusState) → Fault → 
 FailsToFind named old new fault =
     (refusal : Refusal) × HasIdentified named old new (Err refusal) × (fault ≡ end.Refused refusal)
 
--- Holds if the chip was identified and has the given name. Without a name, nothing is sent.
+-- With a name: holds if the chip was identified and has this name. Without a name: holds if nothing was sent.
 abbrev pub IsNamedFirst : Option ChipName → (old new : BusState) → Type 0
 IsNamedFirst None old new = new ≡ old
 IsNamedFirst (Some name) old new = (chip : Found) × HasIdentified (Some name) old new (Ok chip)

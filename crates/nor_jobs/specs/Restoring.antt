@@ -20,7 +20,7 @@ use Rattle.nor_console.specs.declared.messages.Fault.{Fault}
 use Rattle.nor_console.specs.declared.messages.Fault.TheVariants as end
 use Rattle.nor_jobs.specs.Finding.{FailsToName, IsNamedFirst}
 
--- Holds if `bytes` are no journal, and the fault is error 15 with their first fault. `NoJournal` is journal fault 1.
+-- Holds if `bytes` are no journal, and the fault is error 15 with their journal fault. `NoJournal` is journal fault 1.
 abbrev pub IsNoJournal : (bytes : List ℕ) → Fault → Type 0
 IsNoJournal bytes end.NoJournal = HasFault bytes Short
 IsNoJournal bytes (end.Refused (BadJournal why)) = HasFault bytes why
@@ -30,7 +30,6 @@ abbrev pub choice_of : (quick : Bool) → Choice
 choice_of true = differing
 choice_of false = every_saved
 
--- Holds if the journal can still restore each chip that it could restore before, and a success has restored this chip.
 abbrev pub RestoresBy : (quick : Bool) → Journal → (old new : BusState) → Result Report Refusal → Type 0
 RestoresBy true journal old new result = RestoresOriginal journal old new result
 RestoresBy false journal old new result = RewritesOriginal journal old new result
@@ -52,7 +51,7 @@ pub record HasRunNamed (quick : Bool) (named : Option ChipName) (journal : Journ
   pub first : IsNamedFirst named old found
   pub ran : HasRunRestore quick journal found new outcome
 
--- Holds if a restore was run, or if a check of the name failed and ended the job.
+-- Holds if a restore was run, or if the check of the name failed and ended the job with its error.
 abbrev pub HasRestoredNamed : (quick : Bool) → Option ChipName → Journal → (old new : BusState) → Result Answer Refusal
     → Type 0
 HasRestoredNamed quick named journal old new outcome = HasRunNamed quick named journal old new outcome

@@ -13,7 +13,7 @@ use Rattle.nor_console.specs.Stored.{IsRead}
 use Rattle.nor_console.specs.declared.messages.Fault.{Fault}
 use Rattle.nor_jobs.specs.Restoring.{IsNoJournal}
 
--- Holds if `bytes` were read from the image that a change writes. An erase or a protection range has no bytes.
+-- Holds if `bytes` were read from the image that a change writes, or are empty because the change writes no image.
 abbrev pub IsImage : View → Wanted → List ℕ → Type 0
 IsImage view (wanted.Write image) bytes = IsRead view image.now 16777217 bytes
 IsImage view _ bytes = bytes ≡ []
@@ -26,7 +26,8 @@ abbrev pub IsAskedOf : View → Wanted → (size : ℕ) → (asked : List ℕ) �
 IsAskedOf view wanted size asked =
     (bytes : List ℕ) × IsImage view wanted bytes × (asked ≡ asked_bytes wanted size bytes)
 
--- Holds if `ranges` are the addresses of the job's regions, and `bytes` are read from its image or journal, if any.
+-- Holds if `ranges` are the addresses of the task's regions and `bytes` were read from its image or journal, as far as
+-- the task has them.
 abbrev pub AreSources : View → Task → Option (List Span) → List ℕ → Type 0
 AreSources view (task.Read file regions) ranges bytes = AreRangesOf view None regions ranges
 AreSources view (task.Verify file regions) ranges bytes =

@@ -42,7 +42,7 @@ pub fn identify_or_fault<'a, B: Bus>(
     or_fault(identify_chip(bus, named))
 }
 
-/// Identifies the chip if a name is given, which the chip must have. Returns the errors of `identify_chip`.
+/// Checks that the chip has the name `named`, if it is given. Returns the errors of `identify_chip`.
 pub fn check_name<B: Bus>(bus: &mut B, named: Option<ChipName>) -> Result<(), Refusal>
     ensures ok { OnOk result (IsNamedFirst named (B.state bus.old) (B.state bus.new)) }
     ensures err { IfErr result (FailsToName named (B.state bus.old) (B.state bus.new)) }

@@ -19,8 +19,8 @@ pub struct Sources {
     pub bytes: Vec<u8>,
 }
 
-/// Reads the layout and the image or journal that a task needs. A journal is locked against runs that would change it,
-/// but its format isn't checked. Returns the faults of `read_included`, `read_file` and `read_journal`.
+/// Reads the layout and the image or journal that a task needs. A journal is locked against changes by other
+/// runs, but its format isn't checked. Returns the faults of `read_included`, `read_file` and `read_journal`.
 pub fn read_sources<'a, R: Store>(rt: &mut R, task: &Task<'a>) -> Result<Sources, Fault<'a>>
     ensures same { AreUntouched (R.state rt.old) (R.state rt.new) }
     ensures ok { IfOk result (λ sources.
@@ -76,7 +76,7 @@ pub fn read_image<'a, R: Store>(rt: &R, wanted: Wanted<'a>) -> Result<Vec<u8>, F
     }
 }
 
-/// Returns the bytes of a change: `size` bytes of FFh for an erase, else `bytes`. Only an erase can run out of memory.
+/// Returns `size` bytes of FFh if the change is an erase, otherwise `bytes`. Fails if memory runs out.
 pub fn asked_bytes(
     alloc: Global,
     wanted: Wanted<'_>,

@@ -28,7 +28,7 @@ use played::{PlayedPort, PlayedWires};
 use std::alloc::Global;
 use std::{env, fs};
 
-/// The example's bus over a port. It pauses between polls that show BUSY, reads twice, and stops if two replies differ.
+/// The bus over a port. It pauses between polls that show BUSY, and stops if two reads of the same data or ID differ.
 type PortBus<'a, P> = Paced<ReadTwice<SerprogBus<P>>, &'a HostRuntime>;
 
 fn main(rt: HostRuntime) -> Result<(), Fault> {

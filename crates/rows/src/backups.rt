@@ -30,7 +30,7 @@ fn saved(rt: &impl Abort, alloc: Global, bus: &mut SimBus) -> MemVault {
     vault
 }
 
-// Erases a sector and programs a byte, as commands that reach the chip with a wrong address would.
+// Erases sector 3 and programs a byte of sector 12.
 fn disturb(rt: &impl Abort, bus: &mut SimBus) {
     let sector = Erase {
         unit: EraseBlock::Sector,
@@ -83,7 +83,7 @@ fn each_stop_of_a_backup(rt: HostRuntime) {
     }
 }
 
-// The calls are one for the header, 16 for the sectors, two for the end mark and the digest, and the seal.
+// The vault gets 20 calls: one for the header, 16 for the sectors, two for the end mark and the digest, and the seal.
 #[test]
 fn each_call_of_a_backup_is_refused(rt: HostRuntime) {
     let alloc = rt.alloc();

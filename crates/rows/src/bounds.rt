@@ -133,8 +133,8 @@ fn assert_written(rt: &impl Abort, alloc: Global, row: Row, bus: &SimBus) {
     assert_that!(rt; bus.bytes() == wanted.as_slice());
 }
 
-// The session sends 271 operations and the restore 241, each with 65,536 polls. The restore reads sixteen sectors,
-// fifteen of them again before it programs them, and all to verify them.
+// The session performs 271 operations and the restore 241, each with 65,536 polls. The restore reads sixteen sectors,
+// reads fifteen of them again before it programs these, and reads all sixteen to verify them.
 #[test]
 fn the_slowest_session_and_its_restore(rt: HostRuntime) {
     let row = Row::EachPageIsProgrammed;

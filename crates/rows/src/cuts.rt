@@ -3,7 +3,7 @@ use crate::held::assert_that;
 use crate::row::{Row, Start};
 use crate::runs::Runs;
 
-// Each row has the first allowance, and the number of runs up to the session's length.
+// Each row has the first allowance, and the number of runs up to the allowance with which the session succeeds.
 const ROWS: [(Row, u64, u64); 6] = [
     (Row::ABitFalls, 0, 29),
     (Row::NineSectorsAreErased, 0, 39),

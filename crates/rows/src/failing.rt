@@ -1,4 +1,4 @@
-//! A bus on which one transaction fails, or the polls of one wait.
+//! A bus on which one transaction fails, or on which the polls of one wait show BUSY.
 ghost use Rattle.std.specs.Prelude.{false};
 ghost use Rattle.std.proofs.lemmas.Bool.{false≢true};
 ghost use Rattle.nor_model.specs.PolledReady.{polled_ready_in};
@@ -8,25 +8,25 @@ use nor_chip::{Bus, History, Meter, SimBus, Stopped};
 
 #[derive(Clone, Copy)]
 pub enum Fault {
-    /// The bus stops at this transaction.
+    /// The bus stops at the transaction.
     Stop,
-    /// The bus inverts each bit of the reply.
+    /// The bus inverts each bit of the transaction's reply.
     Spoil,
-    /// This transaction, if it is a poll, and each poll among the 65,535 after it show BUSY, so the wait times out.
+    /// The transaction, if it is a poll, and the polls among the 65,535 transactions after it show BUSY.
     Busy,
 }
 
-/// A bus on which at most one transaction, or the polls of one wait, fail. The allowance begins anew after the failure.
+/// A bus with at most one fault, at a transaction or at the polls of a wait. A fault resets the allowance to `allowed`.
 #[derive(Drop)]
 pub struct OnceBus {
     pub bus: SimBus,
     fault: Fault,
-    // The number of transactions before the one that fails. `None` if none fails.
+    // The number of transactions before the faulty one. `None` if there is no fault.
     after: Option<u64>,
     allowed: u64,
     /// The number of requested transactions, including those that failed.
     pub asked: u64,
-    /// The first four bytes of transaction `after` (only the first byte if it sent fewer), or zeros before it.
+    /// The first four bytes that transaction `after` sent (only the first byte if it sent fewer), or zeros before it.
     pub met: [u8; 4],
     history: History,
 }

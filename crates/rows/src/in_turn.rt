@@ -1,5 +1,5 @@
 //! Two successive sessions on one chip, and then their restores in reverse order. The first session is stopped after
-//! its seal, or ends. The second session is stopped after each number of transactions.
+//! its seal, or succeeds. The second session is stopped after each number of transactions.
 use crate::held::assert_held;
 use crate::row::{Row, Start};
 use crate::runs::{AMPLE, Cut, Runs};
@@ -50,12 +50,12 @@ fn stop_second(rt: &impl Abort, alloc: Global, runs: &Runs, other: Row, n: u64) 
     panic!(rt; "no session after {n} ended")
 }
 
-// The length of the second session after each stop of the first (after 23 to 29 transactions) and after its end. The
-// second session sends 23 transactions before its seal, three for each erase and program, and one to verify. After 25
-// to 27 transactions byte 0 is FFh, so the second session reads the sector again in place of its erase.
+// The number of transactions of the second session, after a first session that stopped after 23 to 29 transactions or
+// (in the last entry) succeeded. 23 precede the seal, each erase and program takes three, and one verifies. If the
+// first session stopped after 25 to 27, byte 0 is FFh, and a second read of the sector replaces the erase.
 const LENGTHS: [u64; 8] = [33, 33, 31, 31, 31, 33, 33, 33];
 
-// The lengths if each stop still sends the whole next transaction, so that the chip is one transaction further.
+// The numbers of transactions if each stop still sends the whole next transaction, so that only its reply is lost.
 const LENGTHS_AFTER_A_LOST_REPLY: [u64; 8] = [33, 31, 31, 31, 33, 33, 33, 33];
 
 #[test]

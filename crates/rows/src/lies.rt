@@ -68,7 +68,7 @@ fn a_session_that_changes(rt: HostRuntime) {
 }
 
 // Each row has the fault, and the expected error and number of transactions of a restore after a session that was
-// stopped after its erase. Transactions 1 to 7 identify the chip, 8 and 9 read the sector, and 10 to 12 program.
+// stopped after its erase. Transactions 1 to 7 identify the chip, 8 and 9 read the sector, and 10 to 12 program it.
 const RESTORES: [(Spoil, (Refusal, u64)); 12] = [
     (Spoil::Fill(0xFF), (TIMEOUT, 65_536)),
     (Spoil::Fill(0x00), (Refusal::NoChip, 2)),
@@ -106,7 +106,7 @@ fn a_restore_that_programs(rt: HostRuntime) {
     }
 }
 
-// Transactions 8 to 23 scan the chip. Only sector 0 is saved, with FFh as its first byte if its read was dropped.
+// Transactions 8 to 23 scan the chip. Only sector 0 is saved. If the bus drops its read, the saved first byte is FFh.
 #[test]
 fn a_lie_before_the_seal_leaves_a_journal(rt: HostRuntime) {
     for n in 8..=23 {
@@ -171,7 +171,7 @@ fn lie_to_restores(rt: &impl Abort, alloc: Global, row: Row, stop: u64, length: 
     }
 }
 
-// Each row has the number of transactions after which the session is stopped, and the length of the restore.
+// Each row has the number of transactions after which the session is stopped, and that of the restore after it.
 const BEHIND: [(Row, u64, u64); 5] = [
     (Row::ABitRises, 25, 13),
     (Row::AByteIsProgrammed, 26, 12),

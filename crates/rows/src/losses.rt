@@ -17,7 +17,7 @@ fn change<S: Store>(files: &mut S) -> io::Result<()> {
     Ok(())
 }
 
-// Makes the change, in which at most `left` counted calls succeed, and returns the files after `loss`.
+// Runs `change` on files with the limit `left`, and returns what the files contain after `loss`.
 fn left_of(rt: &impl Abort, alloc: Global, left: u64, is_torn: bool, loss: Loss) -> Memory {
     let mut files = Memory::new(alloc, left);
     files.put("image", b"abcd").expect(rt, "memory");
@@ -68,7 +68,7 @@ fn a_torn_write_fails(rt: HostRuntime) {
     }
 }
 
-// The host crash loses everything that wasn't synced.
+// The host crash loses all bytes that weren't synced.
 #[test]
 fn a_sealed_vault_is_durable(rt: HostRuntime) {
     for is_sealed in [false, true] {

@@ -88,7 +88,7 @@ const DESCRIPTORS: &[Case] = &[
         &[(b"fd", 0, 0xFFF), (b"bios", 0x1000, 0x1FFF)],
         None,
     ),
-    // The descriptor states seven regions, so entry 7 is no region.
+    // The descriptor states seven regions, so the entries from 7 on are no regions.
     (
         &[(0x10, NR_6), (0x40, SIXTEEN)],
         0x1_0000,
@@ -207,7 +207,7 @@ const NAMED_TWICE: Option<MapFault> = Some(MapFault::Region {
     fault: RegionFault::Twice,
 });
 
-// Each case has pieces that overwrite those of `AT_200`.
+// Each case has pieces that overwrite bytes of `AT_200`.
 const FMAPS: &[Case] = &[
     (&[], 0x1000, ALL, None),
     (&[], 0xFFF, &[], Some(MapFault::Outside { record: 3 })),

@@ -1,5 +1,5 @@
-//! Tests that a call sends nothing more after a stop or a timeout (except a rehearsal with an allowance for the stopped
-//! call), and that no call reads a sector again because a reply was spoilt.
+//! Tests that a call sends nothing more after a stop or a timeout, and that no call reads a sector again because a
+//! reply was spoilt. Only a rehearsal may send more after a stop, if its caller planned this stop.
 use crate::failing::{Fault, OnceBus};
 use crate::held::assert_held;
 use crate::row::{Row, Start, erased};
@@ -92,8 +92,8 @@ fn a_stop_ends_each_command(rt: HostRuntime) {
     }
 }
 
-// Each row has a call and the number of its transactions. The terms of a session or restore are the identification, the
-// scan, the operations with four transactions each, the reads before programs, and the verification.
+// Each row has a call and the number of its transactions. For a session or restore this is the sum of the
+// identification, the scan, four for each operation, the reads before programs, and the verification.
 const ON_TWO_BLOCKS: [(Call, u64); 6] = [
     (Call::Probe, 6),
     (Call::Protection, 6 + 1),
@@ -157,7 +157,7 @@ fn a_timeout_ends_each_call(rt: HostRuntime) {
     time_out_each_call(&rt, rt.alloc(), Job::OnW25q64fv, WAITS_ON_W25Q64FV);
 }
 
-// Each row has a call and the number of its replies that the test checks. After a spoilt poll one more poll follows. A
+// Each row has a call and the number of its replies that the test checks. After a spoilt poll the call polls again. A
 // sector whose reply is spoilt isn't read again.
 const REPLIES: [(Call, u64); 4] = [
     (Call::ReadOut, 1 + 2),
@@ -174,7 +174,7 @@ fn a_spoilt_reply_is_taken_as_it_is(rt: HostRuntime) {
     }
 }
 
-// Returns the length of the restore after `sent` transactions of a rehearsal, or `None` before the seal.
+// Returns the number of transactions of a restore after the first `sent` of a rehearsal, or `None` before the seal.
 fn restore_after(sent: u64) -> Option<u64> {
     match sent {
         0..=22 => None,
@@ -185,7 +185,7 @@ fn restore_after(sent: u64) -> Option<u64> {
 
 type Rehearsed = (Result<Rehearsal, Refusal>, u64);
 
-// Returns the expected result and number of transactions on a bus that stops once, after `after` transactions.
+// Returns what `rehearse_after` must return: the result and the number of transactions.
 fn rehearsed(after: u64, stops: usize) -> Rehearsed {
     let asked = after.saturating_add(1);
     let ended = after >= 30;
@@ -201,7 +201,7 @@ fn rehearsed(after: u64, stops: usize) -> Rehearsed {
     (Ok(told), asked.saturating_add(needed.unwrap_or(0)))
 }
 
-// Rehearses on a bus that stops once, after `after` transactions, with `stops` allowances that are never used up.
+// Rehearses on a bus that stops only once, after `after` transactions, with `stops` allowances that are never used up.
 fn rehearse_after(rt: &impl Abort, alloc: Global, after: u64, stops: usize) -> Rehearsed {
     let row = Row::ABitRises;
     let mut bus = OnceBus::new(row.bus(rt, alloc, Start::IDLE), 0, Fault::Stop, Some(after));

@@ -1,4 +1,4 @@
-//! `read_out` into a vault that refuses a piece, `verify` with a lost reply, and the status that both report.
+//! Tests of `read_out` into a vault that refuses a piece, `verify` with a lost reply, and the status that both report.
 use crate::held::{assert_held, assert_that};
 use crate::row::{Row, Start};
 use crate::runs::AMPLE;
@@ -9,7 +9,7 @@ use nor_read::{read_out, verify};
 use nor_session::{Refusal, Report};
 use std::alloc::Global;
 
-// Each row has the refused call, the bytes that the vault keeps of it, the expected error, and the bytes in the vault.
+// Each row has the number of the refused call, the bytes of it that the vault keeps, the error, and the vault's length.
 const CASES: [(u64, usize, Option<Refusal>, usize); 4] = [
     (1, 0, Some(Refusal::Output { written: 0 }), 0),
     (1, 5000, Some(Refusal::Output { written: 5000 }), 5000),

@@ -28,7 +28,7 @@ fn rehearsed(
     (told, vault.is_sealed())
 }
 
-// Returns the length of the restore after a session that stopped after `stop` transactions, or `None` before the seal.
+// Returns the number of transactions of the restore after a session of `stop` transactions, or `None` before the seal.
 fn restore_after(stop: u64) -> Option<u64> {
     match stop {
         0..=22 => None,
@@ -59,12 +59,12 @@ fn each_pair_of_stops_is_reported(rt: HostRuntime) {
     }
 }
 
-// Returns the length of the second restore. If the first restore programs, its eleventh transaction does so.
+// Returns how many transactions the second restore sends. If the first restore programs, its transaction 11 does so.
 fn restore_again(needed: u64, sent: u64) -> u64 {
     if sent < 11 { needed } else { 8 }
 }
 
-// Returns the number of restores if the first one is allowed `first` transactions, and the second one `second`.
+// Returns the number of restores if the first two have the allowances `first` and `second`.
 fn restores_under(needed: u64, first: u64, second: u64) -> u32 {
     if first >= needed {
         1

@@ -12,7 +12,7 @@ pub struct Start {
     /// The numbers of polls that show BUSY at first and after each operation.
     pub delays: Delays,
     pub latch: bool,
-    /// With `Some`, a stop cuts the chip's power, and `SimBus::lose` describes what an interrupted operation leaves.
+    /// With `Some`, a stop cuts the chip's power, and the bytes of a page or block in progress become this byte.
     pub fill: Option<u8>,
     /// The greatest number of bytes of the failed transaction that a stop still sends. `None` if a stop sends none.
     pub torn: Option<u32>,
@@ -95,7 +95,7 @@ pub enum Row {
     ThirtyTwoSectorsAreErased,
     /// Changes a bit of each of the first 64 bytes from 0 to 1, in the only included sector: an erase and a program.
     ABitOf64BytesRises,
-    /// Like `AGuardedByteIsProgrammed`, but only the sector of the byte is included.
+    /// Programs the first byte of the protected range, in the only included sector.
     AGuardedByteOfASectorIsProgrammed,
 }
 

@@ -9,7 +9,7 @@ use nor_session::{Refusal, Report, restore, session};
 use std::alloc::Global;
 use std::process::Abort;
 
-/// Enough transactions for a restore of any row, except with `Start::SLOWEST`.
+/// Enough transactions for a restore of any row with any start except `Start::SLOWEST`.
 pub const AMPLE: u64 = 10_000;
 
 /// Runs a row's session on a bus to its chip, with a fresh vault (empty and unsealed). Returns the session's result.
@@ -35,8 +35,8 @@ pub struct Cut {
 }
 
 impl Cut {
-    /// Restores with the allowance `allowed`. Returns the number of transactions if the restore ends, and `None` if it
-    /// was stopped. If it ends, asserts that the chip is idle, and that its write enable latch is clear or as before.
+    /// Restores with the allowance `allowed`. Returns the number of transactions if this succeeds, and `None` after a
+    /// stop. On success, asserts that the chip is idle, and that its write enable latch is clear or as before.
     pub fn restore(&mut self, rt: &impl Abort, allowed: u64) -> Option<u64> {
         let journal = Journal::read(self.vault.bytes()).expect(rt, "a journal");
         self.bus.allow(allowed);
@@ -74,7 +74,7 @@ pub struct Runs {
 }
 
 impl Runs {
-    /// Returns the runs of a row, in which the stops of restores send the same number of bytes as those of the session.
+    /// Returns the runs of a row. Stops of its session and of its restores send at most `start.torn` bytes.
     pub fn new(rt: &impl Abort, alloc: Global, row: Row, start: Start) -> Runs {
         Runs {
             alloc,
@@ -92,7 +92,7 @@ impl Runs {
         }
     }
 
-    /// Runs the session on a new chip, with the allowance `allowed`. Asserts that the session ends if and only if
+    /// Runs the session on a new chip, with the allowance `allowed`. Asserts that the session succeeds if and only if
     /// `allowed` is at least `ends_at`, and that the vault is sealed if and only if `allowed` is at least `sealed_at`.
     pub fn cut(&self, rt: &impl Abort, allowed: u64) -> Cut {
         let mut bus = self.row.bus(rt, self.alloc, self.start);
@@ -123,8 +123,8 @@ impl Runs {
         assert_that!(rt; [one & 0xFC, two & 0x7F] == self.row.status());
     }
 
-    /// Runs the session with each allowance from `first` to its length, and restores if the vault is sealed. Asserts
-    /// that each run leaves the chip as before. Returns the number of runs.
+    /// Runs the session with each allowance from `first` to `ends_at`, and restores if the vault is sealed. Asserts
+    /// that the chip is then as before the session. Returns the number of sessions.
     pub fn stop_at_each(&self, rt: &impl Abort, first: u64) -> u64 {
         let mut runs: u64 = 0;
         for n in first..=self.row.ends_at(self.start) {
@@ -138,8 +138,8 @@ impl Runs {
         runs
     }
 
-    /// Does what `stop_at_each` does, but also stops each restore after each number of its transactions, and then
-    /// restores again. A session that leaves its vault unsealed is one run.
+    /// Runs the session with each allowance from `first` to `ends_at`. If the vault is sealed, stops its restore after
+    /// each number of transactions, and restores again. Returns the number of first restores and unsealed sessions.
     pub fn stop_restores_at_each(&self, rt: &impl Abort, first: u64) -> u64 {
         let mut runs: u64 = 0;
         for n in first..=self.row.ends_at(self.start) {
@@ -148,8 +148,8 @@ impl Runs {
         runs
     }
 
-    /// Does what `stop_at_each` does, but only for sessions that are stopped. If the vault isn't sealed, asserts that
-    /// the write enable latch is clear.
+    /// Stops the session after each number of transactions from `first` on, and restores if the vault is sealed. If
+    /// it isn't, asserts that the write enable latch is clear. Returns the number of stops.
     pub fn stop_sessions(&self, rt: &impl Abort, first: u64) -> u64 {
         let mut stops: u64 = 0;
         for n in first..self.row.ends_at(self.start) {
@@ -171,7 +171,7 @@ impl Runs {
         self.stop_restores_after(rt, n).saturating_sub(1)
     }
 
-    // Does what `stop_restores` does, but also counts the restore that ends. Returns 1 if the vault isn't sealed.
+    // Does what `stop_restores` does, but also counts a restore that isn't stopped. Returns 1 without a seal.
     fn stop_restores_after(&self, rt: &impl Abort, n: u64) -> u64 {
         for m in 0..AMPLE {
             let mut cut = self.cut(rt, n);
@@ -186,7 +186,7 @@ impl Runs {
     }
 }
 
-// Restores up to two times. Returns true if the first restore ended, or if the vault isn't sealed.
+// Restores if the vault is sealed, and again after a stop. Returns false only if the first restore was stopped.
 fn ends_within(rt: &impl Abort, cut: &mut Cut, allowed: u64) -> bool {
     if !cut.vault.is_sealed() {
         return true;

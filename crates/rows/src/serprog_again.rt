@@ -127,7 +127,7 @@ fn parts_of_sectors_are_read_again(rt: HostRuntime) {
     }
 }
 
-// If a second read of a sector, or of the part that the read covers, differs from the first, the bus stops.
+// The bus stops if the second read of a sector, or of a part of one, differs from the first.
 #[test]
 fn a_sector_that_differs_stops_the_bus(rt: HostRuntime) {
     let cases: [(u64, usize, &'static [usize], &'static [u8]); 3] = [

@@ -139,7 +139,7 @@ fn assert_silent(rt: &impl Abort, bus: &mut BatchingBus<Model>) {
     assert_that!(rt; command.is_err() && flushed.is_ok() && poll.is_err());
 }
 
-// The write enable waits until the poll. The fault occurs at the frame of the write enable.
+// The bus holds the write enable back until the poll. The fault occurs at the frame of the write enable.
 #[test]
 fn a_batch_is_sent_only_in_step(rt: HostRuntime) {
     for fault in [Fault::Nak, Fault::Silent, Fault::Strange, Fault::Cut] {

@@ -26,13 +26,13 @@ const LONGEST_READ: u32 = 4096;
 
 const SERIAL_BUFFER: u16 = 512;
 
-// The IDs of TINY64 and W25Q64FV. The layers treat a chip with one of these IDs as a chip with a row.
+// The IDs of TINY64 and W25Q64FV. The layers treat both chips as listed in the table of chips.
 const IDS: [[u8; 3]; 2] = [[0xFE, 0x10, 0x10], [0xEF, 0x40, 0x17]];
 
 // The unique ID of the chip. `OtherMakers` doesn't replace it, because its bytes are neither all FFh nor all 00h.
 const UNIQUE: [u8; 8] = [0xD1, 0x62, 0x10, 0xFF, 0x00, 0x5A, 0xA5, 0x08];
 
-// More calls than a handshake and any run over the layers takes.
+// More calls than a handshake and any run over the layers take.
 const AMPLE: u64 = 100_000;
 
 /// More calls than any run over the layers takes after the handshake.
@@ -106,7 +106,7 @@ impl Bench {
         }
     }
 
-    /// Returns the chip before the session.
+    /// Returns a new chip, in its state before the session.
     pub fn chip(&self, rt: &impl Abort) -> SimBus {
         let bytes = self.before.clone().expect(rt, "memory");
         chip_of(rt, self.config(), bytes, self.row.status())

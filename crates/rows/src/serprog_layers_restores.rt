@@ -22,14 +22,14 @@ enum First<'a> {
     Restore(&'a SimBus, &'a MemVault),
 }
 
-// The stops of the first run, and the number of stops of the restores after them.
+// The stops of the first run, and the number of stops of the restores after these stops.
 #[derive(Clone, Copy)]
 struct Twice {
     first: Played,
     second: u64,
 }
 
-// Returns the number of stops of the restore after a stopped run, or 0 if the run ended or its vault isn't sealed.
+// Returns the number of stops of the restore after a stopped run, or 0 if the run succeeded or its vault isn't sealed.
 fn stop_next(
     rt: &impl Abort,
     alloc: Global,
@@ -152,7 +152,7 @@ fn each_stop_of_a_session_with_each_stop_of_its_restore(rt: HostRuntime) {
     assert_that!(&rt; twice.second >= least);
 }
 
-// The first restore follows a session that ended, so it also programs the page, polls and verifies the sector.
+// The first restore follows a session that succeeded, so it also programs the page, polls and verifies the sector.
 #[test]
 fn each_stop_of_a_restore_with_each_stop_of_the_next(rt: HostRuntime) {
     let alloc = rt.alloc();

@@ -12,7 +12,7 @@ use std::process::Abort;
 /// The least number of stops of a frame: three when it is sent, and at least one when its reply is received.
 pub const STOPS_OF_A_FRAME: u64 = 4;
 
-/// A run over the layers that is stopped.
+/// A run over the layers, which may be stopped.
 #[derive(Clone, Copy)]
 pub enum Run<'a> {
     Change,
@@ -46,7 +46,7 @@ impl Played {
         ended: false,
     };
 
-    /// Adds a run. Asserts that its vault is sealed if the run ended, or if an earlier stop left the vault sealed.
+    /// Adds a run. Asserts that it left a sealed vault if it succeeded, or if an earlier stop left a sealed one.
     pub fn add(self, rt: &impl Abort, run: Stopped, calls: u64) -> Played {
         let Stopped {
             is_sealed,
@@ -136,8 +136,8 @@ fn stop_at(
     played.add(rt, stop_run(rt, alloc, bench, run, all), calls)
 }
 
-/// Stops the run at each call of the port in turn, until it ends. Asserts that each stop leaves the chip as before, or
-/// a sealed vault that restores it.
+/// Stops the run at each call of the port in turn, until it succeeds. Asserts that each stop leaves the chip as before,
+/// or a sealed vault that restores it.
 pub fn stop_at_each(rt: &impl Abort, alloc: Global, bench: &Bench, run: Run<'_>) -> Played {
     let mut played = Played::NONE;
     for calls in 0..MOST_CALLS {
@@ -149,7 +149,7 @@ pub fn stop_at_each(rt: &impl Abort, alloc: Global, bench: &Bench, run: Run<'_>)
     played
 }
 
-// Stops the row's session. `unsealed` and `sealed` are the least numbers of frames before and after the seal.
+// Stops the session at each call. `unsealed` and `sealed` are the least numbers of frames before and after the seal.
 fn stop_sessions(
     rt: &impl Abort,
     alloc: Global,
@@ -163,7 +163,7 @@ fn stop_sessions(
     played
 }
 
-// Runs the row's session, and stops its restore or rewrite. `frames` is the least number of frames.
+// Runs the row's session, and stops its restore or rewrite at each call. It must send at least `frames` frames.
 fn stop_undos(rt: &impl Abort, alloc: Global, row: Row, undo: Undo, frames: u64) -> Played {
     let bench = Bench::new(rt, alloc, row);
     let mut vault = MemVault::new(alloc);
@@ -221,7 +221,7 @@ fn each_call_of_the_port_fails_in_a_rewrite_over_all_layers(rt: HostRuntime) {
     }
 }
 
-// 7 transactions identify the chip, and 16 read its sectors. A backup seals its vault only if it ends.
+// 7 transactions identify the chip, and 16 read its sectors. A backup seals its vault only if it succeeds.
 #[test]
 fn each_call_of_the_port_fails_in_a_backup_over_all_layers(rt: HostRuntime) {
     let alloc = rt.alloc();

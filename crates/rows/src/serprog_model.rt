@@ -11,7 +11,7 @@ use std::alloc::Global;
 use std::process::Abort;
 use std::{fmt, mem};
 
-// The most bytes of an incomplete frame, and of replies that weren't received yet (a sector after stale bytes).
+// The capacities in bytes of `begun` (an incomplete frame) and of `pending` (replies that the host hasn't received).
 const MOST_BEGUN: usize = 300;
 
 const MOST_PENDING: usize = 5000;

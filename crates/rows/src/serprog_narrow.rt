@@ -47,7 +47,7 @@ fn are_erased(bytes: Option<&[u8]>) -> bool {
     bytes.is_some_and(|bytes| bytes.iter().all(|byte| *byte == 0xFF))
 }
 
-// A part has at most `limit - 4` data bytes and takes five operations: a write enable, the part, and three polls.
+// A part has at most `limit - 4` data bytes and takes five O_SPIOP commands: a write enable, the part, and three polls.
 #[test]
 fn a_page_is_programmed_in_parts(rt: HostRuntime) {
     for (limit, reads, operations) in [

@@ -15,7 +15,7 @@ use std::process::Abort;
 
 const CALLS: u64 = 3;
 
-// More calls than a handshake and any restore takes.
+// More calls than a handshake and any restore take.
 const AMPLE: u64 = 100_000;
 
 // How many bytes of a transaction the chip receives at a cut: none, opcode and address, one byte of data more, or all.
@@ -31,7 +31,7 @@ fn open(rt: &impl Abort, port: SimPort) -> SerprogBus<SimPort> {
     SerprogBus::new(link, programmer)
 }
 
-// Returns a bus whose port fails `calls` calls after the handshake. If sending fails, the chip receives `cut` bytes.
+// Returns a bus whose port fails `calls` calls after the handshake. If a send fails, the chip receives `cut` bytes.
 fn bus_to(
     rt: &impl Abort,
     alloc: Global,
@@ -127,7 +127,7 @@ fn assert_restored(rt: &impl Abort, alloc: Global, row: Row, left: Cut) {
     Runs::new(rt, alloc, row, Start::IDLE).assert_as_before(rt, bus.port().chip());
 }
 
-// A row, its start, and the number of transactions of its session.
+// Each entry has a row, its start, and the number of transactions of its session.
 const SESSIONS: [(Row, Start, u64); 3] = [
     (Row::AByteIsProgrammed, Start::IDLE, 28),
     (Row::AByteIsProgrammed, Start::SLOW, 28 + 3 + 2),
@@ -146,7 +146,7 @@ fn each_call_of_the_port_fails_in_a_session(rt: HostRuntime) {
     }
 }
 
-// The start, the number of transactions after which the session is stopped, and the length of the restore.
+// Each entry has the start, the number of transactions after which the session stops, and that of the restore.
 const RESTORES: [(Start, u64, u64); 2] = [(Start::IDLE, 25, 13), (Start::SLOW, 28, 17)];
 
 #[test]

@@ -12,7 +12,7 @@ use std::io;
 use std::process::Abort;
 use std::time::{Clock, Duration};
 
-/// A clock that only sleeps and the test advance. If `fails` is true, it can't be read.
+/// A clock that advances only if it sleeps or if the test sets `now`. If `fails` is true, the clock can't be read.
 #[derive(Drop)]
 pub struct Timer<'a> {
     pub now: &'a Cell<u64>,

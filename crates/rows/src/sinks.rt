@@ -57,7 +57,7 @@ fn mem_vault_refuses(rt: HostRuntime) {
     assert_that!(&rt; vault.bytes() == b"journal".as_slice());
 }
 
-// Each row has the number of a call, and the position and length of its piece. Call 5 is the seal.
+// Each row has the number of a call, and the position and length of the bytes that the call writes. Call 5 is the seal.
 const CALLS: [(u64, usize, usize); 5] = [
     (1, 0, 25),
     (2, 25, 4100),

@@ -1,4 +1,4 @@
-//! Calls on a bus on which each transaction, or the polls of each wait, fails in turn.
+//! Calls on a bus on which each transaction fails in turn, or on which the polls of each wait show BUSY.
 ghost use Rattle.nor_journal.specs.Vault.{IsFresh};
 
 use crate::contents::{put, put_run};
@@ -256,7 +256,7 @@ impl Stage {
 }
 
 // Returns the expected error and number of transactions of a call if the reply of transaction `n` is spoilt, or `None`
-// if `spoil_each` doesn't check it. `right` contains both without a fault, and `met` what transaction `n` sent.
+// if `spoil_each` doesn't check it. `right` is the result without a fault; `met` is what transaction `n` sent.
 fn expected_of_spoilt(
     call: Call,
     touched: u64,

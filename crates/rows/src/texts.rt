@@ -98,8 +98,8 @@ fn each_name_of_two_bytes(rt: HostRuntime) {
 
 const HEAD: &[u8; 25] = b"NORUNDO2\xFE\x10\x10\0\0\0\0\0\0\0\0\0\0\0\0\x01\0";
 
-// Each row has a prefix, a byte that follows it a million times, and the expected fault. After a header, 00h makes two
-// records of sector 0, and 10h a record of a sector that the chip lacks.
+// Each row has a prefix, a byte that follows it a million times, and the expected fault. After a header, 00h makes each
+// record one of sector 0, FFh an end mark that more bytes follow, and 10h a record of a sector that the chip lacks.
 const JOURNALS: &[(&[u8], u8, JournalFault)] = &[
     (b"", 0x00, JournalFault::Magic),
     (b"", b'N', JournalFault::Magic),

@@ -136,13 +136,13 @@ fn each_cut_of_a_session_with_large_erases(rt: HostRuntime) {
     assert_that!(&rt; stops == SESSIONS_OF_LARGE_ERASES);
 }
 
-// There are 8 stops from three transactions before the seal on, and 10 on a chip that loses its power.
+// The 8 stops (10 on a chip that loses its power) begin three transactions before the seal.
 const SESSIONS_BELOW_THE_RANGE: Stops = Stops {
     kept: 7 * 8,
     lost: 7 * 2 * 10,
 };
 
-// There are 14 stops from three transactions before the seal on, and 20 on a chip that loses its power.
+// The 14 stops (20 on a chip that loses its power) begin three transactions before the seal.
 const SESSIONS_IN_THE_RANGE: Stops = Stops {
     kept: 7 * 14,
     lost: 7 * 2 * 20,
@@ -159,8 +159,8 @@ fn each_cut_of_a_session_on_a_protected_chip(rt: HostRuntime) {
 }
 
 // The numbers of stopped restores on chips that keep their power, and on chips that lose it. Each restore is stopped at
-// each of its transactions, so these are the sums of the lengths. For the first row they were also calculated by hand:
-// 344 on the idle chip, 585 on the slow chip, and 1,656 on the three chips that lose their power.
+// each of its transactions, so these are sums of numbers of transactions. For the first row they were also calculated
+// by hand: 344 on the idle chip, 585 on the slow chip, and 1,656 on the three chips that lose their power.
 const RESTORES: [(Row, u64, u64); 4] = [
     (Row::AByteIsProgrammed, 344 + 585, 3 * 432 + 10 * 36),
     (Row::ABitRises, 1688, 3402),

@@ -6,7 +6,7 @@ use std::alloc::Global;
 use std::io::{self, BufWriter, ErrorKind, Write};
 use std::process::Abort;
 
-// Accepts `good` writes, and then alternately refuses and accepts one. Accepts flushes if `flushes` is true.
+// A log that accepts `good` writes, then alternately refuses and accepts one, and flushes only if `flushes` is true.
 #[derive(Drop)]
 struct Failing<'a> {
     lines: &'a mut Vec<u8>,

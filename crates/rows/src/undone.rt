@@ -1,12 +1,12 @@
 //! Sessions and their restores that are stopped after each number of transactions. After a stopped restore a second one
-//! follows. A stop of the session before its seal is one run. A later stop, or the session's end, counts one run more
-//! than its restore has transactions.
+//! follows. A session that is stopped before its seal is one run. If a session is stopped later, or succeeds, it counts
+//! one run more than its restore has transactions.
 use crate::held::assert_that;
 use crate::row::{Row, Start};
 use crate::runs::Runs;
 
-// 23 stops precede the seal. At the next three the byte is as it was: 8 transactions (9 runs). At the last three it is
-// programmed, so the sector is erased: 12 transactions (13 runs).
+// 23 stops precede the seal. At the next three stops the byte is as it was, and a restore has 8 transactions (9 runs).
+// At the last three the byte is programmed, so the restore erases the sector: 12 transactions (13 runs).
 const BYTE: u64 = 23 + 3 * 9 + 3 * 13;
 
 // On a slow chip, 26 stops precede the seal. At the next three the byte is as it was (9 runs). At the last five it is
@@ -23,8 +23,8 @@ const SLOW_BIT: u64 = 26 + 2 * 9 + 2 * (18 + 17 + 3 * 16);
 // 23 stops precede the seal. The next three leave the bytes as they were, and the last six leave some programmed.
 const TWO_PAGES: u64 = 23 + 3 * 9 + 6 * 13;
 
-// 8 stops precede the seal. At the next two the sector is as it was (9 runs). At every three stops after that the
-// restore has to program 16 pages, 15, and so on down to one: 10 transactions, and three for each page.
+// 8 stops precede the seal. At the next two the sector is as it was (9 runs). For each number of pages from 16 down to
+// 1, the restore programs this number at three stops: 10 transactions (11 runs), and three for each page.
 const MOST_OF_A_SECTOR: u64 = 8 + 2 * 9 + 3 * (16 * 11 + 3 * 16 * 17 / 2);
 
 const SMALL: [(Row, Start, u64); 6] = [
@@ -59,8 +59,8 @@ fn each_stop_on_a_chip_with_its_latch_set(rt: HostRuntime) {
     }
 }
 
-// Three stops precede the seal. At the next two the chip is as it was, at four its protection is lifted, at three the
-// byte is programmed, too, and at three the protection is set again. The restores send 5, 8, 12 and 15 transactions.
+// From 2,049 on, 3 stops precede the seal. The chip is unchanged at 2 stops, without protection at 4, also programmed
+// at 3, and protected again at 2 and after the session. The restores send 5, 8, 12 and 15 transactions.
 #[test]
 fn each_stop_after_a_protected_byte(rt: HostRuntime) {
     let row = Row::AGuardedByteIsProgrammed;

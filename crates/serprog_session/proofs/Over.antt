@@ -1,4 +1,4 @@
--- The promises of nor_session for the chip of a bus over a port also hold for the programmer's chip at this port.
+-- Proofs that the promises of nor_session for the chip of a bus over a port hold for the programmer's chip there.
 use Rattle.std.proofs.Common.{◌≡◌, ◌∙◌, ◌<◌, ◌/◌, ℕ, Bool, true, false, List, [], length, refl, sym, ap, subst, arith, inl, inr}
 use Rattle.std.specs.Prelude.{Option, Result, Ok, Err}
 use Rattle.std.proofs.lemmas.List.{append-nil}
@@ -35,11 +35,11 @@ use Rattle.nor_serprog.specs.Bus.{over_port}
 use Rattle.nor_serprog.specs.Enabled.{enabled}
 use Rattle.serprog_session.specs.Headline.{ReachesGenuine, CanRestoreChip, CanRestoreChipFrom, HadFewCalls, SessionFails, KeepsOriginalChip, SessionResults, FailsBy, RefusesUnsent, RestoresOriginalChip, RewritesOriginalChip, BackupFails, SavesChipOver, uncounted}
 
--- The state of a bus to the port's chip. While a write enable waits (`waits`), the idle chip's latch counts as set.
+-- The state of a bus to the port's chip. If a write enable is held back (`waits`), an idle chip's latch counts as set.
 abbrev pub seen : BusState → (waits : Bool) → PortState → BusState
 seen state waits port = record state { chip = enabled waits port.device.chip }
 
--- Holds if a bus over a port may have the state `seen bus waits old` and later the state `seen bus' waits' new`.
+-- Holds if a bus over a port holds back no write enable at first and isn't steady later; the fields say more.
 pub record IsOver (old new : PortState) (waits waits' : Bool) (bus bus' : BusState) : Type 0 where
   pub empty : waits ≡ false
   pub honest : old.honest ≡ true → bus.honest ≡ true

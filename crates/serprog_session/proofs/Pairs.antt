@@ -90,7 +90,7 @@ second_same first second bytes front back pair other =
     sym (drop-append_seam first second) ∙ ap (λ (n : ℕ). drop n (first ++ second)) (lens_same _ _ _ _ _ pair other)
     ∙ ap (λ (b : List ℕ). drop (length front) b) (sym pair.is ∙ other.is) ∙ drop-append_seam front back
 
--- If `P` holds for a pair of frames, it holds for any pair of frames with the same bytes.
+-- If `P` holds for a pair of frames (`ArePair`), it holds for any pair of frames with the same bytes.
 for_both : (P : (first second : List ℕ) → Type 0) (first second bytes front back : List ℕ)
     → ArePair first second bytes → ArePair front back bytes → P first second → P front back
 for_both P first second bytes front back pair other holds =

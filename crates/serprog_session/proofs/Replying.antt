@@ -64,7 +64,7 @@ len_some (opcode ∷ rest) =
     (omega arith)
 
 -- Holds while the programmer replies to the frames of `commands` one after another. `rest` has the frames of the
--- commands `later`, which have no reply yet.
+-- commands `later`, whose replies aren't in `now` yet.
 pub record Remains (rest before now : List ℕ) (bus bus' : Option ℕ) (commands : List Command) : Type 0 where
   pub later : List Command
   pub frames : rest ≡ frames_of later

@@ -25,12 +25,12 @@ use Rattle.nor_session.specs.Headline.{CanBeRewritten, CanRestore}
 use Rattle.nor_session.specs.Restore.{IsCheckedFirst, IsRestoreVerdict, Choice, differing, every_saved, restored}
 use Rattle.nor_serprog.specs.Device.{PortState}
 
--- Holds for a well-behaved port to a programmer whose chip is genuine.
+-- Holds if the port is well-behaved, and the chip of its programmer is genuine.
 pub record ReachesGenuine (port : PortState) : Type 0 where
   pub honest : port.honest ≡ true
   pub genuine : IsGenuine port.device.chip.config
 
--- Holds if the journal can restore the original chip `first` from `chip`, on every bus that reaches `chip`.
+-- Holds if the journal can restore the original chip `first` over every bus whose chip is `chip`.
 abbrev pub CanRestoreChip : Content → (first chip : Chip) → Type 0
 CanRestoreChip journal first chip = (state : BusState) → state.chip ≡ chip → CanRestore journal first state
 
@@ -43,7 +43,7 @@ abbrev pub HadFewCalls : (transactions : ℕ) → PortState → Type 0
 HadFewCalls transactions port = port.left < 3 * transactions
 
 -- The state of the port, but with no call left, so that `HadFewCalls` holds for any positive number of transactions.
--- Layers that aren't punctual need it: they may stop at any transaction, even if the port has calls left.
+-- Layers that aren't punctual need this state: they may stop at any transaction, even if the port has calls left.
 abbrev pub uncounted : PortState → PortState
 uncounted port = record port { left = 0 }
 
@@ -61,8 +61,8 @@ SessionFails request image port vault vault' Vault = CountsRefusal vault vault'
 SessionFails request image port vault vault' Stopped = HadFewCalls (most_of (port.device.chip.config.size / 4096)) port
 SessionFails request image port vault vault' refusal = IsVerdict request image port.device.chip refusal
 
--- Holds if a session left the original chip as it was or restorable, even after a failure of the port. `sent` and
--- `sent'` list the transactions that may modify the chip, before the session and until its exit.
+-- Holds if a session kept its promises for the original chip, which the fields state. `sent` and `sent'` list the
+-- transactions that may modify the chip, before the session and until its exit.
 pub record KeepsOriginalChip (old new : PortState) (sent sent' : Sent) (vault : VaultState) : Type 0 where
   -- on every port: if the vault isn't sealed, no modifying command was sent
   pub unsent : vault.sealed ≡ false → sent' ≡ sent
@@ -73,7 +73,7 @@ pub record KeepsOriginalChip (old new : PortState) (sent sent' : Sent) (vault : 
   pub restorable : vault.sealed ≡ true → vault.telling ≡ true → ReachesGenuine old
       → CanRestoreChipFrom vault.bytes old.device.chip new.device.chip
 
--- Holds for the result of a session on a well-behaved port to a genuine chip.
+-- States the promises for the result of a session, on a well-behaved port to a genuine chip.
 pub record SessionResults (request : Request) (image : List ℕ) (old new : PortState) (vault vault' : VaultState)
     (result : Result Report Refusal) : Type 0 where
   pub done : OnOk result (IsTargetOf request image old.device.chip new.device.chip)
@@ -98,8 +98,8 @@ FailsBy choice journal port refusal = IsRestoreVerdict choice journal port.devic
 abbrev pub RestoreFails : Content → PortState → Refusal → Type 0
 RestoreFails journal port refusal = FailsBy differing journal port refusal
 
--- Holds for the result of a restore on a well-behaved port to a genuine chip. The fields `within`, `back` and
--- `only_stops` are about each chip `first` that the journal can restore at the start.
+-- States the promises for the result of a restore, on a well-behaved port to a genuine chip. The fields `within`,
+-- `back` and `only_stops` are about each chip `first` that the journal can restore at the start.
 pub record RestoresOriginalChip (journal : Content) (old new : PortState)
     (result : Result Report Refusal) : Type 0 where
   -- at every exit, even after a failure of the port, the journal can still restore `first`
@@ -116,8 +116,8 @@ pub record RestoresOriginalChip (journal : Content) (old new : PortState)
   pub errors : IfErr result (RestoreFails journal old)
   pub same : IfErr result (λ refusal. IsCheckedFirst refusal → IsSame old.device.chip new.device.chip)
 
--- Holds for the result of a rewrite on a well-behaved port to a genuine chip. The fields are those of
--- `RestoresOriginalChip`, but `only_stops` has one more premise, and `errors` is about every saved sector.
+-- States the promises for the result of a rewrite, on a well-behaved port to a genuine chip. The fields `within`,
+-- `back` and `only_stops` are about each chip `first` that the journal can restore at the start.
 pub record RewritesOriginalChip (journal : Content) (old new : PortState)
     (result : Result Report Refusal) : Type 0 where
   pub within : (first : Chip) → CanRestoreChip journal first old.device.chip
@@ -133,8 +133,8 @@ pub record RewritesOriginalChip (journal : Content) (old new : PortState)
   pub errors : IfErr result (FailsBy every_saved journal old)
   pub same : IfErr result (λ refusal. IsCheckedFirst refusal → IsSame old.device.chip new.device.chip)
 
--- Holds if an error of a backup, on a well-behaved port to a genuine chip, is one of these: error 1, 2 or 3, and the
--- chip's configuration implies it; error 11; or error 12, because the port had too few calls left.
+-- Holds if the error of a backup is 1, 2 or 3 and the chip's configuration implies it, if the error is 11, or if it is
+-- 12 and the port had too few calls left.
 abbrev pub BackupFails : Option ChipName → PortState → Refusal → Type 0
 BackupFails named port NoChip = shown_as port.device.chip.config ≡ Err Probes.NoChip
 BackupFails named port (UnknownChip fault) = shown_as port.device.chip.config ≡ Err (Probes.UnknownChip fault)
@@ -143,7 +143,7 @@ BackupFails named port Stopped = HadFewCalls (most_reads (port.device.chip.confi
 BackupFails named port Vault = ⊤
 BackupFails named port _ = ⊥
 
--- Holds for the result of a backup on a well-behaved port to a genuine chip.
+-- States the promises for the result of a backup, on a well-behaved port to a genuine chip.
 pub record SavesChipOver (named : Option ChipName) (old new : PortState) (vault : VaultState)
     (result : Result Report Refusal) : Type 0 where
   pub errors : IfErr result (BackupFails named old)

@@ -1,4 +1,4 @@
--- The simulated port, as contracts see it.
+-- Definitions for the simulated port, which contracts use.
 use Rattle.std.specs.Prelude.{◌≡◌, ◌≤◌, ◌++◌, ◌==◌, ◌||◌, ℕ, true, false, List, [], ◌∷◌, Option, None, Some, length, replicate, slice_index, if◌then◌else◌}
 use Rattle.std.proofs.Common.{refl, lit<}
 use Rattle.nor_model.specs.Bus.{BusState}
@@ -48,7 +48,7 @@ pub record AreOperations (first second : List ℕ) : Type 0 where
   pub unanswered : replies_in first ≡ 0
   pub latter : IsOneFrame second
 
--- Holds if `bytes` are two frames of O_SPIOP (`AreOperations`) that fit into the serial buffer.
+-- Holds if `bytes` are the frames `first` and `second` of O_SPIOP (`AreOperations`) and fit into the serial buffer.
 pub record ArePair (first second bytes : List ℕ) : Type 0 where
   pub is : bytes ≡ first ++ second
   pub operations : AreOperations first second

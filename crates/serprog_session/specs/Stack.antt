@@ -1,4 +1,4 @@
--- The layers over a `BatchingBus`, as contracts see them.
+-- Definitions for the layers over a `BatchingBus`, which contracts use.
 use Rattle.std.specs.Prelude.{◌≡◌, ◌≤◌, ◌+◌, Bool, true, false}
 use Rattle.nor_model.specs.declared.bus.Bus.{Ghosts}
 use Rattle.nor_buses.specs.declared.ahead.ReadAhead.{ReadAhead}
@@ -74,8 +74,8 @@ abbrev pub port_below : {P X C : Type 0} {port : PortGhosts P X} {over : Ghosts 
     → ReadAhead (SameChip (Adapted (Known (Split P X C port) over twice) below)) ahead → P
 port_below stack = port_in (batching_below stack)
 
--- Holds if the stack fits the programmer and its chip, so that it is a well-behaved bus over a well-behaved port
--- (`stack_is_well_behaved`), and no write enable waits.
+-- Holds if the stack fits the programmer and its chip, and holds back no write enable. Over a well-behaved port, such a
+-- stack is a well-behaved bus (`stack_is_well_behaved`).
 pub record IsFit {P X C : Type 0} {port : PortGhosts P X} {over : Ghosts (Split P X C port)}
     {twice : Ghosts (ReadTwice (CheckedStatus (Split P X C port) over))}
     {below : Ghosts (Known (Split P X C port) over twice)}

@@ -15,7 +15,7 @@ use nor_serprog::{Port, SerprogBus};
 use nor_session::{Refusal, Report, Request, backup, restore, rewrite, session};
 
 /// Runs `session` of nor_session on the chip at a programmer: saves each sector that the session will touch to `vault`,
-/// and then changes the chip as `request` asks. `vault` must be empty and unsealed; `image` is as for `session`.
+/// and then changes the chip as `request` asks. `vault` must be empty and unsealed. The call may overwrite `image`.
 ///
 /// - On every port, no modifying command is sent before the vault is sealed. After an error from 1 to 11 the vault
 ///   isn't sealed. Errors 12, 13 and 14 are also possible.
@@ -45,9 +45,9 @@ pub fn session_over<P: Port + Drop, V: Vault>(
 /// restore again.
 ///
 /// - On every port, the modifying commands that are sent fit the journal (`SendsSaved`). A restore that returns another
-///   error than 12, 13 or 14 has sent none.
+///   error than 12, 13 or 14 has sent no modifying command.
 /// - On a well-behaved port to a genuine chip, success leaves the saved bytes and non-volatile status bits. An error is
-///   12 (the port failed), or the verdict of `restore`, which leaves the chip as it was.
+///   12 (the port failed), or a verdict on the journal, which leaves the chip as it was.
 /// - If in addition the journal can restore an original chip at the start, it still can at every exit. Success restores
 ///   that chip, and the only possible error is 12.
 pub fn restore_over<P: Port + Drop>(
@@ -63,9 +63,9 @@ pub fn restore_over<P: Port + Drop>(
     restore(bus, journal)
 }
 
-/// Runs `rewrite` of nor_session on the chip at a programmer: restores as `restore_over` does, but erases and programs
-/// every saved sector, even if it has its saved bytes already. On every port, after success each saved sector was the
-/// target of an erase, and all erases were sent before the first page program (`thorough`). The promises are those of
+/// Runs `rewrite` of nor_session on the chip at a programmer: a restore that erases and programs every saved sector,
+/// even if the sector has its saved bytes already. On every port, after success each saved sector was the target of an
+/// erase, and all erases were sent before the first page program (`thorough`). The other promises are those of
 /// `restore_over`, but error 9 is also possible if a locked status protects a saved sector of the original chip.
 pub fn rewrite_over<P: Port + Drop>(
     bus: &mut SerprogBus<P>,

@@ -47,8 +47,8 @@ pub enum SimFailure {
     Silent,
 }
 
-/// A well-behaved port to a simulated serprog programmer with a simulated chip. It carries out at most the given number
-/// of calls, and then fails; after any failure no call succeeds.
+/// A well-behaved port to a simulated serprog programmer with a simulated chip. The port carries out at most the given
+/// number of calls, and then fails; after any failure no call succeeds.
 ///
 /// The programmer can be identified (`Programmer::identify`), and has a serial buffer of 512 bytes. It carries out an
 /// O_SPIOP frame only if one `send` sends nothing else, or sends two such frames that fit into the buffer, of which the
@@ -294,7 +294,7 @@ fn transact(chip: &mut SimBus, out: &[u8], reply: &mut [u8])
     let _ = chip.transfer(out, reply);
 }
 
-// Stops the chip in a transaction that sends `out`, as `SimBus::tear` and `SimBus::lose` were set.
+// Stops the chip in a transaction that sends `out`. The effect of the stop was set by `SimBus::tear` and `lose`.
 fn cut(chip: &mut SimBus, out: &[u8])
     ensures { (bus_type : Option ℕ) (pending pending' : List ℕ) → IsCut out.now
         (device_over (⟦<SimBus as Bus>⟧.state chip.old) bus_type pending)

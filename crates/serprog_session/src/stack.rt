@@ -23,10 +23,10 @@ pub type Stack<P, C> = Layered<BatchingBus<P>, C>;
 /// States that the layers are together a well-behaved bus if the port is well-behaved, the `BatchingBus` is one that
 /// `BatchingBus::emulated` returned, and the programmer and its chip fit.
 ///
-/// The programmer must take a page program, the read of a sector and that of the longest block of `ReadAhead`. The chip
+/// The programmer must take a page program, a read of a sector and a read of the longest block of `ReadAhead`. The chip
 /// must have an ID that `KnownStatus2` and `OtherMakers` know and, if `KeptQuad` hides QE, one that `KeptQuad` knows.
-/// Its unique ID must not be eight bytes FFh or 00h. The chip of the bus is the programmer's, but its write enable
-/// latch is set if a write enable waits and the chip is idle.
+/// The chip's unique ID must not be eight bytes FFh or 00h. The chip of this bus is the programmer's chip, but with the
+/// write enable latch set if a write enable is held back and the chip is idle.
 pub fn stack_is_well_behaved<P: Port + Drop, C: Clock + Drop>(bus: &Stack<P, C>)
     ensures honest { let port = P.state (port_below bus.now) in
         let splitting = splitting_in bus.now in

@@ -20,9 +20,9 @@ use std::time::Clock;
 /// Runs a session over the layers of `Stack`, with the promises of `session_over`. On every port, no modifying command
 /// is sent to the layers before the vault is sealed.
 ///
-/// The promises about the programmer's chip hold if the stack fits the programmer and its chip, and no write enable
-/// waits at the start (`IsFit`). The layers may send several transactions for one, so they may stop at any transaction,
-/// and error 12 does not show that the port had few calls left (`uncounted`).
+/// The promises about the programmer's chip hold if the stack fits the programmer and its chip, and holds back no
+/// write enable at the start (`IsFit`). The layers may send several transactions for one, so they may stop at any
+/// transaction, and error 12 does not show that the port had few calls left (`uncounted`).
 pub fn session_over_layers<P: Port + Drop, C: Clock + Drop, V: Vault>(
     bus: &mut Stack<P, C>,
     vault: &mut V,
@@ -45,7 +45,7 @@ pub fn session_over_layers<P: Port + Drop, C: Clock + Drop, V: Vault>(
     session(bus, vault, image, request)
 }
 
-/// Runs a restore over the layers of `Stack`, with the promises of `restore_over`. Those about the chip need `IsFit`.
+/// Runs a restore over the layers of `Stack`: as `restore_over`, with the exceptions of `session_over_layers`.
 pub fn restore_over_layers<P: Port + Drop, C: Clock + Drop>(
     bus: &mut Stack<P, C>,
     journal: &Journal<'_>,
@@ -62,7 +62,7 @@ pub fn restore_over_layers<P: Port + Drop, C: Clock + Drop>(
     restore(bus, journal)
 }
 
-/// Runs a rewrite over the layers of `Stack`, with the promises of `rewrite_over`. Those about the chip need `IsFit`.
+/// Runs a rewrite over the layers of `Stack`: as `rewrite_over`, with the exceptions of `session_over_layers`.
 pub fn rewrite_over_layers<P: Port + Drop, C: Clock + Drop>(
     bus: &mut Stack<P, C>,
     journal: &Journal<'_>,
@@ -81,7 +81,7 @@ pub fn rewrite_over_layers<P: Port + Drop, C: Clock + Drop>(
     rewrite(bus, journal)
 }
 
-/// Runs a backup over the layers of `Stack`, with the promises of `backup_over`. Those about the chip need `IsFit`.
+/// Runs a backup over the layers of `Stack`: as `backup_over`, with the exceptions of `session_over_layers`.
 pub fn backup_over_layers<P: Port + Drop, C: Clock + Drop, V: Vault>(
     bus: &mut Stack<P, C>,
     vault: &mut V,

@@ -21,7 +21,7 @@ pub struct Case {
 }
 
 impl Case {
-    /// Draws a case. One chip in five has block protection, so that its errors occur often enough.
+    /// Draws a case. One chip in five has block protection, so that the errors of block protection occur often enough.
     pub fn next(alloc: Global, dice: &mut Dice) -> Result<Case, Fault> {
         let chip = chip_for(alloc, dice)?;
         let image = image_for(alloc, dice, &chip)?;
@@ -132,7 +132,7 @@ fn change_guarded(dice: &mut Dice, chip: &Chip, image: &mut [u8]) {
     }
 }
 
-// Draws what is requested: a range for 8 in 20 chips with block protection, and for 1 in 20 without.
+// Draws what is requested. With block protection 8 requests in 20 are for a protected range, without it 1 in 20.
 fn what_for(dice: &mut Dice, chip: &Chip) -> What {
     let ranges = if chip.config.scheme { 8 } else { 1 };
     if dice.hits(ranges, 20) {
@@ -163,7 +163,7 @@ fn spans_for(alloc: Global, dice: &mut Dice, chip: &Chip) -> Result<Vec<Span>, F
     Ok(spans)
 }
 
-// Draws a span of at most 300 bytes, one sector, 40,000 bytes or half of the chip; one span in 40 may be longer.
+// Draws a span. Its greatest length is 300, 4,096 or 40,000 bytes, or half of the chip; one span in 40 may be longer.
 fn span_for(dice: &mut Dice, size: u32) -> Span {
     let sector = contents::sector(dice, size / SECTOR_LEN);
     let offset = dice.pick(0, &[0, 0x800, 0xFFF, 0x100]);

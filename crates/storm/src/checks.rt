@@ -59,7 +59,7 @@ fn is_quiet(bus: &SimBus, chip: &Chip) -> bool {
     now & 0x01 == 0 && (now & 0x02 == 0 || chip.status[0] & 0x02 != 0)
 }
 
-/// Checks a refused session: its error and transactions, an idle chip as before, and an unsealed vault.
+/// Checks a refused session: its error and transactions, and that the chip is unchanged and idle, the vault unsealed.
 pub fn check_refused(alloc: Global, case: &Case, refusal: Refusal, ran: &Ran) -> Result<(), Fault> {
     agree_all(&[
         (ran.answer == Err(refusal), "the refusal of a session"),

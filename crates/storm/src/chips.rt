@@ -1,4 +1,4 @@
-//! Random chips, which no bus is connected to.
+//! Random chips, and simulated buses to them.
 
 use crate::contents;
 use crate::dice::Dice;
@@ -68,7 +68,7 @@ pub fn small(alloc: Global, dice: &mut Dice) -> Result<Chip, Fault> {
     chip_of(alloc, dice, config, status)
 }
 
-// Draws an ID without a row. One in 40 is an ID that means that there is no chip.
+// Draws an ID without a row in the table of chips. One ID in 40 means that there is no chip.
 fn id_for(dice: &mut Dice) -> [u8; 3] {
     let last = dice.byte();
     let ids = [
@@ -104,7 +104,7 @@ pub fn large(alloc: Global, dice: &mut Dice) -> Result<Chip, Fault> {
     chip_of(alloc, dice, config, status)
 }
 
-/// Draws status bytes, of which about a third are locked and at least one in eight has undefined protection bits.
+/// Draws two status bytes. About a third are locked, and at least one in eight has undefined protection bits.
 pub fn protection(dice: &mut Dice) -> Status {
     let lock1 = dice.pick(0x80, &[0x00, 0x00, 0x00, 0x00]);
     let lock2 = dice.pick(0x01, &[0x00, 0x00, 0x00, 0x00]);

@@ -23,7 +23,7 @@ impl Dice {
         below(&mut self.words, n)
     }
 
-    /// Draws how many bytes of the interrupted transaction a stop still sends, from none to all (`u32::MAX`).
+    /// Draws how many bytes of the interrupted transaction a stop sends (`u32::MAX`: all). `None` is a stop before it.
     pub fn cut(&mut self) -> Option<u32> {
         match below(&mut self.cuts, 12) {
             0 | 1 => Some(below(&mut self.cuts, 7)),

@@ -14,7 +14,7 @@ pub enum Fault {
     Case,
     /// The result differs from that of the reference implementation, as the text says.
     Differs(&'static str),
-    /// The named call sent other transactions than the reference implementation, first at this number, counted from 1.
+    /// The named call sent other transactions than expected. The first difference has this number, counted from 1.
     Sends(&'static str, u64),
     /// A comparison did not detect the planted error that the text names.
     Untold(&'static str),

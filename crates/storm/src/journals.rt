@@ -12,7 +12,7 @@ use std::alloc::Global;
 // The length of the end mark (four bytes) and of the SHA-256 (32 bytes).
 const END_LEN: usize = 36;
 
-/// Returns the journal after the scan of the sectors below `below`, without the end mark and the digest.
+/// Returns the header and the records that the journal has after the scan of the sectors below `below`.
 pub fn begun(alloc: Global, case: &Case, wanted: &Wanted, below: u32) -> Result<Vec<u8>, Fault> {
     let mut text = Vec::new(alloc);
     put_head(&mut text, &case.chip)?;
@@ -66,7 +66,7 @@ pub fn check_put(vault: &MemVault, begun: &[u8], sealed: bool) -> Result<(), Fau
     ])
 }
 
-/// Checks the vault of a session that was refused after its scan: the journal without the end mark and the digest.
+/// Checks the vault of a session that was refused after its scan: the vault has no end mark and no digest.
 pub fn check_refused(
     alloc: Global,
     case: &Case,
@@ -95,7 +95,7 @@ pub fn check_stopped(
     agree(held == begun.as_slice(), "the journal that a stop leaves")
 }
 
-// Returns one more than the number of the last of the first `scanned` included sectors, or 0 if there is none.
+// Returns the sector number after the first `scanned` included sectors, or 0 if there are none.
 fn below(case: &Case, scanned: u64) -> u32 {
     let mut below = 0;
     let mut left = scanned;

@@ -96,7 +96,7 @@ fn check_session(call: Call<'_>, ran: &Ran) -> Result<(), Fault> {
     traces::check_trace(ran.sent.as_slice(), call.lines(), "a stopped session")
 }
 
-/// Restores with a stop on the chip that the previous call left, with the checks of `run`.
+/// Restores the chip of `left`, with a stop. Checks the result, the transactions, and that the chip equals the model.
 pub fn restore(
     alloc: Global,
     accepted: Accepted<'_>,

@@ -74,7 +74,7 @@ impl Model {
         }
     }
 
-    /// Returns a fault unless the chip on the bus equals the model, in BUSY and the write enable latch, too.
+    /// Returns a fault unless the chip on the bus equals the model, including BUSY and the write enable latch.
     pub fn check(&self, bus: &SimBus) -> Result<(), Fault> {
         let now = bus.status();
         let shown = now[0] & 0b0000_0011;

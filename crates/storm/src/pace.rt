@@ -24,8 +24,8 @@ impl Pace {
         u8::from(self.busy > 0) | u8::from(self.latch) << 1
     }
 
-    /// Returns the pace after a transaction with this opcode. For a write enable or an operation the chip must be idle,
-    /// and for an operation its write enable latch set.
+    /// Returns the pace after a transaction with this opcode. For a modifying command the chip must be idle and, except
+    /// for a write enable, its write enable latch must be set.
     pub fn after(self, opcode: u8) -> Pace {
         match opcode {
             0x05 => self.after_poll(),

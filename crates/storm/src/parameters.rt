@@ -155,7 +155,7 @@ pub fn read(shown: &Shown, size: u32) -> Result<Told, SfdpFault> {
 }
 
 fn read_table(table: &[u8; 36]) -> Result<Told, SfdpFault> {
-    // Bits 17 and 18 say how many address bytes the chip accepts: 2 (only four) and 3 (reserved) are rejected.
+    // Bits 17 and 18 say which address bytes the chip accepts. The values 2 (only four) and 3 (reserved) are rejected.
     if table[2] / 2 % 4 >= 2 {
         return Err(SfdpFault::Address);
     }

@@ -37,8 +37,8 @@ struct Ran {
     sent: Vec<u8>,
 }
 
-/// Checks each reading call on a case's chip: without a stop, with one, on a faulty bus, and a readout into a vault
-/// that refuses a call.
+/// Checks each reading call on a case's chip: without a stop, with one, and on a faulty bus. Also checks a readout into
+/// a vault that refuses a call.
 pub fn check(alloc: Global, dice: &mut Dice, case: &Case) -> Result<(), Fault> {
     for reading in [
         Reading::Probe,
@@ -269,8 +269,8 @@ struct Copied {
     sent: Vec<u8>,
 }
 
-// Checks a readout whose vault refuses a call. If the readout has an error anyway, it must return that error, otherwise
-// error 19 with the number of bytes in the vault, including those of the refused piece.
+// Checks a readout whose vault refuses a call. A readout that fails for another reason must return that error. Other
+// readouts must return error 19 with the number of bytes in the vault, including those of the refused piece.
 fn check_refused_copy(alloc: Global, dice: &mut Dice, case: &Case) -> Result<(), Fault> {
     let nth = u64::from(dice.below(case.chip.sectors() / 16)).saturating_add(1);
     let kept = dice.pick(0, &[1, 4095, 65_535]);

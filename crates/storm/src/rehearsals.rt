@@ -1,4 +1,4 @@
-//! Rehearsals of accepted sessions, compared with the same calls one by one.
+//! Rehearsals of accepted sessions, compared with the same calls made one by one.
 
 use crate::cases::Case;
 use crate::dice::Dice;
@@ -14,7 +14,7 @@ use std::alloc::Global;
 #[derive(Clone, Copy)]
 struct Plan {
     stops: [u64; 3],
-    // How many bytes of the interrupted transaction each stop still sends.
+    // The greatest number of bytes of the interrupted transaction that each stop still sends, if any.
     cut: Option<u32>,
     // The fill byte, if the chip loses its power at each stop.
     fill: Option<u8>,
@@ -64,7 +64,7 @@ fn whole_of(accepted: Accepted<'_>) -> u64 {
 
 fn run(alloc: Global, case: &Case, plan: Plan) -> Result<Ran, Fault> {
     let mut image = case.image.to_vec(alloc)?;
-    // The stop at 0 has no effect, since `rehearse` sets the allowed number of transactions itself.
+    // `rehearse` replaces the allowance 0 of this bus. The plan's `cut` and `fill` stay, and apply to every stop.
     let bus = case.chip.bus(alloc, plan.stop(0))?;
     run_on(alloc, bus, image.as_mut_slice(), &case.request, plan.stops)
 }

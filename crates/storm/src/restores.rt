@@ -42,7 +42,7 @@ pub fn run(
     }
 }
 
-// A restore without a stop, and the target and the error that the reference implementation computes.
+// The chip and journal of a restore, and the target and the error that the reference implementation computes.
 #[derive(Clone, Copy)]
 struct Whole<'a> {
     chip: &'a Chip,
@@ -52,7 +52,7 @@ struct Whole<'a> {
     refusal: Option<Refusal>,
 }
 
-/// Checks restores of a random chip: without a stop, with a stop, and on a faulty bus. Returns the error of a refusal.
+/// Checks restores of a random chip: without a stop, with a stop, and on a faulty bus. Returns the error, if refused.
 pub fn check(
     alloc: Global,
     dice: &mut Dice,
@@ -129,7 +129,7 @@ fn check_ended(whole: Whole<'_>, ran: &Restored) -> Result<(), Fault> {
     checks::check_wanted(whole.wanted, &ran.bus)
 }
 
-// Checks a stopped restore: it returns `Stopped` if the stop is before its end, and the chip equals the model.
+// Checks the result of a restore with a stop, its transactions, and that the chip equals the model.
 fn check_stopped(
     alloc: Global,
     dice: &mut Dice,
@@ -171,7 +171,7 @@ fn check_stop(wanted: Option<Refusal>, lines: &str, ran: &Restored) -> Result<()
     traces::check_trace(ran.sent.as_slice(), lines, "a restore under a stop")
 }
 
-// Draws an unrelated small chip, or the original chip, which may get other bytes, status bits or another unique ID.
+// Draws an unrelated small chip, or a copy of the original chip whose bytes, status bits or unique ID may differ.
 fn other_chip(alloc: Global, dice: &mut Dice, chip: &Chip) -> Result<Chip, Fault> {
     if dice.hits(1, 12) {
         return chips::small(alloc, dice);
@@ -189,7 +189,7 @@ fn other_chip(alloc: Global, dice: &mut Dice, chip: &Chip) -> Result<Chip, Fault
     Ok(other)
 }
 
-/// Returns the target of a restore on `chip`: the saved sectors and protection bits, and otherwise the chip's own.
+/// Returns the target of a restore: the bytes and status of `chip`, with the saved sectors and protection bits.
 pub fn restored_of(alloc: Global, chip: &Chip, saved: Saved<'_>) -> Result<Wanted, Fault> {
     let mut bytes = chip.bytes.to_vec(alloc)?;
     take_saved(bytes.as_mut_slice(), saved);

@@ -31,7 +31,7 @@ pub fn run(alloc: Global, job: Job, seed: u64) -> (Tally, Option<FailedCase>) {
     (tally, None)
 }
 
-// Runs a case, one time in four also on a faulty bus, and one time in eight the reading calls.
+// Checks a case: its session, one time in four also on a faulty bus, and one time in eight the reading calls.
 fn run_case(alloc: Global, seed: u64, number: u64, tally: &mut Tally) -> Result<(), Fault> {
     let mut dice = Dice::new(seed, number);
     let case = Case::next(alloc, &mut dice)?;

@@ -142,7 +142,7 @@ fn check_outside(chip: &Chip, wanted: &Wanted, bytes: &[u8]) -> Result<(), Fault
     Ok(())
 }
 
-// Checks, unless the chip lost its power, that only bits that are 0 in the target changed in sectors without an erase.
+// Checks, if the chip kept its power, that sectors that need no erase changed only in bits that are 0 in the target.
 fn check_gentle(case: &Case, wanted: &Wanted, bus: &SimBus, fill: Option<u8>) -> Result<(), Fault> {
     if fill.is_some() {
         return Ok(());
@@ -166,7 +166,7 @@ fn is_gentle(old: &[u8], new: &[u8], now: &[u8]) -> bool {
         .all(|((old, new), now)| *new & !*now == 0 && *now & !*old == 0)
 }
 
-// If up to four restores with stops fail, one without a stop must succeed. A stop is a power failure if `first` is.
+// Restores up to four times with stops and, if none succeeds, once without. The stops are power failures if `first` is.
 fn give_back(
     alloc: Global,
     dice: &mut Dice,

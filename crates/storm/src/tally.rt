@@ -11,7 +11,7 @@ pub fn least(cases: u64) -> u64 {
 
 #[derive(Clone, Copy)]
 pub struct Tally {
-    /// The number of accepted sessions, each of which was also stopped and, if sealed, restored.
+    /// The number of accepted sessions. Each was also run with a stop and, if then sealed, undone by restores.
     pub accepted: u64,
     /// The numbers of refused sessions, by the number of the error.
     pub refused: [u64; 21],
@@ -85,7 +85,7 @@ impl Tally {
     };
 
     /// Returns whether accepted sessions, accepted restores, readings, the three counts of stops, and sessions with
-    /// each of errors 1 to 10 reach `least(cases)`. No session may have another error.
+    /// each of errors 1 to 10 reach `least(cases)`. Also demands that no session has another error.
     pub fn is_sufficient(&self, cases: u64) -> bool {
         let least = least(cases);
         let mut refused = self.refused.iter().enumerate();

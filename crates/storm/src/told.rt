@@ -246,7 +246,7 @@ impl Caller<'_> {
         self.play(lines)
     }
 
-    // Sends the lines without a reply, and waits after each command except a write enable.
+    // Sends the lines that have no reply bytes, and waits after each command except a write enable.
     fn play(&mut self, lines: Lines) -> Result<(), CallError> {
         let lines = lines.whole()?;
         self.play_lines(lines.text())

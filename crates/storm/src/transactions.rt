@@ -168,7 +168,7 @@ pub fn prepare(lines: &mut Lines, chip: &Chip, wanted: &Wanted) {
     }
 }
 
-/// Appends step 7. The chip's protection bits are 0 before it if step 4 was sent.
+/// Appends step 7. If step 4 was sent, the protection bits are 0 before step 7.
 pub fn protect(lines: &mut Lines, chip: &Chip, wanted: &Wanted) {
     let code = match wanted.first_guarded(chip) {
         Some(_) => 0,
@@ -236,7 +236,7 @@ fn page_at(bytes: &Vec<u8>, start: u32) -> &[u8] {
         .unwrap_or(&[])
 }
 
-// Returns the first and last position to program: of new bytes other than FFh in an erased page, else of differences.
+// Returns the first and last position at which `new` differs from FFh (if `is_erased`), or otherwise from `old`.
 fn span(old: &[u8], new: &[u8], is_erased: bool) -> Option<(usize, usize)> {
     let mut found = None;
     for (place, (old, new)) in old.iter().zip(new).enumerate() {

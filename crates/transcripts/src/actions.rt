@@ -58,7 +58,7 @@ fn exchange(
 }
 
 // Fills the reply buffer with bytes that all differ from the expected ones, so that the comparison fails if the bus
-// doesn't write each of them. If the transaction must stop, the buffer has the expected bytes, and must keep them.
+// leaves one unwritten. If the transaction must stop, the buffer has the expected bytes, and must keep these bytes.
 fn send(
     alloc: Global,
     bus: &mut Way<'_>,

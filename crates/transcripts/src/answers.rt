@@ -85,7 +85,7 @@ impl<'a> Answers<'a> {
         }
     }
 
-    /// Checks that the trace has no further lines, unless no check of the case compared a line of it.
+    /// Checks that the trace has no further lines, if a check of the case compared a line of the trace before.
     pub fn end(mut self, came: &mut String) -> Result<(), Fault> {
         match self.trace.next() {
             Some(line) if self.is_traced => {

@@ -8,8 +8,8 @@ use crate::fault::Fault;
 use nor_chip::{Config, SECTOR_LEN, code_for, protected, unit_protected};
 use std::fmt::Write;
 
-/// Checks that `status` protects exactly the addresses `start..end`, at the first and the last address of each sector.
-/// If not, appends `guarded` or `free` and the first wrong address to `came`.
+/// Checks at the first and last address of each sector that `status` protects exactly those in `start..end`. If not,
+/// appends `guarded` or `free` and the first wrong address to `came`.
 pub fn check(
     came: &mut String,
     config: &Config,
@@ -37,7 +37,7 @@ fn word(is_protected: bool) -> &'static str {
     if is_protected { "guarded" } else { "free" }
 }
 
-/// Appends `guarded` to `came` if the status protects an address of the range (both in `words`), otherwise `free`.
+/// Appends `guarded` to `came` if the status in `words` protects an address of the range in `words`, otherwise `free`.
 pub fn put_unit(came: &mut String, config: &Config, words: &str) -> Result<(), Fault> {
     let (status, places) = words.split_once(' ').ok_or(Fault::Unread)?;
     let status = status_of(status)?;

@@ -1,6 +1,6 @@
 //! The words with which the lines of a case begin.
 
-/// The first word of a line. The file `stdin` of this crate explains each. Proofs of a `match` on texts take longer.
+/// The first word of a line. The file `stdin` of this crate explains each word. Proofs of a `match` on texts are slow.
 #[derive(Clone, Copy)]
 pub enum Word {
     /// The line is blank, or begins with `#`.

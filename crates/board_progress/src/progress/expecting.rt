@@ -14,7 +14,7 @@ impl<B: Bus + Drop> Progress for ProgressBus<'_, ReadAhead<B>> {
             self.counts.scan = 0;
             self.timer.restart_scan();
         } else {
-            // A job may record the same reads again, or only those that are left, so the greatest number counts.
+            // A job may record the same reads again, or only the remaining reads, so the greatest number counts.
             self.expected = Some(sectors.max(known));
         }
     }

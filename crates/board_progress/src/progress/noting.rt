@@ -1,4 +1,4 @@
-//! Notes the sums of the sectors that are read over the bus of `progress.rt`.
+//! Records checksums of the sectors that are read over a `ProgressBus`.
 ghost use Rattle.std.specs.Prelude.{◌≡◌, option_copied};
 
 use super::ProgressBus;
@@ -7,28 +7,28 @@ use crate::notes::Notes;
 impl<B> ProgressBus<'_, B> {
     ghost use Rattle.board_progress.specs.ProgressBus.{notes_of, shown_bus};
 
-    /// Begins to note the sums of the sectors that are read from now on.
+    /// Begins to record checksums of the sectors that are read from now on.
     pub fn begin_notes(&mut self, notes: Notes)
         ensures { shown_bus self.new ≡ shown_bus self.old }
     {
         self.notes = Some(notes);
     }
 
-    /// Ends noting, and returns the notes if sums were noted.
+    /// Ends the recording of checksums, and returns the recorded ones, or `None` if it hadn't begun.
     pub fn end_notes(&mut self) -> Option<Notes>
         ensures { shown_bus self.new ≡ shown_bus self.old }
     {
         self.notes.take()
     }
 
-    /// Returns the notes if sums are being noted.
+    /// Returns the recorded checksums, or `None` if checksums aren't recorded.
     pub fn notes(&self) -> Option<&Notes>
         ensures { option_copied result ≡ notes_of self.now }
     {
         self.notes.as_ref()
     }
 
-    // Notes a transaction. Must be called in the phase in which it was carried out, before the next transaction.
+    // Records a transaction. Must be called in the phase in which the transaction was carried out.
     pub(super) fn note(&mut self, out: &[u8], reply: &[u8])
         ensures { self.new.bus ≡ self.old.bus }
     {

@@ -15,8 +15,8 @@ const ROWS: [ChipName; 8] = [
     ChipName::W25Q128JVM,
 ];
 
-/// Returns the row for the name `text`, which is in upper case: the row whose ID a chip with this name has, or the row
-/// with this name. Returns `Sfdp` for `SFDP`, and `Other` for any other text.
+/// Returns the row for the name `text`, which must be in upper case: the row with this name, or the row with the ID of
+/// the chip that has this name. Returns `Sfdp` for `SFDP`, and `Other` for any other text.
 pub(super) fn row_named(text: &str) -> ChipName
     ensures { result ≡ row_named text.now }
 {
