@@ -1,9 +1,9 @@
 #!/usr/bin/env bash
-# scripts/case.sh NAME: plays the case of this name of crates/transcripts/stdin.
+# scripts/case.sh NAME: plays the case NAME of crates/transcripts/stdin.
 #
-# The built transcripts plays it if it is newer than its sources; otherwise the program is compiled without a proof,
-# which takes about half a minute. The script prints what the program prints (a fault names the line of `stdin`), and
-# ends with 0 only if the case was played and passed.
+# If the built program of transcripts is newer than its sources, this program plays the case. Otherwise the program is
+# compiled without a proof, which takes about half a minute. The script prints what the program prints (a failure names
+# the line of `stdin`). Its exit status is 0 only if the case was played and passed.
 set -euo pipefail
 
 name=${1-}
@@ -12,7 +12,7 @@ work=$(mktemp -d)
 trap 'rm -rf "$work"' EXIT
 program=out/transcripts
 
-# The lines of other cases are left empty, so that the case keeps the numbers of its lines.
+# The lines of other cases become empty lines, so the lines of this case keep their numbers.
 awk -v name="$name" '/^case / { is_it = substr($0, 6) == name } { print is_it ? $0 : "" }' stdin > "$work/case"
 if ! grep -q '^case ' "$work/case"; then
     echo "crates/transcripts/stdin has no case '$name'. Give one of these: make case NAME='..'" >&2
@@ -30,7 +30,7 @@ if is_current; then
     timeout 60 "$program" < "$work/case" > "$work/printed" 2> "$work/said" || status=$?
 else
     rt try < "$work/case" > "$work/printed" 2> "$work/said" || status=$?
-    # (the status of `rt try` may be 0 even if the program did not end)
+    # The status of `rt try` may be 0 even if the program did not end.
     grep -q '^run=ended ' "$work/said" || status=1
 fi
 cat "$work/printed"

@@ -1,13 +1,14 @@
 #!/usr/bin/env bash
 # scripts/compare.sh [PROGRAM]: compares flashrom and flashnor on the same emulated W25Q128FV.
 #
-# Both programs find the chip, read it, and write a random image onto a chip full of FFh. flashrom verifies what it
-# wrote; flashnor verifies, too, and writes a journal, from which it then restores its chip. Both write and erase two
-# regions. If flashrom lists protection ranges, flashnor must list the same, and both must print the same protected
-# range for each value of the protection bits that the datasheets define. Their bytes must be the same; otherwise the
-# exit status is 1. Times are printed as ratios of flashnor's to flashrom's, and for a reading also to that of `cp`.
-# Each time is the best of three rounds (or of ROUNDS). A ratio above its goal is marked, but is no failure. This is no
-# part of the gate, since it needs flashrom.
+# Both programs identify the chip, read it, and write a random image to a chip full of FFh. Both verify what they wrote;
+# flashnor also writes a journal, from which it then restores its chip. Both write and erase two regions. If flashrom
+# lists protection ranges, flashnor must list the same ranges. For each value of the protection bits that the datasheets
+# define, both must print the same protected range. The exit status is 1 if anything differs.
+#
+# The script prints each time of flashnor divided by that of flashrom and, for reading, also by that of `cp`. Each time
+# is the best of three rounds (or of ROUNDS). A ratio above its goal is marked, but is no failure. The merge gate
+# doesn't run this script, because it needs flashrom.
 set -euo pipefail
 
 top=$(cd "$(dirname "$0")/.." && pwd)
@@ -36,7 +37,7 @@ fail() {
     exit 1
 }
 
-# Runs a command with its output in the file `said`, and sets `took` to the microseconds that it took.
+# Runs a command with its output in the file `said`, and sets `took` to its time in microseconds.
 timed() {
     local start=${EPOCHREALTIME/[.,]/}
     "$@" > said 2>&1 || { cat said >&2; fail "'$*' ended with a fault"; }
@@ -46,15 +47,15 @@ timed() {
 rom() { timed flashrom -p dummy:emulate=W25Q128FV,image=rom.bin "$@"; }
 nor() { timed "$program" -p dummy:emulate=W25Q128FV,image=nor.bin "$@"; }
 
-# Makes the images: a chip full of FFh, and the keystream of AES-256 in counter mode with the key 1, computed by
-# openssl.
+# Creates the images: `blank` is full of FFh, and `random` is the keystream of AES-256 in counter mode with the key 1,
+# which openssl computes.
 make_images() {
     head -c $size /dev/zero | tr '\000' '\377' > blank
     head -c $size /dev/zero | openssl enc -aes-256-ctr -K "$(printf '%064x' 1)" -iv "$(printf '%032x' 0)" > random
     [[ $(stat -c %s random) == "$size" ]] || fail "openssl made no image of $size bytes"
 }
 
-# Copies this image to the chips of both programs, and removes the files of the round before.
+# both_hold IMAGE: copies the image to the chips of both programs, and removes the files of the round before.
 both_hold() {
     cp "$1" rom.bin
     cp "$1" nor.bin
@@ -104,7 +105,7 @@ write_all() {
     same nor.bin rom.bin
 }
 
-# measure NAME GOAL COMMAND..: runs the command several times, and prints the ratio of the best times, and the goal.
+# measure NAME GOAL COMMAND..: runs the command in each round, and prints the ratio of the best times, and the goal.
 measure() {
     local name=$1 wanted=$2 best_rom='' best_nor='' round
     for ((round = 0; round < rounds; round++)); do
@@ -125,8 +126,8 @@ restore() {
     echo "restored from the journal of $(stat -c %s journal) bytes: the same bytes as before"
 }
 
-# Writes two regions of a random chip, one smaller than a sector, from the blank image, and erases them. All other bytes
-# must stay.
+# Writes and erases two regions of a random chip, of which one is smaller than a sector. The written bytes are those of
+# the blank image. All other bytes must stay.
 regions() {
     printf '00000800:000008ff small\n00123000:00124567 large\n' > layout
     both_hold random
@@ -142,8 +143,8 @@ regions() {
     echo "regions written and erased: the same bytes"
 }
 
-# Compares the lists of ranges. flashrom prints a range as "start=0x00fc0000 length=0x00040000 (upper 1/64)", flashnor
-# as "0xfc0000,0x040000".
+# Compares the lists of protection ranges. flashrom prints a range as "start=0x00fc0000 length=0x00040000 (upper 1/64)",
+# and flashnor as "0xfc0000,0x040000".
 ranges() {
     both_hold blank
     flashrom -p dummy:emulate=W25Q128FV,image=rom.bin --wp-list > said 2>&1 || true
@@ -162,9 +163,9 @@ ranges() {
     codes
 }
 
-# Compares the protected range for each of the 64 values of the protection bits. flashrom gets the status bytes by
-# spi_status, the second one first. Four values (SEC with BP 110) aren't defined by the datasheets: flashnor prints
-# that, and flashrom prints a range, so these aren't compared.
+# Compares the protected range for each of the 64 values of the protection bits. flashrom gets the status bytes in the
+# key spi_status, the second one first. The datasheets don't define four of these values (SEC with BP 110). For them
+# flashnor prints `undefined`, and flashrom a range, so they aren't compared.
 codes() {
     local code one two same=0
     for ((code = 0; code < 64; code++)); do
@@ -184,7 +185,7 @@ codes() {
     echo "range under each protection code: the same for $same, undefined for $((64 - same))"
 }
 
-# Prints pairs of hexadecimal numbers with eight digits, sorted.
+# sorted FILE: prints the pairs of hexadecimal numbers in a file, each with eight digits, in ascending order.
 sorted() {
     local start length
     while read -r start length; do

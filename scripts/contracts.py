@@ -1,8 +1,8 @@
-"""Reads the contracts of the sources, for scripts/promises.py: each function with its clauses, and the definitions that
-a clause names.
+"""Reads the contracts of the sources for scripts/promises.py: the functions with their clauses, and the definitions
+that each clause names.
 
-A clause names the definitions that occur in its term, except in its premises; the definitions that those name in turn,
-if they are no records; and those in the fields of a record.
+A clause names the definitions that occur in its term, but not those in its premises. It also names what these
+definitions name in turn (unless they are records), and the definitions in the fields of a record.
 """
 import functools
 import re
@@ -11,12 +11,14 @@ import rust
 from sources import CRATES, Word, clauses_of, find, source, tokens_of
 
 OPENING, CLOSING = "([{", ")]}"
-# Tokens that end a premise to the left: the premise of `λ x. a → b` is only `a`, without the tokens before the dot.
+# A premise ends to the left at one of these tokens. For example, the premise of `λ x. a → b` is only `a`, which follows
+# the dot.
 FENCES = set("| ↦ ; = . ,".split())
 
 
 class Call:
-    """A function: its name after its type's, the trait that has it, its source and item, and its clauses."""
+    """A function: its name (with its type, if it has one), the trait that declares it, its source and item, and its
+    clauses."""
 
     def __init__(self, code, item):
         self.code, self.item = code, item
@@ -27,19 +29,19 @@ class Call:
 
     @functools.cached_property
     def clauses(self):
-        """Returns the clauses that the function itself has."""
+        """Returns the clauses in the function's own contract."""
         return clauses_of(self.code.text_of(self.item))[0]
 
     def is_law(self):
-        """Returns whether the function is a law: it takes no argument and returns nothing, so it exists for its
-        clauses."""
+        """Returns whether the function is a law: it takes no argument and returns nothing, so only its clauses
+        matter."""
         words = [token.text for token in self.item.tokens]
         at = words.index("(")
         return words[at + 1] == ")" and words[at + 2] in rust.CLAUSES
 
     def promises(self):
-        """Returns each clause of the function: its own ones, and those of its trait, each with the source that has
-        it."""
+        """Returns the clauses of the function and, if it implements a trait, those in the trait. Each is a pair: the
+        source and the clause."""
         found = [(self.code, clause) for clause in self.clauses]
         if self.trait and self.trait != self.name:
             found += [known for above in calls().get(self.trait, ()) for known in above.promises()]
@@ -48,14 +50,14 @@ class Call:
 
 @functools.cache
 def files(folder):
-    """Returns the paths below crates/ of the sources in the directory `folder` of each crate."""
+    """Returns the paths, relative to crates/, of all sources in the directory `folder` of any crate."""
     paths = sorted(CRATES.glob(f"*/{folder}/**/*"))
     return [path.relative_to(CRATES).as_posix() for path in paths if path.suffix in (".rt", ".antt")]
 
 
 @functools.cache
 def calls():
-    """Returns all functions by their names. A function of a type is listed with the type's name and without it."""
+    """Returns all functions by their names. A function of a type is listed both with the type's name and without it."""
     found = {}
     for path in files("src"):
         code = source(path)
@@ -86,11 +88,11 @@ def names():
     return found
 
 
-# ---- the definitions that a clause names
+# ---- These functions find the definitions that a clause names.
 
 
 def conclusion(term):
-    """Returns the tokens of a term, without premises: within each pair of brackets, the tokens before a `→` are left
+    """Returns the tokens of a term without its premises: in each pair of brackets, the tokens before a `→` are left
     out."""
     levels = [[]]
     for token, is_field in tokens_of(term):
@@ -123,8 +125,8 @@ def named_in(place, term):
 
 @functools.cache
 def fields(word):
-    """Returns the fields of a record with arguments, each with its type. A record without arguments is a value, and its
-    fields are no statements."""
+    """Returns the fields of a record that has arguments, each with its type. Returns none for a record without
+    arguments, because its fields are values, not statements."""
     if word.kind != "record" or not re.search(rf" {re.escape(word.name)} [({{]", word.code[0]):
         return {}
     parts = re.split(r"\n(?=  pub )", "\n".join(word.code))[1:]
@@ -133,7 +135,7 @@ def fields(word):
 
 @functools.cache
 def says(word):
-    """Returns the definitions that the definition `word` names on the right of its equations, or in its fields."""
+    """Returns the definitions that `word` names on the right of its equations or, if it is a record, in its fields."""
     if word.kind == "record":
         terms = list(fields(word).values())
     else:
@@ -144,8 +146,8 @@ def says(word):
 
 
 def reached(start, through_records):
-    """Returns the definitions `start` and all that they name in turn. Fields of records are followed only if
-    `through_records` is true."""
+    """Returns the definitions `start` and all definitions that they name in turn. The fields of records are followed
+    only if `through_records` is true."""
     found, todo = set(), list(start)
     while todo:
         word = todo.pop()

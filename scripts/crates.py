@@ -1,15 +1,15 @@
 #!/usr/bin/env python3
-"""scripts/crates.py: checks that crates.txt lists what the sources of each crate name, and no other library.
+"""scripts/crates.py: checks that crates.txt lists exactly the libraries that the sources of each crate use.
 
-A source is a file of src/, specs/ or proofs/. It names a library in `use Rattle.LIBRARY..`, or in a path that begins
-with `LIBRARY::`; comments, with the examples in them, name nothing. A crate stands below all crates that it lists. In a
-line the crates stand in the opposite order, with the libraries of the kit after them by name. For each line that is
-wrong the right one is printed, and then the exit status is 1.
+The sources are the files of src/, specs/ and proofs/. A source uses a library if it has `use Rattle.LIBRARY..`, or a
+path that begins with `LIBRARY::`; comments don't count. In crates.txt, a crate must be listed below all crates that it
+uses. Each line must list these crates from the lowest line of the file to the highest, and then the libraries of the
+kit in alphabetical order. For each wrong line the script prints the right one, and ends with exit status 1.
 """
 import re
 import sys
 
-sys.dont_write_bytecode = True  # so that no other file is created in scripts/
+sys.dont_write_bytecode = True  # so that Python creates no files in scripts/
 import rust
 import texts
 from sources import CRATES
@@ -18,13 +18,14 @@ NAMED_BY_USE = re.compile(r"^[^-/\n]*\buse Rattle\.(\w+)", re.M)
 
 
 def lines():
-    """Returns the words before the colon and the libraries after it, of each line of crates.txt."""
+    """Returns the lines of crates.txt by their crates: each has the text before the colon, and the list of libraries
+    after it."""
     rows = [row.partition("#")[0].partition(":") for row in texts.read("crates.txt").splitlines()]
     return {head.split()[0]: (head, listed.split()) for head, _, listed in rows if head.strip()}
 
 
 def named_in(path):
-    """Returns the names with which paths of a source begin."""
+    """Returns the names at the start of the paths in a source."""
     text = path.read_text(encoding="utf-8")
     found = set(NAMED_BY_USE.findall(text))
     if path.suffix == ".rt":
@@ -34,7 +35,7 @@ def named_in(path):
 
 
 def used_by(crate):
-    """Returns the names with which paths of a crate's sources begin."""
+    """Returns the names at the start of the paths in all sources of a crate, except the crate's own name."""
     found = set()
     for folder in "src", "specs", "proofs":
         for path in (CRATES / crate / folder).rglob("*"):

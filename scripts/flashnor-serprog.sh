@@ -1,14 +1,16 @@
 #!/bin/sh
-# flashnor-serprog OPTION..: sets up the serial port that dev= names, and runs the program flashnor_serprog.
+# flashnor-serprog OPTION..: sets up the serial port that dev= names, and then runs the program flashnor_serprog.
 #
-# `make install` installs this script as flashnor-serprog, since the program itself can't set up a port. The port has to
-# be raw: a terminal that changes bytes, such as 0Dh to 0Ah, would change what is read from the chip and what is sent to
-# it. If the port can't be set up, stty prints why, and nothing is run; nor if there is no stty. If stty can't read the
-# settings of the device, it is no terminal or may not be opened: then the program is run, and prints its own fault. The
-# environment variable FLASHNOR_SERPROG_STTY=no leaves the port as it is.
+# `make install` installs this script as flashnor-serprog, since the program itself can't set up a port. The port must
+# be raw: a terminal that changes bytes (such as 0Dh to 0Ah) would change the bytes that are sent to the chip and read
+# from it.
+#
+# If there is no stty, or stty can't set up the port, the script prints a message and doesn't run the program. If stty
+# can't read the settings of the device, the device isn't a terminal or can't be opened. The program then runs, and
+# prints its own fault. FLASHNOR_SERPROG_STTY=no in the environment leaves the port as it is.
 
-# The program is where `make install` puts it, or beside this script, as in the archive of `make dist`. The dot keeps a
-# newline at the end of the name.
+# The program is where `make install` puts it, or next to this script, as in the archive of `make dist`. The dot
+# preserves a newline at the end of the name.
 here=$(readlink -f "$0" && echo .) || {
     echo "flashnor-serprog: readlink -f doesn't find this script, so the program isn't found" >&2
     exit 1
@@ -17,7 +19,8 @@ here=${here%/*}
 program=$here/../libexec/flashnor_serprog
 [ -x "$program" ] || program=$here/flashnor_serprog
 
-# Sets `device` to the device that a value of -p names, if it names one. Commas separate the settings.
+# find_device VALUE: sets `device` to the device that the value of -p names, if it names one. Commas separate the
+# settings in the value.
 find_device() {
     settings=${1#serprog:},
     while [ -n "$settings" ]; do
@@ -64,7 +67,7 @@ if [ -c "$device" ] && [ "${FLASHNOR_SERPROG_STTY-}" != no ] && ! command -v stt
 fi
 if [ -c "$device" ] && [ "${FLASHNOR_SERPROG_STTY-}" != no ] && before=$(stty -F "$device" -a 2> /dev/null); then
     stty -F "$device" raw -echo clocal -hupcl min 0 time 50 || exit 1
-    # Many Arduino boards restart if a port that isn't set up is opened, and reply only afterwards.
+    # Many Arduino boards restart when a port without this setup is opened, and reply only after the restart.
     case $before in
         *-hupcl*) ;;
         *) sleep 2 ;;

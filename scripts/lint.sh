@@ -1,12 +1,14 @@
 #!/usr/bin/env bash
-# scripts/lint.sh: checks each script and C file with its linter.
+# scripts/lint.sh: checks each script, C file and manual page with its linters.
 #
-# Shell scripts are checked by shellcheck, C by the compiler with its warnings, Python by Python and by pyflakes, and the
-# manual pages by mandoc, and by man for their width, if these are installed. Each file outside crates/ must be
-# executable if and only if its first line names an interpreter, and the completion must not use what bash 3.2 lacks.
-# For another linter that isn't installed a line `skipped: ..` is printed. The last line is `N passed, M failed`, where
-# each file counts once for each check, and the exit status is 1 if a check failed. Without git, which lists the files,
-# nothing is checked.
+# The linter of shell scripts is shellcheck. The C compiler (with warnings) checks C files, and Python and pyflakes check
+# Python files. If they are installed, mandoc checks manual pages, and man checks that these fit 80 columns. A file
+# outside crates/ must be executable if and only if its first line names an interpreter. The completion must not use
+# features that bash 3.2 doesn't have.
+#
+# If another linter isn't installed, the script prints a line `skipped: ..`. The last line is `N passed, M failed`, in
+# which each file counts once for each check, and the exit status is 1 if a check failed. Without git, which lists the
+# files, nothing is checked.
 set -uo pipefail
 
 cd "$(dirname "$0")/.." || exit
@@ -31,7 +33,7 @@ for file in "${files[@]}"; do
     esac
 done
 
-# each NAME COUNT FILE.. COMMAND..: runs the command on each of the files, of which there are COUNT.
+# each NAME COUNT FILE.. COMMAND..: runs the command on each of the files; COUNT is their number.
 each() {
     local name=$1 count=$2 file
     local -a looked=("${@:3:count}")
@@ -46,15 +48,15 @@ each() {
     done
 }
 
-# together NAME COUNT FILE.. COMMAND..: like `each`, for a command that takes several files. Most runs find nothing, so
-# the command is run on all files at once, because most of its time is its start. If it fails, each file is checked by
-# itself, which names those at fault.
+# together NAME COUNT FILE.. COMMAND..: works as `each`, for a command that takes several files. The command is run once
+# on all files, because it needs most of its time to start. Only if this run fails, each file is checked by itself, to
+# find the files at fault.
 together() {
     local count=$2
     if "${@:count + 3}" "${@:3:count}" > /dev/null 2>&1; then passed=$((passed + count)); else each "$@"; fi
 }
 
-# Succeeds if the file is executable and its first line names an interpreter, or neither.
+# Succeeds if the file is executable and its first line names an interpreter, or if neither is true.
 is_runnable() {
     local first
     IFS= read -r first < "$1" || true
@@ -66,8 +68,8 @@ is_python() {
 for name in sys.argv[1:]: ast.parse(open(name, encoding="utf-8").read(), name)' "$@"
 }
 
-# Succeeds if the file uses no feature of bash 4: negative indices, arrays by reference, reading lines into arrays,
-# changes of case, `|&`, `&>>`, `;&` and `;;&`.
+# Succeeds if the file uses no feature of bash 4: negative indices, arrays by reference, reading lines into arrays, case
+# conversion, `|&`, `&>>`, `;&` and `;;&`.
 is_old_bash() { ! grep -nE '\[-[0-9]+\]|(declare|local|typeset) -[a-z]*[An]|mapfile|readarray|\$\{[a-z_]+[,^]|\|&|&>>|;;?&' "$1"; }
 
 # Succeeds if each line of the manual page fits a terminal of 80 columns.

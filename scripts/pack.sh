@@ -1,9 +1,9 @@
 #!/usr/bin/env bash
-# scripts/pack.sh DIRECTORY PROGRAM HARDWARE FILE..: fills a new directory with what `make dist` packs: both programs,
-# the script flashnor-serprog, the installer, and the files, under their names.
+# scripts/pack.sh DIRECTORY PROGRAM HARDWARE FILE..: fills a new directory with the contents of the archive of `make
+# dist`. These are both programs, the script flashnor-serprog, the installer, and the given files under their own names.
 #
-# The directory gets a README for users without Rattle's kit, so the README of the project moves to its docs/, and the
-# links of the pages follow it.
+# The directory gets a README for users without Rattle's kit. So the project's README moves to docs/, and the links on
+# the pages are changed accordingly.
 set -euo pipefail
 
 into=$(realpath -m "$1")

@@ -1,13 +1,14 @@
 #!/usr/bin/env python3
-"""scripts/paths.py: checks that the files and names that the pages name exist.
+"""scripts/paths.py: checks that the files and names on the pages exist.
 
 The pages are README.md, CONTRIBUTING.md, CHANGELOG.md, docs/, the README files of tests/, the manual pages, and the
-header comment (`//!`) of each file of crates/*/src. A word is taken as a path if it has the ending of a file's name, or
-begins with the name of a directory, but not of `out`, which has built files; `*` or `NAME` as a part of it matches
-anything. `specs/Chip` and the like are files
-of a crate that the line or its title names; in a header comment, of that crate. In header comments and on the pages of
-NAMING, each name between backticks must also be the name of something. Each missing file or name is printed with its
-line, and then the exit status is 1.
+header comment (`//!`) of each file of crates/*/src. A word is checked as a path if it ends as the name of a file does,
+or begins with the name of a directory other than `out`, which has built files. In a path, `*` and a word in capitals
+such as `NAME` match anything. A word such as `specs/Chip` is a file of a crate that its line or section names or, in a
+header comment, of the comment's crate.
+
+In header comments and on the pages of NAMING, each name in backticks must be a name in the sources, of a file, or of a
+library. For each missing file or name, the script prints the line where it occurs, and ends with exit status 1.
 """
 import fnmatch
 import functools
@@ -16,7 +17,7 @@ import pathlib
 import re
 import sys
 
-sys.dont_write_bytecode = True  # so that no other file is created in scripts/
+sys.dont_write_bytecode = True  # so that Python creates no files in scripts/
 import contracts
 import texts
 from sources import CRATES, TOP
@@ -36,8 +37,8 @@ def pages():
 
 
 def lines_of(page):
-    """Returns the lines of a page with their numbers. For a source these are the lines of its header comment, without
-    examples."""
+    """Returns the lines of a page with their numbers. For a source, returns the lines of its header comment, without
+    its examples."""
     lines = list(enumerate(page.read_text(encoding="utf-8").splitlines(), 1))
     if page.suffix != ".rt":
         return lines
@@ -59,7 +60,7 @@ def names_of_crates():
 
 
 def is_path(word):
-    """Returns whether a word is taken as the path of a file or a directory."""
+    """Returns whether a word is checked as the path of a file or a directory."""
     first, _, rest = word.partition("/")
     if first == "out":
         return False
@@ -70,7 +71,7 @@ def is_path(word):
 
 @functools.cache
 def there():
-    """Returns the paths of all files and directories, relative to the top, except built files."""
+    """Returns the paths of all files and directories of the repository, relative to its top, except built files."""
     found = set()
     for folder, folders, files in os.walk(TOP):
         folders[:] = [name for name in folders if name not in ("out", ".git", "__pycache__")]
@@ -79,8 +80,8 @@ def there():
 
 
 def is_there(word, folders):
-    """Returns whether a word is the path of a file or a directory in one of `folders`. A name without `/` may be
-    anywhere below them."""
+    """Returns whether a word is the path of a file or a directory in one of `folders`. A name without `/` may also be
+    in a directory below them."""
     name = word.rstrip("/")
     for ending in ("", ".antt", ".rt") if "." not in name else ("",):
         wanted = [os.path.normpath(os.path.join(folder, name + ending)) for folder in folders]
@@ -93,9 +94,10 @@ def is_there(word, folders):
 
 
 def folders_for(page, crates, before):
-    """Returns the directories in which a word of a page may be. For a header comment these are its crate and the top.
-    For a page they are its own directory, the top and directories below it, the directory of the path before the word,
-    and the crates that were named, or all crates."""
+    """Returns the directories in which a word of a page may be a path. In a header comment, these are its crate, the
+    crate's specs/, the file's own directory and the top. On a page, these are the top, the page's own directory,
+    crates/, scripts/, tests/, the directory of the path before the word, and the crates that were named (all crates if
+    none was)."""
     own = page.parent.relative_to(TOP).as_posix()
     if page.suffix == ".rt":
         return [f"crates/{crates[0]}", f"crates/{crates[0]}/specs", own, ""]
@@ -103,7 +105,8 @@ def folders_for(page, crates, before):
 
 
 def check(page):
-    """Yields the line and the word of each path of a page that doesn't exist, and None for each path that exists."""
+    """Checks the paths on a page. Yields the line and the word for each path that doesn't exist, and None for each
+    other path."""
     is_head, titled, before = page.suffix == ".rt", [], ""
     for number, line in lines_of(page):
         is_title = line.startswith("#")
@@ -123,13 +126,15 @@ def check(page):
 
 @functools.cache
 def names():
-    """Returns the valid names between backticks: names in the sources, of files and directories, and of libraries."""
+    """Returns the names that are valid in backticks: those in the sources, of files and directories, and of
+    libraries."""
     libraries = texts.read("crates.txt").replace(":", " ").split()
     return contracts.names() | {pathlib.PurePath(path).stem for path in there()} | set(libraries)
 
 
 def check_names(page):
-    """Yields the line and the name of each invalid name between backticks, and None for each valid one."""
+    """Checks the names in backticks on a page. Yields the line and the name for each invalid name, and None for each
+    valid name."""
     for number, line in lines_of(page):
         for name in re.findall(r"`([A-Za-z_]\w*(?:::\w+)?)`", line):
             yield None if name in names() else (number, name)
@@ -148,7 +153,7 @@ def gaps():
 
 
 def main():
-    """Prints each missing path and name, and how many were checked."""
+    """Checks all pages. Prints each missing path and name, and the numbers of paths and names that were checked."""
     told = {page: list(check(page)) for page in pages()}
     named = {page: list(check_names(page)) for page in told if page.suffix == ".rt" or page.name in NAMING}
     for page in told:

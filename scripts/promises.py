@@ -1,52 +1,54 @@
 #!/usr/bin/env python3
-"""scripts/promises.py: whether the tables of PROMISES, STATEMENT, TESTING, HARDWARE and README name what there is.
+"""scripts/promises.py: checks that the tables of PROMISES, STATEMENT, TESTING, HARDWARE and README name only what
+exists.
 
-A cell that tells where a promise stands has parts between semicolons, each of these forms:
+In a column `Call, clause`, a cell says which clauses state a promise. It has parts between semicolons, in these forms:
 
     `call`, `clause` and `clause`           `call`, `call`: `clause`, `clause`          `law`, `law`
     `call` and `call` of `Type` and `Type`: `clause`, `clause`
 
-A call is a function with a contract, a law one that takes nothing, and where a definition stands in place of a call it
-is one that a contract uses. A clause is an `ensures` of that very call, by its name, or a field of the record that an
-`ensures` of it is. In parentheses behind either stand definitions that it says, fields of records that it
-says, and `Definition`: `field`. A word that no comma joins to the last one may begin anew.
+A call is a function with a contract, and a law is one without arguments. A definition that a contract uses may take the
+place of a call. A clause is the name of an `ensures` of this call, or a field of a record that an `ensures` names. In
+parentheses after a call or a clause are definitions that it names, fields of such records, and `Definition`: `field`.
+If a name follows other words than a comma, `and` or `with`, it may be a new call.
 
-Of the other cells each name has to be one of the sources: tests, edits and cases where the table's head says so. Each
-difference is told with its line; the status is 1 where there is one.
+In columns of tests, each name must be a test, a target of the Makefile or a case of transcripts. In all other columns,
+each name in backticks must occur in the sources. For each wrong name, the script prints the line where it occurs, and
+ends with exit status 1.
 """
 import functools
 import re
 import sys
 
-sys.dont_write_bytecode = True  # nothing else is to be left in scripts/
+sys.dont_write_bytecode = True  # so that Python creates no files in scripts/
 import contracts
 import texts
 
 PAGES = "docs/PROMISES.md", "docs/STATEMENT.md", "docs/TESTING.md", "docs/HARDWARE.md", "README.md"
-# The heads of the columns that tell where a promise stands, and of those that name tests. TESTING.md must have the
-# first of the latter, each other page one of the former.
+# PROMISING has the heads of the columns that say which clauses state a promise, and TESTING those of the columns that
+# name tests. TESTING.md must have a column `Test`, and each other page a column `Call, clause`.
 PROMISING, TESTING = ["Call, clause"], ["Test", "Command"]
 NAME = re.compile(r"[A-Za-z_]\w*(::\w+)?")
 JOINING = set(", and with".split()) | {","}
 
 
 class Name:
-    """A name of a cell, and what stands in parentheses behind it."""
+    """A name in a cell, with the parts in parentheses after it."""
 
     def __init__(self, text):
         self.text, self.inside = text, []
 
 
 class Wrong(Exception):
-    """What is wrong with a cell."""
+    """A cell has a mistake. The message describes it."""
 
 
-# ---- what a name stands for
+# ---- These functions find what a name refers to.
 
 
 class Thing:
-    """What a name may stand for that says something: where it is, its clauses by their names, each with the definitions
-    that it names, and the definitions that it says in all."""
+    """A function or definition: its place, its clauses by their names (each with the definitions that it names), and
+    all definitions that it names directly or through others."""
 
     def __init__(self, place, clauses, says):
         self.place, self.clauses = place, clauses
@@ -54,14 +56,15 @@ class Thing:
 
 
 def add_fields(clauses, words):
-    """Adds the fields of the records among these definitions, and among what they stand for."""
+    """Adds to `clauses` the fields of all records among these definitions, and among the definitions that they name in
+    turn."""
     for word in contracts.reached(words, False):
         for name, kind in contracts.fields(word).items():
             clauses.setdefault(name, set()).update(contracts.named_in(word.source, kind))
 
 
 def thing_of_call(call):
-    """Returns what a function says."""
+    """Returns the `Thing` of a function."""
     clauses, says = {}, set()
     for code, clause in call.promises():
         if clause.kind == "ensures":
@@ -74,7 +77,7 @@ def thing_of_call(call):
 
 
 def thing_of_word(word):
-    """Returns what a definition says."""
+    """Returns the `Thing` of a definition."""
     clauses = {}
     add_fields(clauses, {word})
     return Thing(f"crates/{word.source.path}:{word.line}", clauses, {word})
@@ -82,7 +85,8 @@ def thing_of_word(word):
 
 @functools.cache
 def things(name):
-    """Returns what a name may stand for: functions of just this name before those of types."""
+    """Returns all functions and definitions to which a name may refer. If functions have exactly this name, returns
+    only these, without the functions of types."""
     found = [call for call in contracts.calls().get(name, ()) if call.promises()]
     found = [call for call in found if call.name == name] or found
     if found:
@@ -91,20 +95,21 @@ def things(name):
 
 
 def is_law(name):
-    """Whether a name is a law's."""
+    """Returns whether a name is that of a law."""
     return any(call.is_law() for call in contracts.calls().get(name, ()))
 
 
 def is_type(name):
-    """Whether a name is a type's or a trait's."""
+    """Returns whether a name is that of a type or a trait."""
     return any(word.kind in ("struct", "enum", "trait") for word in contracts.words().get(name, ()))
 
 
-# ---- the cells that tell where a promise stands
+# ---- These functions check the cells that say which clauses state a promise.
 
 
 def parts_of(cell):
-    """Returns the names, marks and words of a cell, where what stands in parentheses behind a name is that name's."""
+    """Returns the names, punctuation marks and words of a cell. The parts in parentheses after a name become a part of
+    this name."""
     levels = [[]]
     for name, mark, word in re.findall(r"`([^`]*)`|([(),;:])|([^\s`(),;:]+)", cell):
         if mark == "(":
@@ -123,18 +128,18 @@ def parts_of(cell):
 
 
 def split(parts, mark):
-    """Returns the parts between such marks."""
+    """Splits a list of parts at each `mark`."""
     marks = [-1, *(at for at, part in enumerate(parts) if part == mark), len(parts)]
     return [parts[start + 1 : end] for start, end in zip(marks, marks[1:])]
 
 
 def names_of(parts):
-    """Returns the names among the parts."""
+    """Returns those of the parts that are names."""
     return [part for part in parts if isinstance(part, Name)]
 
 
 def with_types(parts):
-    """Returns the parts with `call` of `Type` in one name, for each of such calls and types."""
+    """Returns the parts, with each `call` of each `Type` combined to the name `Type::call`."""
     at = next((at for at, part in enumerate(parts) if part == "of"), None)
     methods, types = names_of(parts[:at]) if at else [], names_of(parts[at:]) if at else []
     if not methods or not types or not all(is_type(name.text) for name in types):
@@ -143,7 +148,8 @@ def with_types(parts):
 
 
 def subject(name):
-    """Returns what a name stands for that says something, and looks at what stands in parentheses behind it."""
+    """Returns the functions and definitions to which a name refers, and checks the parts in parentheses after it.
+    Raises Wrong if there are none."""
     if not NAME.fullmatch(name.text):
         raise Wrong(f"`{name.text}` is no name")
     found = things(name.text)
@@ -155,12 +161,13 @@ def subject(name):
 
 
 def told(found):
-    """Returns where these are, and which clauses they have."""
+    """Returns a text with the places and the clauses of these functions and definitions."""
     return "; ".join(f"{thing.place} has {', '.join(thing.clauses) or 'none that has a name'}" for thing in found)
 
 
 def clause(of, found, name):
-    """Raises where a name is no clause of what was found, or what stands in parentheses behind it isn't said there."""
+    """Raises Wrong if a name isn't a clause of any `found`, or if the parts in parentheses after it are wrong for all
+    of them."""
     having = [thing for thing in found if name.text in thing.clauses]
     if not having:
         raise Wrong(f"`{of}` has no clause `{name.text}`: {told(found)}")
@@ -169,14 +176,15 @@ def clause(of, found, name):
 
 
 def first_that_holds(problems):
-    """Raises the first of some problems where there is one for each."""
+    """Raises Wrong with the first problem if each of `problems` is one. Does nothing if one of them is None."""
     if all(problems := list(problems)):
         raise Wrong(problems[0])
 
 
 def inside_of(says, clauses, name):
-    """Returns what is wrong with what stands in parentheses behind a name, which says these definitions and has these
-    clauses. Behind a definition or a call and a colon stand what that says and its clauses."""
+    """Checks the parts in parentheses after a name that names the definitions `says`, and has the clauses `clauses`.
+    Returns the first mistake, or None. After a definition or call and a colon, the parts may name what this definition
+    or call names, and its clauses."""
     known = {*clauses, *(word.name for word in says), *(field for word in says for field in contracts.fields(word))}
     for item in split(name.inside, ";"):
         left, *others = split(item, ":")
@@ -193,7 +201,7 @@ def inside_of(says, clauses, name):
 
 
 def check_item(parts):
-    """Raises where a part of a cell, between semicolons, names what isn't there."""
+    """Raises Wrong if a part of a cell, between two semicolons, names something that doesn't exist."""
     sides = split(parts, ":")
     if len([side for side in sides if names_of(side)]) > 2:
         raise Wrong("two colons between names can't be read: put a semicolon between two promises")
@@ -209,7 +217,7 @@ def check_item(parts):
 
 
 def check_phrases(parts):
-    """Raises where words without a colon name what isn't there."""
+    """Raises Wrong if parts without a colon name something that doesn't exist."""
     of, found, joined = None, [], False
     for part in parts:
         if not isinstance(part, Name):
@@ -224,7 +232,7 @@ def check_phrases(parts):
 
 
 def check_promise(cell):
-    """Yields what is wrong first with a cell that tells where a promise stands."""
+    """Yields the first mistake of a cell that says which clauses state a promise."""
     try:
         for item in split(parts_of(cell), ";"):
             check_item(item)
@@ -232,7 +240,7 @@ def check_promise(cell):
         yield str(wrong)
 
 
-# ---- the other cells
+# ---- These functions check the other cells.
 
 
 @functools.cache
@@ -242,14 +250,15 @@ def tests():
 
 
 def check_names(cell, known, what):
-    """Yields what is wrong with the names of a cell that have to be these."""
+    """Yields a message for each name of a cell that isn't in `known`."""
     for name in texts.quoted(cell):
         if NAME.fullmatch(name) and name not in known:
             yield f"there is no {what} `{name}`"
 
 
 def check_test(cell):
-    """Yields what is wrong with a cell that names tests: functions, goals of the Makefile, and cases of transcripts."""
+    """Yields the mistakes of a cell that names tests: test functions, targets of the Makefile, and cases of
+    transcripts."""
     yield from check_names(cell, tests(), "test")
     goals = texts.read("Makefile")
     cases = texts.read("crates/transcripts/stdin")
@@ -262,7 +271,7 @@ def check_test(cell):
 
 
 def checked(head, cell):
-    """Returns what is wrong with a cell of a column with this head."""
+    """Returns the mistakes of a cell in a column with this head."""
     if head in PROMISING:
         return check_promise(cell)
     if head in TESTING:
@@ -270,15 +279,15 @@ def checked(head, cell):
     return check_names(cell, contracts.names(), "name")
 
 
-# ---- the pages
+# ---- This function checks the pages.
 
 
 def main():
-    """Tells what the tables name that isn't there, and how much they name."""
+    """Checks all tables. Prints each mistake, and the number of names that were checked."""
     count = 0
     for page in PAGES:
         cells = [(number, heads[column], cell, heads) for number, heads, column, cell in texts.cells_of(page)]
-        if page in ("README.md", "docs/HARDWARE.md"):  # of their tables only that of promises names what the sources have
+        if page in ("README.md", "docs/HARDWARE.md"):  # only their tables of promises are checked
             cells = [cell for cell in cells if PROMISING[0] in cell[3]]
         needed = TESTING[0] if page == "docs/TESTING.md" else PROMISING[0]
         if not any(head == needed for _, head, _, _ in cells):

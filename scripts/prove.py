@@ -1,22 +1,23 @@
 #!/usr/bin/env python3
-"""scripts/prove.py CRATE: proves a crate and all crates that depend on it, lowest first.
+"""scripts/prove.py CRATE: proves a crate and all crates that depend on it, in the order of crates.txt.
 
-`rt check` proves each of them, over what earlier checks kept in `out/`; tests aren't proved. The crates are proved one
-after the other, each by as many jobs as `rt` chooses, because two checks in one clone wait for each other at the crates
-that both depend on. A crate is tried only if all those that it lists are proved. The output of each check that fails is
-printed. The last line has the counts, and the exit status is 1 if a crate wasn't proved.
+`rt check` proves each crate, except its tests. It uses what earlier checks kept in `out/`. The crates are proved one
+after the other, because two checks in one clone would wait for each other at the crates on which both depend. A crate
+is tried only if all crates that it uses are proved. If a check fails, its output is printed. The last line has the
+counts, and the exit status is 1 if a crate wasn't proved.
 """
 import subprocess
 import sys
 import time
 
-sys.dont_write_bytecode = True  # so that no other file is created in scripts/
+sys.dont_write_bytecode = True  # so that Python creates no files in scripts/
 import crates
 from sources import CRATES
 
 
 def dependents(name, listed):
-    """Returns a crate and those that depend on it, lowest first, each with those of them that it lists."""
+    """Returns a crate and all crates that depend on it, in the order of crates.txt. Each has the set of those among
+    them that it uses."""
     found = {}
     for crate, libraries in listed.items():
         if crate == name or found.keys() & libraries:
@@ -25,7 +26,8 @@ def dependents(name, listed):
 
 
 def check(crate):
-    """Proves a crate, and returns whether it is proved. Prints the seconds that it took, or the output."""
+    """Proves a crate, and returns whether that succeeded. Prints the seconds that it took or, if it failed, its
+    output."""
     begun = time.monotonic()
     ran = subprocess.run(["rt", "check"], cwd=CRATES / crate, stdin=subprocess.DEVNULL, stdout=subprocess.PIPE,
                          stderr=subprocess.STDOUT, text=True, errors="replace", check=False)

@@ -1,14 +1,15 @@
 #!/usr/bin/env bash
-# scripts/quick.sh [PROGRAM [CRATE..]]: makes checks that need no proof, in a few minutes.
+# scripts/quick.sh [PROGRAM [CRATE..]]: makes checks that need no proof and take a few minutes.
 #
-# It checks that the sources are formatted, that the pages agree, and that each crate compiles. It runs the programs as
-# `rt ci` does: with the files `args`, `stdin` and `data/` of their crates, and each must print what `stdout` has and
-# end with the status in `status`. If crates are given, only these and what they need are compiled and run. For a
-# library without tests, the first program that depends on it is. If flashnor or transcripts is built from these
-# sources, it must pass its cases.
-# Nothing is proved. The end of the output of what failed is shown, the last line has the counts, and the exit status is
-# 1 if anything failed. Some programs and tests would run for minutes in such a build: `rows` and `bench` are only
-# compiled, and `storm` and `transcripts` are given one case.
+# The script checks that the sources are formatted, that the pages agree with them, and that each crate compiles. It
+# runs each program as `rt ci` does, with the files `args`, `stdin` and `data/` of its crate. The program must print the
+# contents of `stdout`, and end with the status in `status`. If crates are given, only these are tried, so only they and
+# the crates that they use are compiled. In place of a library without tests, the first program that depends on it is
+# tried. If flashnor or transcripts is built from the current sources, it must pass its cases.
+#
+# Nothing is proved. If a step fails, the end of its output is printed. The last line has the counts, and the exit
+# status is 1 if a step failed. Some programs and tests would run for minutes in this way: `rows` and `bench` are only
+# compiled, and `storm` and `transcripts` get only one case.
 set -euo pipefail
 
 top=$(cd "$(dirname "$0")/.." && pwd)
@@ -18,10 +19,10 @@ work=$(mktemp -d)
 trap 'rm -rf "$work"' EXIT
 passed=0
 failed=0
-# The crates that are only compiled, and the programs that are given one case.
+# The crates in `compiled` are only compiled. The programs in `one_case` get only one case.
 compiled=" rows bench "
 one_case=" storm transcripts "
-# The seconds in which a crate must be compiled and run, also on a machine that has much else to do.
+# A crate must be compiled and run in this number of seconds, even on a busy machine.
 most=900
 
 if ! command -v rt > /dev/null; then
@@ -30,14 +31,14 @@ if ! command -v rt > /dev/null; then
 fi
 cd "$top"
 if ((${#tried[@]} == 0)); then
-    # The largest crates first, so that none of them runs alone at the end.
+    # The largest crates start first, so that none of them runs alone at the end.
     mapfile -t tried < <(du -s crates/*/src | sort -rn | sed 's|.*crates/\(.*\)/src|\1|')
 fi
 for crate in "${tried[@]}"; do
     [[ -d crates/$crate/src ]] || { echo "there is no crate '$crate'" >&2; exit 1; }
 done
 
-# count NAME STATUS LOG: prints how a step ended, and its output if it failed.
+# count NAME STATUS LOG: prints whether a step passed, counts it, and prints the end of its output if it failed.
 count() {
     if [[ $2 == 0 ]]; then
         echo "$1: passed"
@@ -49,7 +50,7 @@ count() {
     fi
 }
 
-# Runs a command as a step of this name.
+# step NAME COMMAND..: runs the command as a step of this name.
 step() {
     local name=$1 status=0
     shift
@@ -57,7 +58,7 @@ step() {
     count "$name" "$status" "$work/said"
 }
 
-# Succeeds if formatting a copy of the sources changes nothing.
+# Succeeds if `rt fmt` changes nothing in a copy of the sources.
 is_laid_out() {
     local crate
     mkdir "$work/tree"
@@ -72,7 +73,7 @@ is_laid_out() {
     fi
 }
 
-# Checks the datasheets' examples with the built program of transcripts.
+# Plays the examples from datasheets with the built program of transcripts.
 play_transcripts() {
     "$top/crates/transcripts/out/transcripts" < "$top/crates/transcripts/stdin"
 }
@@ -81,7 +82,8 @@ has_tests() { grep -rqF '#[test]' "$top/crates/$1/src"; }
 
 is_tried() { [[ -f $top/crates/$1/src/main.rt ]] || has_tests "$1"; }
 
-# Prints the first crate of crates.txt that can be tried and is this crate or depends on it, or else this crate.
+# tried_for CRATE: prints the crate that is tried for CRATE. This is the first crate of crates.txt that has tests or a
+# program, and is CRATE or depends on it. If there is none, prints CRATE.
 tried_for() {
     local crate
     while IFS= read -r crate; do
@@ -96,7 +98,8 @@ tried_for() {
     echo "$1"
 }
 
-# Tries a crate without a proof: its tests, or a program with the files of its crate.
+# try_crate CRATE DIRECTORY: tries a crate without a proof. Runs its tests, or its program with the files of the crate,
+# and writes the output and the status to DIRECTORY.
 try_crate() {
     local seconds=200 words=() input=/dev/null file
     cd "$top/crates/$1"
@@ -127,7 +130,7 @@ try_crate() {
 export -f has_tests try_crate
 export top most compiled
 
-# Succeeds if a crate that is only compiled was compiled. Status 6 of a try means that the run did not end in time.
+# Succeeds if a crate that is only compiled did compile. Status 6 of `rt try` means that the run did not end in time.
 is_compiled() {
     local status
     cat "$work/$1.log"
@@ -136,8 +139,9 @@ is_compiled() {
     [[ $status == 0 || $status == 6 ]]
 }
 
-# Succeeds if a program ended with the status of its crate's file `status` (none: 0), and printed what `stdout` has
-# (none: nothing). The status of `rt try` can't show this: 1 to 6 also mean that the program was refused or did not end.
+# Succeeds if a program ended with the status in its crate's file `status` (0 if there is no such file), and printed the
+# contents of `stdout` (nothing if there is no such file). The status of `rt try` doesn't show this, because 1 to 6 may
+# also mean that the program was refused or did not end.
 is_as_wanted() {
     local wanted=0 expected=/dev/null status
     cat "$work/$1.log"
@@ -150,7 +154,7 @@ is_as_wanted() {
     diff "$expected" "$work/$1.printed"
 }
 
-# Counts the try of a crate.
+# count_try CRATE: checks and counts the result of a crate's try.
 count_try() {
     local what="the program $1"
     [[ -f crates/$1/src/main.rt ]] || what="the tests of $1"
@@ -163,8 +167,8 @@ count_try() {
     fi
 }
 
-# on_built NAME FILE COMMAND..: runs a command for the program in this file as a step, if the program is newer than its
-# sources. A directory is newer than the program if a source was removed from it.
+# on_built NAME FILE COMMAND..: runs the command as a step if the program FILE is newer than its sources. If a source
+# was removed, its directory is newer than the program.
 on_built() {
     local name=$1 file=$2 newer=
     shift 2

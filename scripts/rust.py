@@ -2,12 +2,13 @@
 import collections
 import re
 
-# Comments, strings, characters, names (clauses use primes) and numbers, lifetimes, arrows, and single marks.
+# The tokens are comments, strings, characters, names (with primes in clauses) and numbers, lifetimes, arrows, and
+# single marks.
 TOKEN = re.compile(r'//[^\n]*|b?"(?:[^"\\]|\\.)*"|b?\'(?:[^\'\\]|\\.)\'|\w+\'*|\'\w+|::|=>|->|[^\s\w]', re.S)
 Token = collections.namedtuple("Token", "text start end")
-# An item: `owner` is the type or trait of the block that contains it, and `trait` the trait that this block implements.
-# Four fields are positions in the text: `first` of the first attribute, `head` of the first word after the attributes,
-# `body` of the body or the semicolon, and `end` after the item.
+# An Item is a declaration, such as a function. `owner` is the type or trait of the block that contains it, and `trait`
+# is the trait that this block implements. Four fields are positions in the text: `first` of the first attribute, `head`
+# of the first word after the attributes, `body` of the body or the semicolon, and `end` after the item.
 Item = collections.namedtuple("Item", "kind name owner trait attributes first head body end tokens")
 KINDS = "fn struct enum trait impl mod use const static type".split()
 CLOSING = {"(": ")", "[": "]", "{": "}"}
@@ -15,7 +16,7 @@ CLAUSES = "requires", "ensures"
 
 
 class Unread(Exception):
-    """A text that can't be read: the position of the mistake, and its description."""
+    """A text can't be read. The arguments are the position of the mistake, and its description."""
 
 
 def tokens_of(text):
@@ -35,13 +36,13 @@ def closing(tokens, at):
 
 
 def end_of_head(tokens, at):
-    """Returns the index of the brace of the body, or of the semicolon, of the item that contains the given token. The
-    head includes the clauses."""
+    """Returns the index of the brace that opens an item's body, or of the item's semicolon. `at` is the index of a
+    token in the item's head, which includes the clauses."""
     first = at
     while at < len(tokens):
         word = tokens[at].text
         if word in CLAUSES:
-            # Before the brace there may be a star and a name.
+            # Between the keyword and the brace, there may be a star and a name.
             at = closing(tokens, next(at for at in range(at, len(tokens)) if tokens[at].text == "{"))
         elif word in "{;":
             return at
@@ -52,7 +53,7 @@ def end_of_head(tokens, at):
 
 
 def block_of(item):
-    """Returns the type and the trait of an `impl<..> Trait for Type` or of a trait."""
+    """Returns the type and the trait of an item `impl<..> Trait for Type`, or of a trait."""
     head = [token.text for token in item.tokens]
     head = head[: head.index("{")] if "{" in head else head
     names, depth, is_bound = [], 0, False
@@ -70,7 +71,7 @@ def block_of(item):
 
 
 def items(tokens, owner="", trait=""):
-    """Yields the items of a text, and those of its types, traits and modules."""
+    """Yields the items of a text, and those in its `impl` blocks, traits and modules."""
     at = 0
     while at < len(tokens):
         first, attributes = at, []
@@ -101,20 +102,20 @@ def items(tokens, owner="", trait=""):
 
 
 def number_of(text):
-    """Returns the value of a token that is a number, or None."""
+    """Returns the value of a token if it is a number, and otherwise None."""
     plain = re.sub(r"_|[ui](8|16|32|64|size)$", "", text)
     return int(plain, 0) if re.fullmatch(r"\d+|0x[0-9A-Fa-f]+", plain) else None
 
 
 def number_after(tokens, start):
-    """Returns the first number that follows the tokens of the given text, or None."""
+    """Returns the first number that directly follows the tokens of the text `start`, or None."""
     words, wanted = [token.text for token in tokens], [token.text for token in tokens_of(start)]
     places = (at + len(wanted) for at in range(len(words) - len(wanted)) if words[at : at + len(wanted)] == wanted)
     return next((number for at in places if (number := number_of(words[at])) is not None), None)
 
 
 def arms(tokens, kind):
-    """Yields the variant and the first number or string of each arm of a match on the given enum."""
+    """Yields each variant of the enum `kind` in the arms of a match, with the first number or string of its arm."""
     words, pending = [token.text for token in tokens], []
     is_arm = False
     for at, word in enumerate(words):
@@ -130,7 +131,8 @@ def arms(tokens, kind):
 
 
 def numbers_of_variants(tokens):
-    """Returns the numbers of the variants of all enums: the numbers in arms, or, after `= 1`, the numbers from 1."""
+    """Returns the numbers of the variants of all enums: the numbers in the arms of matches. If the first variant has
+    the number 1, also returns the numbers from 1 on, one per variant."""
     found = set()
     for item in (item for item in items(tokens) if item.kind == "enum"):
         found |= {number for _, word in arms(tokens, item.name) if (number := number_of(word)) is not None}

@@ -1,6 +1,8 @@
-"""The words of the sources, for scripts/statement.py: definitions of specs/, types of src/, and what each of them uses.
+"""Reads definitions of specs/ and types and functions of src/, and finds what each of them uses. scripts/statement.py
+and contracts.py import this file.
 
-A name is looked up as the compiler does: what a definition binds itself, then what its file has or brings in by `use`.
+A name is looked up as the compiler does: first among the names that the definition itself binds, then among those that
+its file defines or imports by `use`.
 """
 import collections
 import functools
@@ -17,26 +19,26 @@ CRATES = TOP / "crates"
 TOKEN = re.compile(r'"(?:[^"\\]|\\.)*"|--[^\n]*|[(){}.;,@]|[^\s(){}.;,@"«»]+')
 SYNTAX = set("= : ↦ | [ ] _ in as where Type pub unfolding".split())
 NOTATION = set("→ × λ ¬ ⊥ Unit record let elim".split())
-# What stands for itself on the left of an equation; another name of a library is a variable there.
+# On the left of an equation, these names are constructors. Other names of a library are variables there.
 CONSTRUCTORS = set("Ok Err Some None true false [] ∷ zero suc tt".split())
-# The names that a contract of src/ has without a `use`, as Rust does.
+# A contract of src/ can use these names without a `use`, as in Rust.
 PRELUDE = set("Some None Ok Err".split())
-# How a line begins that goes on with the one above it.
+# A line that begins with one of these characters continues the line above it.
 CLOSING = " )]}"
 MARKED = re.compile(r"(?:(?:pub|abbrev|unfoldable|pattern|axiom) )+(?:(record|data) )?(\S+)|(\S+) : ")
 CLAUSE = re.compile(r"\b(?:(?:requires|ensures)\*?(?:\s+\w+)?|ghost\s+\w+\s*[:=])\s*\{")
 
 
 def fail(message):
-    """Ends the script: the page can't be made."""
+    """Ends the script with this message, because the page can't be made."""
     sys.exit(f"DIFFERS: statement: {message}")
 
 
-# ---- the names in a term
+# ---- These functions find the names in a term.
 
 
 def tokens_of(term):
-    """Returns the tokens of a term, each with whether it is a field that stands behind its dot."""
+    """Returns the tokens of a term. Each is a pair with True if the token is a field after a dot."""
     found, is_field = [], False
     for match in TOKEN.finditer(term):
         token, start, end = match.group(), *match.span()
@@ -49,14 +51,15 @@ def tokens_of(term):
 
 
 def free_names(term, bound, stands_for_itself=lambda name: False):
-    """Returns the names in a term that nothing in it binds, each with the field that is taken of it."""
+    """Returns the free names in a term: those that neither `bound` nor the term itself binds. Each is a pair with the
+    field that is selected from it, or None."""
     tokens = tokens_of(term)
     words = [token for token, _ in tokens] + [""]
     scopes, groups, binders, in_pattern, free = [set(bound)], [], None, False, []
     for at, (token, is_field) in enumerate(tokens):
         here, before, behind = scopes[-1], words[at - 1] if at else "", words[at + 1]
         if is_field and binders == len(scopes):
-            binders, is_field = None, False  # the dot was that of a λ
+            binders, is_field = None, False  # the dot belongs to a λ
         if token in "({":
             end = next(i for i in range(at + 1, len(words)) if words[i] in "(){}.;,:→=")
             groups.append(words[at + 1 : end] if words[end] == ":" else [])
@@ -84,11 +87,12 @@ def free_names(term, bound, stands_for_itself=lambda name: False):
     return free
 
 
-# ---- the sources
+# ---- These classes and functions read the sources.
 
 
 class Word:
-    """A definition or a type: where it stands, its kind, its comment and its lines, and the part of the file."""
+    """A definition, type or function: its source and line, its kind and name, the comment above it, its lines, and the
+    heading above it in the file."""
 
     def __init__(self, source, kind, name, line, comment, part=""):
         self.source, self.kind, self.name, self.line = source, kind, name, line
@@ -96,7 +100,7 @@ class Word:
 
 
 def uses_in(text):
-    """Returns what the `use` lines of a text bring in: each local name, and the path and name that it stands for."""
+    """Returns what the `use` lines of a text import: for each local name, the path and the name that it refers to."""
     found = {}
     for path, names in re.findall(r"\buse ([\w.]+)\.\{([^}]*)\}", text):
         for entry in re.split(r",\s*", names.strip()):
@@ -108,7 +112,8 @@ def uses_in(text):
 
 
 def find(path, name):
-    """Returns the word that a name of this path is, or of a library the name."""
+    """Returns the `Word` to which a path and a name refer. If the path is that of a library of the kit, returns the
+    name."""
     _, crate, _, *parts = path.split(".")
     if not (CRATES / crate).is_dir():
         return name
@@ -116,19 +121,21 @@ def find(path, name):
         *modules, kind = [part for part in parts[1:] if part != "TheVariants"]
         return source(f"{crate}/src/{'/'.join(modules)}.rt").type_of(kind)
     if not (CRATES / crate / f"specs/{'/'.join(parts)}.antt").exists():
-        *parts, name = parts  # a constructor of this kind
+        *parts, name = parts  # the name is a constructor of this type
     return source(f"{crate}/specs/{'/'.join(parts)}.antt").word(name)
 
 
 def is_equation_of(name, line):
-    """Whether a line begins an equation of this name; an operator's parts stand between its arguments."""
+    """Returns whether a line begins an equation of this name. The parts of an operator's name are between its
+    arguments."""
     words = line.partition(" =")[0].split()
     parts = [part for part in name.split("◌") if part]
     return all(part in words for part in parts) if "◌" in name else words[0] == name
 
 
 class Source:
-    """A file below crates/: its words, what its `use` lines bring in, and what its head says of it."""
+    """A file below crates/: its definitions and types by their names, what its `use` lines import, and the text of its
+    header comment."""
 
     def __init__(self, path):
         self.path, self.words = path, {}
@@ -139,12 +146,13 @@ class Source:
         self.head = " ".join(line.split(" ", 1)[1] for line in head.splitlines())
 
     def take_parts(self):
-        """Notes the operators by the parts of their names."""
+        """Stores the names of operators by the parts of these names."""
         names = [*self.uses, *self.words]
         self.parts = {part: name for name in names for part in name.split("◌") if part not in ("", name)}
 
     def known(self, name, uses):
-        """Returns what a name of a term is, which the file has or brings in."""
+        """Returns the `Word` to which a name in a term refers, or the name if it belongs to a library or to the
+        language. Ends the script if the file neither defines nor imports the name."""
         name = self.parts.get(name) or next((whole for whole in uses if name in whole.split("◌")), name)
         if name in uses:
             return find(*uses[name])
@@ -154,8 +162,9 @@ class Source:
 
 
 class Spec(Source):
-    """A file of specs/: definitions, each a line with its name and its type, and behind it the equations of that name.
-    A comment that stands right above an equation belongs to it. What is neither ends the script."""
+    """A file of specs/. Each definition is a line with its name and its type, followed by its equations, fields or
+    constructors. A comment directly above one of these belongs to the definition. If a line belongs to no definition,
+    and isn't a comment, a `use`, a `mod` or an `infix`, the script ends."""
 
     def __init__(self, path):
         super().__init__(path)
@@ -183,7 +192,7 @@ class Spec(Source):
         self.take_parts()
 
     def begin(self, marked, number, comment, part):
-        """Takes the first line of a definition."""
+        """Starts a new definition with its first line."""
         kind, name = marked[1], marked[2] or marked[3]
         if name in self.words:
             fail(f"crates/{self.path}:{number}: '{name}' is defined twice")
@@ -192,22 +201,22 @@ class Spec(Source):
         return word
 
     def word(self, name):
-        """Returns the word of this name."""
+        """Returns what this name refers to."""
         return self.known(name, self.uses)
 
     def is_constructor(self, name):
-        """Whether a name on the left of an equation stands for itself, and is no variable."""
+        """Returns whether a name on the left of an equation is a constructor, not a variable."""
         is_ours = name in self.words and self.words[name].kind == "data"
         return is_ours or name in CONSTRUCTORS or self.uses.get(name, ("",))[0].endswith(".TheVariants")
 
     def used(self, word):
-        """Returns the words that a definition uses."""
+        """Returns what a definition uses: a `Word`, or the name if it belongs to a library or to the language."""
         free = self.names_of_record(word) if word.kind == "record" else self.names(word)
         aliases = {name for name, (_, stands_for) in self.uses.items() if stands_for is None}
         return [find(self.uses[name][0], field) if name in aliases else self.word(name) for name, field in free]
 
     def names(self, word):
-        """Returns the free names of a definition by equations, each of which binds the variables on its left."""
+        """Returns the free names of a definition that has equations. Each equation binds the variables on its left."""
         parts = []
         for line in word.code:
             if line.startswith("--"):
@@ -226,7 +235,7 @@ class Spec(Source):
         return free
 
     def names_of_record(self, word):
-        """Returns the free names of a record, each field of which sees those before it."""
+        """Returns the free names of a record. Each field can use the fields before it."""
         header, *fields = re.split(r"\n(?=  pub )", "\n".join(word.code))
         header = header.split(f" {word.name}", 1)[1].rsplit(" where", 1)[0]
         bound = {name for group in re.findall(r"[({]([^(){}:]*) :", header) for name in group.split()}
@@ -255,12 +264,12 @@ class Code(Source):
         self.take_parts()
 
     def line_of(self, position):
-        """Returns the number of the line with this position, counted from 1."""
+        """Returns the number of the line with this position in the text, counted from 1."""
         return self.text.count("\n", 0, position) + 1
 
     def take(self, item, name):
-        """Takes a type, a trait, a function or a method with its contract, and the comment above it, without the
-        attributes of its parts."""
+        """Stores a type, a trait, or a function with its contract, and the comment above it, without the attributes of
+        its parts."""
         number = self.line_of(item.head)
         comment = self.comment_above(item, number)
         word = self.words[name] = Word(self, item.kind, name, number, comment)
@@ -269,7 +278,8 @@ class Code(Source):
         self.take_model(word)
 
     def take_model(self, word):
-        """Gives a type that contracts see as a value of another kind that kind in place of its fields."""
+        """If contracts see a type as a value of another type (the `Value` of its `Model`), stores this `Value` in place
+        of the type's fields."""
         models = [item for item in self.items if item.kind == "impl" and rust.block_of(item) == (word.name, "Model")]
         if not models or word.kind == "fn":
             return
@@ -280,21 +290,22 @@ class Code(Source):
             word.code = [f"{line[:-1]}{fields}", word.whole.splitlines()[0], value.group(), "}"]
 
     def comment_above(self, item, number):
-        """Returns the lines of comments right above an item, and among its attributes."""
+        """Returns the lines of the comments directly above an item, and among its attributes."""
         start = self.line_of(item.first) - 1
         while start and self.lines[start - 1].lstrip().startswith("//"):
             start -= 1
         return [line.strip() for line in self.lines[start : number - 1] if line.lstrip().startswith("//")]
 
     def text_of(self, item):
-        """Returns the text of an item from its first line on, a function's without its body."""
+        """Returns the text of an item from its first line on. For a function, leaves out the body."""
         start = self.text.rfind("\n", 0, item.head) + 1
         text = self.text[start : item.body if item.kind == "fn" else item.end].rstrip()
         kept = [line for line in text.splitlines() if item.kind == "fn" or not re.match(r" +#\[", line)]
         return textwrap.dedent("\n".join(kept))
 
     def type_of(self, name):
-        """Returns the type or trait that a name of Rust's is, or of a library the name."""
+        """Returns the type or trait to which a name in Rust code refers. If it belongs to a library of the kit, returns
+        the name."""
         if name in self.words:
             return self.words[name]
         mine = self.path.split("/")[0]
@@ -307,11 +318,11 @@ class Code(Source):
         return name
 
     def known(self, name, uses):
-        """Returns what a name of a clause is; Rust's prelude is there without a `use`."""
+        """Returns what a name in a clause refers to. A name of Rust's prelude needs no `use`."""
         return name if name in PRELUDE and name not in uses else super().known(name, uses)
 
     def used(self, word):
-        """Returns the words that the clauses of an item use, and the types that it names."""
+        """Returns what the clauses of an item use, and the types that the item names."""
         text = "\n".join(word.code)
         clauses, rest = clauses_of(text)
         bound = {"result", "self", "Self", *re.findall(r"(\w+):", rest), *re.findall(r"ghost (\w+)", text)}
@@ -319,7 +330,7 @@ class Code(Source):
         found = [self.known(name, uses) for clause in clauses for name, _ in free_names(clause.term, bound)]
         if word.kind == "enum":
             rest = re.sub(r"(?m)^ +\w+", "", rest)
-        types = {name for name in re.findall(r"\b[A-Z]\w*", rest) if "_" not in name}  # and no constants
+        types = {name for name in re.findall(r"\b[A-Z]\w*", rest) if "_" not in name}  # a name with `_` is a constant
         return found + [self.type_of(name) for name in sorted(types - bound)]
 
 
@@ -327,7 +338,7 @@ Clause = collections.namedtuple("Clause", "kind name term")
 
 
 def end_of_braces(text, start):
-    """Returns the place behind the brace that closes the one before this place."""
+    """Returns the position after the brace that closes the one before `start`."""
     depth = 1
     while depth:
         depth += {"{": 1, "}": -1}.get(text[start], 0)
@@ -336,7 +347,7 @@ def end_of_braces(text, start):
 
 
 def clauses_of(text):
-    """Returns the clauses and ghost members of an item, and the text without them and without comments."""
+    """Returns the clauses and ghost members of an item, and its text without these and without comments."""
     text = re.sub(r"//.*", "", text)
     clauses, rest, done = [], "", 0
     while match := CLAUSE.search(text, done):
@@ -351,5 +362,5 @@ def clauses_of(text):
 
 @functools.cache
 def source(path):
-    """Returns the file of this path below crates/."""
+    """Returns the `Source` for a path below crates/."""
     return Spec(path) if path.endswith(".antt") else Code(path)

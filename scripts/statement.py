@@ -1,12 +1,20 @@
 #!/usr/bin/env python3
 """scripts/statement.py [--check]: writes docs/STATEMENT.md and out/STATEMENT-FULL.md from the sources.
 
-STATEMENT.md has the contracts of HEADLINE and each definition of specs/ and type of src/ that they need, each in the
-place that its prose has for it. It describes the definitions of NAMES, and leaves out fields of the records of FIELDS.
-STATEMENT-FULL.md, which isn't committed, has all these, and further contracts, in appendices. A definition by one
-equation has its signature in it. With --check the script writes nothing: it compares STATEMENT.md with what it would
-write, prints each difference, and ends with status 1 if there is one. It fails if a name isn't found, if SUBJECTS lacks
-the file of a definition, if docs/NOTATION.md doesn't explain a name of a library, and if STATEMENT.md is too long.
+STATEMENT.md has the contracts of HEADLINE, with the definitions and types that these need, at the places in its prose
+that scripts/statement_page.md gives. It only describes the definitions of NAMES, and leaves out fields of the records
+of FIELDS. STATEMENT-FULL.md, which isn't committed, has all of these, and further contracts, in appendices. If a
+definition has only one equation, its signature and its equation are joined.
+
+With --check, the script writes nothing. It compares STATEMENT.md with what it would write, prints each difference, and
+ends with exit status 1 if there is one.
+
+The script fails in these cases:
+
+- A name isn't found.
+- SUBJECTS doesn't list the file of a definition.
+- docs/NOTATION.md doesn't explain a name of a library.
+- STATEMENT.md is too long.
 """
 import copy
 import difflib
@@ -15,7 +23,7 @@ import itertools
 import re
 import sys
 
-sys.dont_write_bytecode = True  # nothing else is to be left in docs/
+sys.dont_write_bytecode = True  # so that Python creates no files in scripts/
 import texts
 from sources import TOP, Word, fail, source
 from statement_lines import count, lines_of
@@ -35,11 +43,12 @@ sources. It has {told}.
 """
 
 
-# ---- definitions, contracts and parts of them
+# ---- These functions select definitions, contracts and parts of them.
 
 
 def with_clauses(word, kept):
-    """Returns a function with only the clauses of these names, or all if none is given, and what its caller owes."""
+    """Returns a function with only its `requires` and the clauses whose names are in `kept` (all clauses if `kept` is
+    empty)."""
     lines, names, taken, free = [], set(), True, []
     for line in word.code:
         if line.startswith("    //"):
@@ -58,7 +67,7 @@ def with_clauses(word, kept):
 
 
 def with_fields(word, kept):
-    """Returns a record with only the fields of these names, and a comment that names the others."""
+    """Returns a record with only the fields whose names are in `kept`, and a comment that lists the other names."""
     lines, others, taken, free = [], [], True, []
     for line in word.code:
         if line.startswith("  --"):
@@ -77,8 +86,12 @@ def with_fields(word, kept):
 
 
 class Part:
-    """Contracts and definitions, and all that they need except what was explained before and what is only named: each
-    definition with those that it uses, the records that are cut, and the names of libraries."""
+    """Contracts and definitions, with all definitions that they need.
+
+    `done` has the definitions that an earlier part has already. `named` has the names of definitions that are only
+    described, and `cut` the records that are shown without some of their fields. `uses` has each definition with those
+    that it uses, and `libraries` the names of libraries.
+    """
 
     def __init__(self, roots, done, named=(), cut=()):
         self.contracts, self.uses, self.shown, self.named, self.libraries = [], {}, {}, set(), set()
@@ -102,22 +115,23 @@ class Part:
             todo += [use for use in self.uses[word] if use not in self.uses and use not in done]
 
     def told(self, words=None):
-        """Returns how many definitions there are, and how many lines without comments and blanks."""
+        """Returns a text with the number of definitions, and the number of their lines without comments and blank
+        lines."""
         words = list(self.uses) if words is None else words
         numbers = (len(words), "definition"), (self.lines(words), "line")
         return ", ".join(f"{number:,} {what}{'s' * (number != 1)}" for number, what in numbers)
 
     def lines(self, words=None):
-        """Returns how many lines these have without comments and blanks."""
+        """Returns the number of lines of these definitions, without comments and blank lines."""
         return count(self.shown[word] for word in (self.uses if words is None else words))
 
 
-# ---- their order
+# ---- These functions put the definitions in order.
 
 
 @functools.cache
 def ranks():
-    """Returns the place of each file of SUBJECTS: the number of its subject, and where it stands there."""
+    """Returns the rank of each file of SUBJECTS: the number of its subject, and its position in this subject."""
     found = {}
     crate = ""
     for number, files in enumerate(SUBJECTS.values()):
@@ -128,8 +142,8 @@ def ranks():
 
 
 def ready(words, uses, done):
-    """Returns those of a subject's definitions that can follow the ones that are done, each after those that it uses.
-    A file's definitions stand together, in its order."""
+    """Returns those of the definitions `words` that can follow the definitions in `done`, each after those that it
+    uses. The definitions of a file stay together, in the order of the file."""
     taken = []
     while can := [word for word in words if word not in taken and uses[word] <= done | set(taken)]:
         same = [word for word in can if taken and word.source is taken[-1].source]
@@ -138,9 +152,9 @@ def ready(words, uses, done):
 
 
 def sections(uses, done):
-    """Returns the definitions in groups, each the name of a subject and its definitions, if some are done already: each
-    definition after those that it uses. The next group is the first subject that can follow whole, or the first of
-    which some definitions can."""
+    """Returns the definitions in groups, each with the name of its subject. Each definition comes after those that it
+    uses. `done` has the definitions that are on the page already. The next group is the first subject whose definitions
+    can all follow or, if there is none, the first of which some can."""
     for word in uses:
         if word.source.path not in ranks():
             fail(f"SUBJECTS of scripts/statement_parts.py hasn't {word.source.path}: add it to the subject of its "
@@ -161,11 +175,11 @@ def sections(uses, done):
     return found
 
 
-# ---- the pages
+# ---- These functions make the pages.
 
 
 def show(part, words):
-    """Returns some definitions as lines of the page, by the files in which they stand."""
+    """Returns the lines of the page for these definitions, grouped by their files."""
     lines = []
     for path, group in itertools.groupby(words, key=lambda word: word.source.path):
         group, title = list(group), ""
@@ -179,7 +193,7 @@ def show(part, words):
 
 
 def body(part, done):
-    """Returns a part as lines of the page: its definitions by subjects, and then its contracts."""
+    """Returns the lines of the page for a part: its definitions by subjects, and then its contracts."""
     groups = sections({word: part.uses[word] for word in part.uses if word not in part.contracts}, done)
     groups += [("The contracts", part.contracts)] if part.contracts else []
     lines, seen = [], set()
@@ -190,18 +204,19 @@ def body(part, done):
 
 
 def letters():
-    """Returns the title of each appendix with its letter before it."""
+    """Returns the title of each appendix, with its letter before it."""
     return {title: f"{chr(ord('A') + at)}. {title}" for at, title in enumerate(APPENDICES)}
 
 
 def link(title):
-    """Returns a link from the head of the appendices to one of them."""
+    """Returns a link to an appendix, for the list at the start of STATEMENT-FULL.md."""
     anchor = re.sub(r"[^\w -]", "", letters()[title]).lower().replace(" ", "-")
     return f"[{letters()[title]}](#{anchor})"
 
 
 def names(page, appendices):
-    """Returns the description of each definition that STATEMENT.md only names, with the letter of its appendix."""
+    """Returns the descriptions of the definitions that STATEMENT.md only describes, each with the letter of the
+    appendix that has the definition."""
     found = sorted(word.name for word in page.named)
     if doubtful := sorted({name for name in found if found.count(name) > 1}):
         fail(f"NAMES of scripts/statement_parts.py has a name of several definitions: {' '.join(doubtful)}")
@@ -218,7 +233,8 @@ def names(page, appendices):
 
 
 def check_notation(used):
-    """Fails if NOTATION.md doesn't explain a name of a library, or explains one of which the pages have none."""
+    """Ends the script if NOTATION.md doesn't explain a name of a library that the pages use, or explains a name that
+    they don't use."""
     cells = [(heads[0], cell.replace("\\|", "|")) for _, heads, column, cell in texts.cells_of(NOTATION) if not column]
     known = {head: set(re.findall(r"[^\s()]+", " ".join(" ".join(texts.quoted(cell)) for which, cell in cells
                                                        if which == head))) for head in ("Sign", "Name")}
@@ -230,7 +246,8 @@ def check_notation(used):
 
 
 def check_prose(prose, lines):
-    """Fails if a name between backticks in what isn't made from the sources is on none of these lines."""
+    """Ends the script if a name in backticks in the prose isn't on any of these lines, which are made from the
+    sources."""
     known = set(re.findall(r"\w+", "\n".join(lines)))
     named = re.findall(r"`([A-Za-z_]\w\w+)[` ]", "\n".join([prose, *NAMES.values(), *NOTES.values()]))
     if missing := sorted(set(named) - known - {"make"}):
@@ -240,7 +257,7 @@ def check_prose(prose, lines):
 
 
 def pages():
-    """Returns the lines of both pages by their paths, and how much they have."""
+    """Returns the lines of both pages by their paths, and a text with their numbers of definitions and lines."""
     page = Part(HEADLINE, set(), NAMES, FIELDS)
     if page.lines() > MOST_LINES:
         fail(f"{PAGE} has {page.lines()} lines, at most {MOST_LINES} in MOST_LINES of scripts/statement_parts.py")
@@ -266,7 +283,7 @@ def pages():
 
 
 def check(path, lines):
-    """Prints what a page has otherwise than the sources. Returns how many lines differ."""
+    """Compares a page with these lines, and prints the differences. Returns the number of lines that differ."""
     old = (TOP / path).read_text(encoding="utf-8").splitlines() if (TOP / path).exists() else []
     told_apart = list(difflib.unified_diff(old, lines, lineterm="", n=0))[2:]
     others = [line for line in told_apart if line[0] in "-+" and line[1:]]
@@ -278,7 +295,7 @@ def check(path, lines):
 
 
 def main():
-    """Writes the pages, or compares the one that is committed with what it would write."""
+    """Writes both pages. With --check, only compares STATEMENT.md with what it would write."""
     sys.stdout.reconfigure(encoding="utf-8")
     found, told = pages()
     print(f"statement: {told}")

@@ -1,11 +1,12 @@
-"""How scripts/statement.py sets a definition: closer than its source has it, and without the marks of the language."""
+"""Lays out definitions for scripts/statement.py: more compactly than in the sources, and without keywords such as
+`pub`."""
 import itertools
 import re
 
 
 def split_type(text):
-    """Returns the parts of a signature that are arguments, a pair for each: the part, with the names that it may give,
-    and the argument's kind. And the kind of the answer."""
+    """Returns the arguments of a signature, and the type of its result. Each argument is a pair: the text of its part,
+    which may name several arguments, and its type."""
     parts, depth, done = [], 0, 0
     for match in re.finditer(r"[({\[]|[)}\]]|\s→\s", text):
         depth += {"(": 1, "{": 1, "[": 1, ")": -1, "}": -1, "]": -1}.get(match.group(), 0)
@@ -20,13 +21,14 @@ def split_type(text):
 
 
 def filled(lines, end=""):
-    """Returns some lines that belong together, and what stands behind the last, as one line where they fit into it."""
+    """Returns these lines, with `end` after the last one, as a single line if it fits into 120 columns."""
     whole = " ".join([lines[0], *(line.strip() for line in lines[1:])]) + end
     return [whole] if len(whole) <= 120 else [*lines[:-1], lines[-1] + end]
 
 
 def packed(word):
-    """Returns the lines of a type of src as the page has them: fields that no comment parts stand side by side."""
+    """Returns the lines of a type of src/ as the page has them. Fields that no comment separates are on one line if
+    they fit."""
     lines, free = [], False
     for line in word.code:
         field = re.fullmatch(r"    (?![ }]|//).*,", line)
@@ -41,14 +43,15 @@ def packed(word):
 
 
 def joined(word):
-    """Returns the lines of a definition as the page has them: without the marks of the language; a record without its
-    kind; and where there is one equation, whose arguments are all names, with their kinds beside them."""
+    """Returns the lines of a definition as the page has them. Keywords, and the type of a record, are left out. If a
+    definition has only one equation, whose arguments are all names, the types of the arguments are put next to these
+    names."""
     code = [re.sub(r"^((abbrev|unfoldable|pub) )+|^(  )pub ", r"\3", line) for line in word.code]
     if word.kind == "record":
         head, where, fields = "\n".join(code).partition(" : Type 0 where")
         return [*filled(head.split("\n"), " where"), *fields.splitlines()[1:]] if where else code
     equation = next((at for at, line in enumerate(code) if line.startswith(f"{word.name} ") and at), None)
-    if any(line.startswith("--") for line in code):  # a comment of its own stands above the equation
+    if any(line.startswith("--") for line in code):  # the equation has a comment above it
         return code
     if word.kind or equation is None or sum(line.startswith(f"{word.name} ") for line in code) != 2:
         return code
@@ -71,7 +74,7 @@ def joined(word):
 
 
 def signed(word):
-    """Returns the lines of a function as the page has them: its arguments side by side."""
+    """Returns the lines of a function as the page has them: its arguments are on one line if they fit."""
     code = "\n".join(word.code)
     if not (arguments := re.match(r"[^\n]*\(\n((?:    .*,\n)+)\)", code)):
         return word.code
@@ -80,7 +83,7 @@ def signed(word):
 
 
 def lines_of(word):
-    """Returns the lines of a word as the page has them."""
+    """Returns the lines of a definition, type or function as the page has them."""
     if word.source.path.endswith(".antt"):
         return joined(word)
     if word.kind == "fn":
@@ -89,5 +92,5 @@ def lines_of(word):
 
 
 def count(words):
-    """Returns how many lines some words have without comments and blanks."""
+    """Returns the number of lines of these definitions on the page, without comments and blank lines."""
     return sum(line.strip()[:2] not in ("", "--", "//") for word in words for line in lines_of(word))

@@ -1,19 +1,20 @@
-"""What docs/STATEMENT.md and out/STATEMENT-FULL.md have: contracts, names, appendices, and the order of subjects.
+"""Lists what docs/STATEMENT.md and out/STATEMENT-FULL.md contain: contracts, names, appendices, and the order of
+subjects.
 
-This is the only file of the scripts that names definitions; scripts/statement_page.md has the prose of STATEMENT.md.
+The other scripts for these pages name no definitions. scripts/statement_page.md has the prose of STATEMENT.md.
 """
-# The greatest number of lines of definitions and contracts on STATEMENT.md, without comments and blanks.
+# STATEMENT.md may have at most this number of lines of definitions and contracts, without comments and blank lines.
 MOST_LINES = 220
 
-# The contracts of STATEMENT.md: for each call its file, and those of its clauses that make the headline. What a caller
-# must ensure is always included.
+# STATEMENT.md has the contracts of these calls. Each has its file, and the names of those of its clauses that make up
+# the headline. The conditions that a caller must ensure (`requires`) are always included.
 HEADLINE = {
     "session": "nor_session/src/sessions.rt keeps always modelled",
     "restore": "nor_session/src/restores.rt restores_original modelled",
     "Journal::read": "nor_journal/src/journal.rt found only",
 }
 
-# Of these records STATEMENT.md has only these fields; STATEMENT-FULL.md has all.
+# STATEMENT.md has only these fields of the records. STATEMENT-FULL.md has all fields.
 FIELDS = {
     "VaultState": "telling bytes sealed",
     "BusState": "chip left honest sent steady",
@@ -26,11 +27,11 @@ FIELDS = {
     "IsDone": "made code is_wanted kept",
 }
 
-# The names that STATEMENT.md describes in one line each; the appendices have their definitions.
+# STATEMENT.md describes each of these definitions in one line. The appendices have the definitions themselves.
 NAMES = {
     "Sent":
         "`Sent`: the transactions that `Records` adds, the last one first, each with all bytes that it was to send. "
-        "No program can read or clear this list.",
+        "No code can read or clear this list.",
     "Records":
         "`Records out answer result old new`: if `out` is empty or begins with 03h, 04h, 05h, 35h, 4Bh, 5Ah or 9Fh, "
         "`sent` doesn't change. Otherwise all of `out` is put in front of `sent`, even if the bus stopped.",
@@ -61,7 +62,7 @@ NAMES = {
         "of the data goes to `at`; the addresses wrap within the page.",
     "BusyAfter":
         "`BusyAfter chip command busy`: after a status write, program or erase, `busy` is any number below 65,536. A "
-        "poll lowers `busy` by 1, if `busy` isn't 0. Otherwise `busy` doesn't change.",
+        "poll lowers `busy` by 1, if `busy` isn't 0. Other commands don't change `busy`.",
     "latch_after":
         "`latch_after chip command busy`: 06h sets WEL. 04h clears WEL, and so does an operation that leaves `busy` 0, "
         "or the poll that shows the last BUSY. Otherwise WEL doesn't change.",
@@ -78,12 +79,12 @@ NAMES = {
         "`is_in_work running a`: `a` is in the page or block of a program or erase. `is_in_work` is true for "
         "`Unknown`, and false for a status write.",
     "KeptCut":
-        "`KeptCut running old new`: `new` is `old` or, after a cut status write, the bits before this write. For "
-        "`Unknown`, `new` may be anything.",
+        "`KeptCut running old new`: `new` is `old` or, if a status write is cut, the bits before this write. If "
+        "`Unknown` is cut, `new` may be anything.",
     "Stopped": "`Stopped`: what a failed transaction returns.",
     "SameNature":
         "`SameNature old new`: `honest`, `steady`, `punctual`, `unlimited`, `longer` and, if `honest`, the chip's "
-        "`config` stay.",
+        "`config` are the same.",
     "IsHonestFor":
         "`IsHonestFor out n bus`: the bus is well-behaved, and accepts a transaction of this length: `out` has at most "
         "260 bytes and `n` is at most 4,096 + `bus.longer`, or the bus is `unlimited`. No transaction of the engine "
@@ -98,7 +99,7 @@ NAMES = {
     "unique_of": "`unique_of config`: the chip's unique ID.",
     "SavedSector": "`SavedSector`: the `number` of a saved sector, and its `bytes`.",
     "IsContent":
-        "`IsContent c`: the ID has 3 bytes, the unique ID 8 and the status 2; `is_chip_size` holds for the size. The "
+        "`IsContent c`: the ID has 3 bytes, a unique ID 8 and the status 2; `is_chip_size` holds for the size. The "
         "numbers of the saved sectors ascend and are below size / 4,096; each sector has 4,096 bytes.",
     "text":
         "`text c`: the bytes of the journal (flashnor-journal(5)).",
@@ -114,8 +115,8 @@ NAMES = {
         "`What`: `Write`, `Erase`, or `WpRange start len`, which protects exactly the `len` addresses from `start` on "
         "(none if `len` is 0).",
     "Request":
-        "`Request`: the change (`what`), the `included` spans (at most 64), the required name of the chip (`named`), "
-        "and the flags `verify` (requests *verify*) and `unlock` (permits *unlock*).",
+        "`Request`: the change (`what`), the `included` spans (at most 64), the required name of the chip (`named`, "
+        "if any), and the flags `verify` (requests *verify*) and `unlock` (permits *unlock*).",
     "is_requested":
         "`is_requested request size a`: the request is a write or an erase, and `a` is below `size` and in one of the "
         "included spans, if the request has any.",
@@ -147,9 +148,9 @@ NAMES = {
         "(`RanOut`), error 12 (`errors`).",
 }
 
-# The appendices of STATEMENT-FULL.md: the title of each, what breaks if it is wrong, and the definitions and contracts
-# that it explains, with all their clauses. An appendix has all that these need, except what STATEMENT.md or an earlier
-# appendix has.
+# These are the appendices of STATEMENT-FULL.md. Each has its title, a text that says what breaks if it is wrong, and
+# the definitions and contracts that it explains, with all their clauses. An appendix also has all definitions that
+# these need, except those that STATEMENT.md or an earlier appendix has.
 APPENDICES = {
     "Block protection": (
         "If this is wrong, errors 7 to 10 are wrong for a real chip, and so is the chip's protected range.",
@@ -313,10 +314,11 @@ APPENDICES = {
     ),
 }
 
-# Names of the appendices whose definitions are left out: the results of a run, and the text of a layout.
+# The appendices use these names, but leave out their definitions, which describe the results of a run and the text of a
+# layout.
 ELSEWHERE = {"Work", "Fault", "Answer", "AreIncluded"}
 
-# Prose below an appendix.
+# Each of these texts follows the definitions of its appendix.
 NOTES = {
     "The model of files":
         "`Memory` (files in memory, in nor_files) is proved to keep this contract, so the contract can be kept. "
@@ -333,8 +335,8 @@ NOTES = {
         "promises all this for each job on a chip.",
 }
 
-# The subjects of both pages in their order, and the files whose definitions each of them has. If a definition needs one
-# of a later subject, the order gives way.
+# Both pages have their definitions by these subjects, in this order. Each subject lists the files whose definitions it
+# has. If a definition uses one of a later subject, the order is changed.
 SUBJECTS = {
     "The chip": "nor_geometry: specs/Size nor_model: src/config specs/Makers src/running specs/Sfdp specs/Chip",
     "Protected addresses": "nor_model: specs/Guard specs/Offer",

@@ -1,4 +1,5 @@
-"""Puts definitions into the prose of docs/STATEMENT.md, for scripts/statement.py: quoted from the sources, or described."""
+"""Puts definitions into the prose of docs/STATEMENT.md for scripts/statement.py: quoted from the sources, or
+described."""
 import hashlib
 import itertools
 import re
@@ -10,9 +11,9 @@ PLACE = re.compile(r"\{(quote|describe) ([^}]*)\}")
 
 
 def quoted(names, words, shown):
-    """Returns definitions as the prose of STATEMENT.md has them, by their files. A `-` before a name leaves out the
-    comments, except the one that names the fields that are left out; a `.` only the comment above the definition. The
-    one that names fields begins with `also:` on the page."""
+    """Returns the lines that quote these definitions, grouped by their files. A `-` before a name leaves out its
+    comments, except the one that lists the fields that are left out (`also:` on the page). A `.` leaves out only the
+    comment above the definition."""
     lines, language = [], None
     for path, group in itertools.groupby(names, key=lambda name: words[name.lstrip("-.")].source.path):
         kind, sign = ("", "--") if path.endswith(".antt") else ("rust", "//")
@@ -31,9 +32,9 @@ def quoted(names, words, shown):
 
 
 def placed(prose, shown, described):
-    """Returns the lines of the prose with definitions and descriptions in the places that it has for them: a line
-    `{quote A -B .C}` for definitions, B without comments and C without the one above it, and a line `{describe D}` for a
-    description. Each must have one place."""
+    """Returns the lines of the prose, with definitions and descriptions at their places. A line `{quote A -B .C}` is
+    replaced by the definitions A, B (without comments) and C (without the comment above it), and a line `{describe D}`
+    by the description of D. Each definition and description must have exactly one place."""
     words = {word.name: word for word in shown}
     lines, left = [], {"quote": [word.name for word in shown], "describe": [*described]}
     for line in prose.splitlines():
@@ -52,7 +53,8 @@ def placed(prose, shown, described):
 
 
 def with_digests(prose):
-    """Returns the prose with the SHA-256, in two lines of sixteen bytes, where it has `{digest 4E 4F}`."""
+    """Returns the prose, in which each `{digest 4E 4F}` is replaced by the SHA-256 digest of these bytes, in two lines
+    of sixteen bytes."""
     def digest(match):
         """Returns the digest of the bytes that a match names."""
         code = hashlib.sha256(bytes.fromhex(match[1])).hexdigest().upper()

@@ -1,4 +1,4 @@
-"""Reads the pages and the printed lines of the program, and compares them. Other scripts import this file."""
+"""Reads the pages and the printed lines of the programs, and compares them. Other scripts import this file."""
 import collections
 import re
 import subprocess
@@ -11,17 +11,18 @@ Part = collections.namedtuple("Part", "section title text")
 differing = []
 
 
-# ---- the comparisons
+# ---- These functions compare texts.
 
 
 def differs(message):
-    """Prints a difference, and remembers that there is one."""
+    """Prints a difference, and stores it, so that `finish` ends the script with status 1."""
     print(f"DIFFERS: {message}")
     differing.append(message)
 
 
 def only(what, owner, known, **texts):
-    """Checks that each text has entries on the subject `what`, and none that the text named `owner` lacks."""
+    """Checks that each of `texts` has entries on the subject `what`, and only entries that are in `known`, the entries
+    of the text named `owner`."""
     for text, found in texts.items():
         if not found:
             differs(f"{what}: nothing found in {text}")
@@ -30,7 +31,7 @@ def only(what, owner, known, **texts):
 
 
 def same(what, **texts):
-    """Checks that all texts have the same entries on the subject `what` as the first text, and returns these."""
+    """Checks that all texts have equal entries on the subject `what`. Returns the entries of the first text."""
     (first, known), *others = texts.items()
     if not known:
         differs(f"{what}: nothing found in {first}")
@@ -42,11 +43,11 @@ def same(what, **texts):
 
 
 def finish():
-    """Ends the script, with status 1 if anything differed."""
+    """Ends the script: with status 1 if a difference was printed, otherwise with status 0."""
     sys.exit(len(differing) > 0)
 
 
-# ---- the pages
+# ---- These functions read the pages.
 
 
 def read(path):
@@ -55,12 +56,13 @@ def read(path):
 
 
 def quoted(text):
-    """Returns the texts in backticks."""
+    """Returns the parts of a text that are in backticks."""
     return re.findall(r"`([^`]*)`", text)
 
 
 def cells_of(page):
-    """Returns the cells of a page's tables, each with its line, the heads of its table and the number of its column."""
+    """Returns the cells of all tables on a page. Each has its line, the heads of its table's columns, the number of its
+    column, and its text."""
     found, heads = [], None
     for number, line in enumerate(read(page).splitlines(), 1):
         row = [cell.strip() for cell in re.split(r"(?<!\\)\|", line)[1:-1]] if line.startswith("|") else None
@@ -74,7 +76,7 @@ def cells_of(page):
 
 
 def rows_of(page, head):
-    """Returns the rows of those tables of a page whose first column has the given head."""
+    """Returns the rows of all tables of a page whose first column has the given head."""
     rows = collections.defaultdict(list)
     for number, heads, _, cell in cells_of(page):
         if heads[0] == head:
@@ -83,7 +85,7 @@ def rows_of(page, head):
 
 
 def manual(path):
-    """Returns the sections and parts of a manual page, without fonts."""
+    """Returns the sections and subsections of a manual page, without font changes."""
     text = re.sub(r"\\f[BIR]|\\%", "", read(path)).replace("\\-", "-").replace("\\(dq", '"')
     parts, section = [], ""
     for kind, title, body in re.findall(r"(?m)^\.S([HS]) (.*)\n((?:(?!\.S[HS] ).*\n)*)", text):
@@ -93,31 +95,32 @@ def manual(path):
 
 
 def tags(parts, section):
-    """Returns the tagged paragraphs of a section of a manual page: each tag with its text."""
+    """Returns the tagged paragraphs (.TP) in a section of a manual page: each tag with its text."""
     text = "".join(part.text for part in parts if part.section == section)
     return {tag: " ".join(body.split()) for tag, body in
             re.findall(r"(?m)^\.TP.*\n(.*)\n((?:(?!\.(?:TP|PP|SS)).*\n)*)", text)}
 
 
 def rows(parts, title):
-    """Returns the numbered rows of the tables of a part of a manual page: the number, and the next cell. A row without
-    a number continues the cell, after a vertical tab."""
+    """Returns the numbered rows of the tables in a part of a manual page: each number with the next cell. A row without
+    a number continues the cell above it, after a vertical tab."""
     text = "".join(part.text for part in parts if part.title.startswith(title))
     text = re.sub(r"T\{\n(.*?)\nT\}", lambda cell: cell[1].replace("\n", " "), text, flags=re.S)
     return dict(re.findall(r"(?m)^(\d+)\t([^\t\n]*)", text.replace("\n\t", "\v")))
 
 
 def running(parts):
-    """Returns the text of a manual page in one line, without its examples."""
+    """Returns the text of a manual page as one line, without its examples."""
     text = re.sub(r"(?ms)^\.EX$.*?^\.EE$", "", "".join(part.text for part in parts))
     return " ".join(re.sub(r"(?m)^\.\S+|T[{}]", " ", text).split())
 
 
-# ---- what the program prints
+# ---- These functions return what the program prints.
 
 
 def printed():
-    """Returns the cases with their printed lines, which `make runs` compares with the program."""
+    """Returns the text of all cases in tests/flashnor/cases, without the marks `! `. `make runs` compares the lines in
+    it with what the program prints."""
     cases = "".join(path.read_text(encoding="utf-8") for path in sorted((TOP / "tests/flashnor/cases").glob("*.case")))
     return re.sub(r"(?m)^! ", "", cases)
 
@@ -128,13 +131,13 @@ def printed_by(*words):
 
 
 def help_text(program):
-    """Returns the help that the program prints, or, without a program, its case."""
+    """Returns the help that the program prints. If `program` is None, returns the help in tests/flashnor/cases."""
     if program:
         return printed_by(program, "-h")
     return re.sub(r"(?m)^\| ?", "", re.search(r"(?m)^after help:\n((?:\|.*\n)*)", printed())[1])
 
 
-# ---- the sources
+# ---- These functions read the sources.
 
 
 def tokens(path):
@@ -143,5 +146,5 @@ def tokens(path):
 
 
 def strings(path):
-    """Returns the strings of a source below crates/."""
+    """Returns the string literals of a source below crates/."""
     return [token.text[1:-1] for token in tokens(path) if token.text[0] == '"']

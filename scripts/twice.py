@@ -1,33 +1,34 @@
 #!/usr/bin/env python3
-"""scripts/twice.py: checks that no two definitions of crates/*/specs have one name, except those of ALLOWED.
+"""scripts/twice.py: checks that no two definitions of crates/*/specs have equal names, except those of ALLOWED.
 
-A definition is what `pub` exports: a record, a type, an abbreviation or a function. Each name that two definitions have
-is printed with its places, also each name of ALLOWED that only one has; then the exit status is 1.
+A definition is a record, type, abbreviation or function that `pub` exports. For each name that two definitions have,
+the script prints their places. It also prints each name of ALLOWED that doesn't have two definitions. If it printed a
+name, it ends with exit status 1.
 """
 import collections
 import re
 import sys
 
-sys.dont_write_bytecode = True  # so that no other file is created in scripts/
+sys.dont_write_bytecode = True  # so that Python creates no files in scripts/
 import texts
 from sources import CRATES, TOP
 
 DEFINED = re.compile(r"^(?=.*\bpub\b)(?:(?:pub|abbrev|unfoldable|pattern) )+(?:(?:record|data) )?(?!use |mod )(\S+)", re.M)
-# The names that stay, each group with the reason.
+# These names may have two definitions. Each group has the reason.
 ALLOWED = {
-    # the states of two buses of nor_serprog, which differ in what they send: each reads them from its own fields
+    # Two buses of nor_serprog send different bytes, so each has these definitions for its own state.
     *"cause_of is_ready link_of polled_ready_of port_in sent_of serprog_state".split(),
-    # the history of each kind of bus
+    # Each kind of bus has its own history.
     "history_of",
-    # the IDs of the rows that two buses of nor_buses were given: each reads them from its own field
+    # Two buses of nor_buses were given rows of the table of chips. Each reads their IDs from its own field.
     "rows_of",
-    # the errors of a restore, by a choice: of the bench program, and of a call over a port
+    # The restores of board_jobs and of serprog_session end with different errors.
     "FailsBy",
 }
 
 
 def definitions():
-    """Returns the places of the definitions of each name."""
+    """Returns the names of all definitions, each with the places of its definitions."""
     found = collections.defaultdict(list)
     for path in sorted(CRATES.glob("*/specs/**/*.antt")):
         text = path.read_text(encoding="utf-8")
@@ -38,7 +39,7 @@ def definitions():
 
 
 def main():
-    """Prints each name that is defined twice, and those that ALLOWED has without need."""
+    """Prints each name that is defined twice without permission, and each name of ALLOWED that isn't defined twice."""
     found = definitions()
     twice = {name for name, places in found.items() if len(places) > 1}
     for name in sorted(twice - ALLOWED):

@@ -1,10 +1,10 @@
 #!/usr/bin/env bash
 # scripts/unproved.sh CRATE FILE: compiles the program of a crate without proving it, and writes it to FILE.
 #
-# `rt try` compiles a program and removes it. So the script runs `rt` in a directory of links to the kit, where only the
-# linker is a script: it calls the kit's linker, and copies what was linked. The program has the checks of `rt try`,
-# which make it about ten times slower. If it isn't compiled, the script prints what `rt` printed, and leaves FILE as it
-# was.
+# `rt try` compiles a program, and removes it afterwards. So the script runs `rt` in a directory of links to the kit, in
+# which only the linker is replaced: by a script that calls the kit's linker, and then copies the linked program. This
+# program has the runtime checks of `rt try`, which make it about ten times slower. If it doesn't compile, the script
+# prints what `rt` printed, and leaves FILE as it was.
 set -euo pipefail
 
 crate=$1
@@ -14,7 +14,7 @@ kit=${kit%/bin/*}
 work=$(mktemp -d)
 trap 'rm -rf "$work"' EXIT
 
-# link_all NAME: makes a directory of links to what is in this directory of the kit.
+# link_all NAME: makes a directory of links to the contents of the directory NAME of the kit.
 link_all() {
     mkdir "$work/kit/$1"
     ln -s "$kit/$1"/* "$work/kit/$1"
@@ -28,7 +28,7 @@ for name in bin toolchain; do
 done
 rm -f "$work/kit/toolchain/bin"
 link_all toolchain/bin
-# `rt` looks for the kit where its own files are, so its scripts are copied.
+# `rt` looks for the kit where its own files are, so its scripts are copied, not linked.
 find "$kit/bin" -type f -size -1024k -exec cp -f --remove-destination {} "$work/kit/bin" \;
 linker=$work/kit/toolchain/bin/ld.lld
 rm -f "$linker"

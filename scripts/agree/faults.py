@@ -1,28 +1,31 @@
 """scripts/agree/faults.py: checks that the pages have the lines that the program prints for results and faults, and the
-numbers of the faults. Results and errors are read from the sources, since no case prints the errors in `REAL`. All
-other lines are read from the cases."""
+numbers of the faults.
+
+The lines of results and errors are read from the sources, since no case prints the errors in REAL. All other lines are
+read from the cases.
+"""
 import re
 
 import rust
 from texts import finish, help_text, manual, only, printed, quoted, read, rows, rows_of, same, tokens
 
 OPTION = r"(?<![^\s])(?:--?[a-zA-Z][-a-z]*|[a-z]+=)"
-# The numbers of the errors that occur only on real chips: flashnor-serprog(8) describes them.
+# These errors occur only on real chips, so only flashnor-serprog(8) describes them.
 REAL = 1, 2, 13
 
 
 def blank(text):
-    """Returns a text in which `_` replaces each number, name and placeholder."""
+    """Returns a text with `_` in place of each number, name and placeholder."""
     return re.sub(r"(0x)?\{[^}]*\}|\b0x\w+\b|\b[0-9a-f]{6}\b|\b\d+\b|\b[A-Z][A-Z0-9]*\b(?! fault)", "_", text)
 
 
 def line_of(number, reason):
-    """Returns the line of an error."""
+    """Returns the line of an error, with this number and this reason."""
     return f"Error {number}: {blank(reason)}."
 
 
 def refusals(without=()):
-    """Returns the lines of the errors in nor_request, without those that have these numbers."""
+    """Returns the lines of the errors in nor_request, except those with the numbers in `without`."""
     numbers, reasons = {}, {}
     for name, word in rust.arms(tokens("nor_request/src/refusal.rt"), "Refusal"):
         (reasons if word[0] == '"' else numbers)[name] = word.strip('"')
@@ -32,7 +35,8 @@ def refusals(without=()):
 
 
 def take_lines(page):
-    """Compares the lines of faults with the manual page, and checks the errors that pages show anywhere."""
+    """Compares the lines of errors and other faults with the manual page, and checks the errors that README,
+    flashnor(8) and flashnor-journal(5) show."""
     same("lines of errors", sources=refusals(REAL), pages={line_of(*row) for row in rows(page, "Refusals").items()})
     errors = refusals()
     fault = r"(?:Usage|Layout|File) fault (?:\d+|K)(?:: [^\"\n]*| at line \w+)?\."
@@ -47,7 +51,7 @@ def take_lines(page):
 
 
 def take_answers():
-    """Compares the lines of results with SPECIFICATION, and checks that the examples have no other lines."""
+    """Compares the lines of results with SPECIFICATION, and checks that the examples have no other such lines."""
     words = [token.text for token in tokens("nor_console/src/printing.rt")]
     lines = {words[at + 5].strip('"') for at in range(len(words)) if words[at : at + 3] == ["writeln", "!", "("]}
     inserted = "|".join(word[1:-1] for word in words if re.fullmatch(r'"[a-z]+"', word))
@@ -55,7 +59,7 @@ def take_answers():
     def filled(line):
         return re.sub(rf"\b(?:{inserted})\b", "_", blank(line))
     jobs = [text for row in rows_of("docs/SPECIFICATION.md", "Job") for text in quoted(row[1])]
-    # "{}{fault}" is a fault after its cause.
+    # The format "{}{fault}" prints a fault after its cause, so it is no line of a result.
     answers = same("lines of results", program={filled(line) for line in lines} - {"__"},
                    SPECIFICATION={filled(line) for line in jobs})
     examples = "".join(re.findall(r"(?ms)^```$(.*?)^```$", read("README.md")))
@@ -67,7 +71,7 @@ def take_answers():
 
 
 def take_numbers(page):
-    """Compares the numbers of each kind of fault on its page and in its source."""
+    """Compares the numbers of each kind of fault on its page with those in its source."""
     journal = manual("man/flashnor-journal.5")
     sfdp = [row[0] for row in rows_of("docs/SPECIFICATION.md", "SFDP fault")]
     for kind, path, found in (
@@ -81,7 +85,7 @@ def take_numbers(page):
 
 
 def take_options(page):
-    """Checks that the manual page names no option at a usage fault that the help doesn't name there."""
+    """Checks that for each usage fault, the manual page names only options that the help names for this fault."""
     found = {name: {f"{number} {option}" for number, text in faults for option in re.findall(OPTION, text)}
              for name, faults in (("help", re.findall(r"(?m)^Usage fault (\d+): (.*)", help_text(None))),
                                   ("manual", rows(page, "Usage faults").items()))}

@@ -1,6 +1,8 @@
-"""scripts/agree/hardware.py: checks that flashnor-serprog(8), HARDWARE and the completion have the options, keys,
-printed lines and faults of the program for serial programmers. All of these are read from the sources. tests/serprog
-runs the examples of the manual page."""
+"""scripts/agree/hardware.py: checks that flashnor-serprog(8) has the options, keys, printed lines and faults of the
+program for serial programmers, and that the completion, SPECIFICATION and HARDWARE agree with it in part.
+
+What the program has is read from the sources. tests/serprog runs the examples of the manual page.
+"""
 import re
 
 import rust
@@ -11,10 +13,10 @@ from words import completed, in_bytes
 
 NAME = "flashnor-serprog"
 PAGE = "man/flashnor-serprog.8"
-# The crates whose lines only this program prints.
+# Only flashnor-serprog prints the lines of these crates.
 OWN = "board_progress", "board_files", "board_jobs", "flashnor_serprog"
-# Faults of an exchange, and of a handshake, that this program can't cause: it sends no frame that is too long, reports
-# only the first failure, and reads through a bus that splits reads.
+# This program can't cause these faults of an exchange and of a handshake, because it sends no frame that is too long,
+# reports only the first failure, and reads through a bus that splits reads.
 IMPOSSIBLE = "TooLong", "OutOfStep", "CutFrame", "ReadLimit"
 
 
@@ -30,7 +32,8 @@ def codes(*crates):
 
 
 def options():
-    """Returns the options of a program for hardware: for each one its spellings, and the name of its value."""
+    """Returns the options of the program for serial programmers. Each has the list of its spellings, and the name of
+    its value."""
     text = code("nor_args/src/options.rt") + code("nor_args/src/options/hardware.rt")
     left_out = re.findall(r'name != "([-a-z]+)"', text)
     renamed = dict(re.findall(r'self\.name == "([-a-z]+)" \{\s*option\.long\("([-a-z]+)"\)', text))
@@ -48,7 +51,7 @@ def options():
 
 
 def take_options(page):
-    """Compares options, with the names of their values."""
+    """Compares the options and the names of their values."""
     known = options()
     spelled = {f"{spelling} {value}".strip() for spellings, value in known for spelling in spellings}
     found = {it for tag in tags(page, "OPTIONS") for it in tag.split(", ")}
@@ -67,7 +70,7 @@ def take_options(page):
 
 
 def take_chips(_):
-    """Compares the rows that apply to real chips, and the names for `-c`, which `-L` lists."""
+    """Compares the rows of the table that apply to real chips, and the names for `-c`, which `-L` lists."""
     text = code("nor_probe/src/table.rt")
     texts = dict(re.findall(r'ChipName::(\w+) => "([^"]+)"', text))
     table = [(texts[name], number.replace(", 0x", " "), int(size.replace("_", "")))
@@ -87,7 +90,7 @@ def take_chips(_):
 
 
 def take_keys(page):
-    """Compares the keys of `-p`, with the names of their values."""
+    """Compares the keys of `-p` and the names of their values."""
     keys = re.findall(r"(?m)^  ([a-z]+=[A-Z]+) ", code("flashnor_serprog/src/help.rt"))
     same("keys for hardware", help=keys, manual=tags(page, "PROGRAMMER"))
     words = [token.text for token in tokens("flashnor_serprog/src/setting.rt")]
@@ -100,7 +103,7 @@ def take_keys(page):
 
 
 def take_names(page):
-    """Compares the name of the program and its version, and the setting of the port."""
+    """Compares the name of the program, its version, and the setting of the port."""
     text = code("flashnor_serprog/src/help.rt")
     same("name of the program", help=re.findall(r'program: "(.*?)"', text), definition=re.findall(
         r'(?m)^program = codes "(.*)"', (CRATES / "flashnor_serprog/specs/Run.antt").read_text(encoding="utf-8")),
@@ -157,7 +160,7 @@ def take_numbers(page):
 
 
 def main():
-    """Compares all."""
+    """Compares everything that this script checks."""
     page = manual(PAGE)
     for take in take_options, take_chips, take_keys, take_names, take_lines, take_numbers:
         take(page)

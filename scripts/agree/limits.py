@@ -1,7 +1,7 @@
 """scripts/agree/limits.py: checks that the numbers on the pages are those of the sources.
 
-The list in `limits` has the value of each number, and the words around the number on the pages, with `#` in place of
-the number. At least one page must have these words, and every page that has them must have the value there.
+`limits` lists each number with the words around it on the pages, in which `#` stands for the number. At least one page
+must have these words, and each page that has them must have the right number in them.
 """
 import re
 
@@ -16,42 +16,43 @@ PAGES = {
 
 
 def fail(path, what):
-    """Ends the script, since a number isn't found in the sources."""
+    """Ends the script, because the sources don't contain the constant or call `what`."""
     raise SystemExit(f"DIFFERS: limits: crates/{path} has no {what}")
 
 
 def item(path, name):
-    """Returns the tokens of a constant or function of a source."""
+    """Returns the tokens of the constant or function with this name in a source."""
     found = (it.tokens for it in rust.items(tokens(path)) if it.kind in ("const", "fn") and it.name == name)
     return next(found, None) or fail(path, name)
 
 
 def constant(path, name):
-    """Returns a constant of a source: the last number of its expression, or a shift of 1 by it."""
+    """Returns the value of a constant in a source: the last number in its expression or, for a shift of 1, `1 <<
+    number`."""
     words = [token.text for token in item(path, name)]
     numbers = [number for word in words[words.index("=") :] if (number := rust.number_of(word)) is not None]
     return 1 << numbers[-1] if numbers[:-1] == [1] else numbers[-1]
 
 
 def numeral(*start):
-    """Returns the next argument of a call of `read_numeral` that has these first arguments."""
+    """Returns the argument that follows these first arguments in a call of `read_numeral`."""
     path, call = "nor_args/src/numbers.rt", f"read_numeral({', '.join(start)},"
     return rust.number_after(tokens(path), call) or fail(path, call)
 
 
 def bound(path, name):
-    """Returns the value of a definition of specs/ that is a number."""
+    """Returns the value of a definition in specs/ whose value is a number."""
     return int(source(path).word(name).code[-1].split()[-1])
 
 
 def limits():
-    """Returns the name, the value and the words of each number."""
+    """Returns the name, the value and the words for each number."""
     chip, files, region = "nor_geometry/src/limits.rt", "nor_console/src/files.rt", "nor_layout/src/region.rt"
     sector, digest = constant(chip, "SECTOR_LEN"), constant("nor_journal/src/records.rt", "DIGEST_LEN")
     image, polls = constant(files, "MOST_IMAGE_BYTES"), constant("nor_driver/src/waits.rt", "MOST_POLLS")
     unique = rust.number_after(item("nor_args/src/numbers.rt", "read_unique"), "[u8;")
     few = re.search(r"\bfew\s*:\s*ending\.status\s*≤\s*(\d+)", (CRATES / "flashnor/specs/Run.antt").read_text("utf-8"))
-    # A record begins with the sector's number in four bytes. The end mark takes the place of such a number.
+    # A record begins with the number of its sector, in four bytes. The end mark takes the place of this number.
     mark = 4
     return [
         ("bytes of an image", image, r"(?:image is read up to|I is at most|its length is reported as) #"),
@@ -84,7 +85,7 @@ def limits():
 
 
 def compare(what, value, words, texts):
-    """Compares a number on each page that has the words around it."""
+    """Compares a number with the number on each page that has these words."""
     front, back = words.split("#")
     found = [(name, number) for name, text in texts.items()
              for number in re.findall(rf"{front}\b(\d[\d,]*\b){back}", text)]

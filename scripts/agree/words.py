@@ -1,6 +1,8 @@
 """scripts/agree/words.py [PROGRAM]: checks that the pages and the completion have the options, keys, chips and version
-of the program. The script runs the completion. It does not read the examples of README and of the manual pages, which
-`make runs` runs."""
+of the program.
+
+The script runs the completion. It doesn't read the examples of README and of the manual pages, which `make runs` runs.
+"""
 import pathlib
 import re
 import sys
@@ -17,8 +19,8 @@ COMPLETE = """COMP_WORDBREAKS=' ' COMP_LINE=$2 COMP_POINT=${#2} COMP_WORDS=($2) 
 
 
 def completed(line, program="flashnor"):
-    """Returns what the completion offers after a line of the program, in a directory that contains only the directory
-    `there`."""
+    """Returns the words that the completion offers after this command line. The current directory contains only the
+    directory `there`."""
     with tempfile.TemporaryDirectory() as folder:
         pathlib.Path(folder, "there").mkdir()
         file = TOP / "completion/flashnor.bash"
@@ -27,18 +29,18 @@ def completed(line, program="flashnor"):
 
 
 def in_bytes(text):
-    """Returns the bytes of a size such as `64 KiB`."""
+    """Returns the number of bytes in a size such as `64 KiB`."""
     number, unit = text.split()
     return int(number) * {"KiB": 1 << 10, "MiB": 1 << 20}[unit]
 
 
 def sizes_in(text):
-    """Returns the names in a text that their sizes follow in brackets, with the sizes in bytes."""
+    """Returns the names in a text that are followed by a size in parentheses, each with its size in bytes."""
     return {(chip, str(in_bytes(size))) for chip, size in re.findall(r"(\w+) \((\d+ [KM]iB)", text)}
 
 
 def take_options(told, page):
-    """Compares options, with the names of their values."""
+    """Compares the options and the names of their values."""
     listed = re.search(r"(?ms)^Options:\n(.*?)\n\n", told)[1]
     options = {" ".join(option).strip() for option in re.findall(r"(?m)^ +(-[-a-zA-Z]+)(?: <(.*?)>)?", listed)}
     synopsis = " ".join(part.text for part in page if part.section == "SYNOPSIS")
@@ -60,7 +62,7 @@ def take_options(told, page):
 
 
 def take_keys(told, page):
-    """Compares the keys of `-p`, with the names of their values."""
+    """Compares the keys of `-p` and the names of their values."""
     keys = re.findall(r"(?m)^  ([a-z]+=[A-Z]+) ", told)
     same("keys with values", help=keys, manual=tags(page, "PROGRAMMER"))
     only("keys with values", "help", keys, FLASHROM=[
@@ -92,8 +94,8 @@ def take_chips(told, page, program):
 
 
 def take_versions(told):
-    """Compares the version, which the program prints in its help, and the kit, if one is installed. README names the
-    kits with which the gate passed; they have one logic."""
+    """Compares the version in the help with the sources, the Makefile, the manual and CHANGELOG. If Rattle's kit is
+    installed, also checks that README names this kit (`rt version`) and its logic, the same for all kits there."""
     makefile = printed_by("make", "-s", "--no-print-directory", "--eval", "told: ; @echo $(VERSION)", "told")
     same("version", parser=re.findall(r"(?m)^flashnor ([\d.]+):", "\n".join(strings("nor_args/src/options.rt"))),
          help=re.findall(r"\Aflashnor ([^:]*):", told), Makefile=[makefile.strip()],

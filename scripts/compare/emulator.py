@@ -1,7 +1,7 @@
-"""QEMU's chip w25q64 at the flash controller of its board ast2500-evb, driven by QEMU's protocol qtest.
+"""Drives QEMU's chip w25q64 at the flash controller of the board ast2500-evb, with QEMU's protocol qtest.
 
 The processor of the board never runs. The controller is in its user mode: while chip select is low, each byte that is
-written to the controller's window goes to the chip, and each byte that is read there comes from the chip.
+written to the controller's window goes to the chip, and each byte that is read from the window comes from the chip.
 """
 import base64
 import subprocess
@@ -10,15 +10,15 @@ import traces
 
 QEMU = "qemu-system-arm"
 CONFIGURATION, CONTROL, WINDOW = 0x1E620000, 0x1E620010, 0x20000000
-# Values of the controller's registers: chip 0 is SPI flash and may be written; user mode with chip select low, and
-# high.
+# These are values of the controller's registers. WRITABLE says that chip 0 is SPI flash and may be written. LOW and
+# HIGH select user mode, with chip select low and high.
 WRITABLE, LOW, HIGH = 0x00010002, 0x3, 0x7
 CLEAR_LATCH = b"\x04"
 
 
 class Emulator:
-    """A running QEMU whose chip has the bytes of the file `image`."""
-    # The bits of status 1 that this chip has: it lacks TB and SEC.
+    """A running QEMU, whose chip has the bytes of the file `image`."""
+    # This chip has only these bits of status 1: TB and SEC are missing.
     kept = 0x9F
 
     def __init__(self, image):
@@ -32,8 +32,8 @@ class Emulator:
         return self
 
     def __exit__(self, *_):
-        """Ends QEMU, which writes its chip's file. Closes the pipes to it only afterwards, since QEMU prints an error
-        otherwise."""
+        """Ends QEMU, which then writes the file of its chip. Closes the pipes only afterwards, because QEMU prints an
+        error otherwise."""
         self.process.terminate()
         self.process.wait()
         self.process.communicate()
@@ -49,10 +49,10 @@ class Emulator:
         return answers
 
     def exchange(self, sent, count):
-        """Carries out a transaction: sends the bytes `sent`, and returns `count` bytes received.
+        """Carries out a transaction: sends the bytes `sent`, and returns the `count` bytes that the chip replies.
 
-        A program or an erase clears the write enable latch of a real chip, but not that of QEMU's chip, so this
-        function clears it afterwards.
+        A program or an erase clears the write enable latch of a real chip, but not that of QEMU's chip. So this
+        function clears the latch afterwards.
         """
         commands = [f"writel {CONTROL} {LOW}", f"write {WINDOW} {len(sent)} 0x{sent.hex()}"]
         if count:

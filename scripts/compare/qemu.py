@@ -1,15 +1,16 @@
 #!/usr/bin/env python3
-"""scripts/compare/qemu.py [PROGRAM [COUNT]]: sends what flashnor sends to a chip that QEMU emulates, and compares.
+"""scripts/compare/qemu.py [PROGRAM [COUNT]]: sends the transactions of flashnor to a chip that QEMU emulates, and
+compares both chips.
 
-The script traces random sessions of flashnor on its W25Q64FV, most of them stopped, and restores from their journals,
-some of them stopped too. It sends each trace to QEMU's `w25q64`, which begins with the same bytes. After each session
-and restore both chips must hold the same bytes, and after the last restore the original ones. The replies of QEMU's
-chip to 9Fh, 05h and 03h must be those that flashnor received, as far as the trace, or the bytes before and after it,
-show them.
+The script runs random sessions of flashnor on its W25Q64FV, most of which are stopped, and restores from their
+journals, some of which are stopped, too. It sends the trace of each run to QEMU's chip `w25q64`, which has the same
+bytes at the start. After each run both chips must have the same bytes, and after the last restore the original bytes.
+The replies of QEMU's chip to 9Fh, 05h and 03h must be those that flashnor received, as far as the trace, or the bytes
+before and after it, show them.
 
-Before that the script checks that it detects traces with a fault. At the end it prints what it does not compare, since
-QEMU's chip lacks it. Everything is drawn from the numbers of the sessions, so each run does the same. This is no part
-of the gate, since it needs QEMU.
+Before that, the script checks that it detects traces with an error. At the end it prints what it does not compare
+because QEMU's chip doesn't have it. The numbers of the sessions are the seeds of all random choices, so each run of the
+script does the same. The merge gate doesn't run this script, because it needs QEMU.
 """
 import collections
 import os
@@ -20,14 +21,14 @@ import sys
 import tempfile
 from pathlib import Path
 
-sys.dont_write_bytecode = True  # so that no other file is created in scripts/
+sys.dont_write_bytecode = True  # so that Python creates no files in scripts/
 import emulator
 import traces
 
 TOP = Path(__file__).resolve().parents[2]
 SIZE, SECTOR = 1 << 23, 4096
 KINDS = "bytes", "bits", "blocks", "part", "erase", "whole", "unlock", "range"
-# Opcodes that must have been sent.
+# flashnor must have sent each of these opcodes.
 OPCODES = "01 02 03 05 06 20 35 4b 52 9f c7 d8".split()
 LEFT_OUT = """\
 left out: the replies to 35h and 4Bh, and SEC and TB in those to 05h: that chip has no second status byte, no number of
@@ -37,7 +38,7 @@ power, and has no SFDP; a program that would wrap in its page is none that flash
 
 
 class Case:
-    """A chip's original bytes and status, and a session on it, drawn from its number."""
+    """A chip's original bytes and status, and a session on this chip. The number of the case determines all of them."""
 
     def __init__(self, number):
         self.random = random.Random(number)
@@ -51,7 +52,8 @@ class Case:
         getattr(self, f"make_{self.kind}")()
 
     def first_bytes(self):
-        """Returns random bytes. For an erase of the whole chip, returns FFh except for one byte in each sector."""
+        """Returns random bytes. If the session erases the whole chip, returns FFh except for one byte in each
+        sector."""
         if self.kind != "whole":
             return self.random.randbytes(SIZE)
         found = bytearray(b"\xff" * SIZE)
@@ -60,7 +62,7 @@ class Case:
         return bytes(found)
 
     def change(self, start, length):
-        """Writes random bytes into the image, up to its end."""
+        """Writes `length` random bytes into the image, but none past its end."""
         length = max(0, min(length, SIZE - start))
         self.image[start : start + length] = self.random.randbytes(length)
 
@@ -75,11 +77,12 @@ class Case:
             self.image[place] &= self.random.randrange(256)
 
     def make_blocks(self):
-        """Changes enough successive bytes to contain a block of 64 KiB, or one of 32 KiB."""
+        """Changes 140,000 successive bytes, which contain a block of 64 KiB, or 70,000, which contain one of 32 KiB."""
         self.change(self.random.randrange(SIZE - 150_000), self.random.choice([70_000, 140_000]))
 
     def make_part(self):
-        """Makes a layout with four regions, includes two, and changes bytes in and around them."""
+        """Makes a layout with four regions, of which the session includes two, and changes bytes in and around all
+        four."""
         starts = [self.random.randrange(SIZE - 60_000) for _ in range(4)]
         ends = [start + self.random.randrange(60_000) for start in starts]
         regions = enumerate(zip(starts, ends))
@@ -103,7 +106,7 @@ class Case:
         self.words.append("--unlock")
 
     def make_range(self):
-        """Protects the last 128 KiB times a power of two, on a chip that has all or nothing protected."""
+        """Protects the last 128 KiB to 4 MiB (a power of two) of a chip that has either no byte protected or all."""
         length = 1 << self.random.randint(17, 22)
         self.status = bytes([self.random.choice([0, 0x1C]), 0])
         self.words = ["--wp-range", f"{SIZE - length},{length}"]
@@ -122,7 +125,7 @@ class Bench:
         return self.folder / name
 
     def lay(self, case):
-        """Creates the files of a case, including that of QEMU's chip."""
+        """Creates the files of a case, including the file of QEMU's chip."""
         for name in os.listdir(self.folder):
             self.path(name).unlink()
         files = {"nor": case.first, "qemu": case.first, "image": case.image, "status": case.status}
@@ -131,7 +134,8 @@ class Bench:
         self.path("layout").write_text(case.layout, encoding="ascii")
 
     def run(self, words, stop=None):
-        """Runs flashnor on its chip. Returns the trace, and whether the run ended without a stop."""
+        """Runs flashnor on its chip, with the key `stop` if `stop` is given. Returns the trace, and whether the run
+        succeeded."""
         keys = "dummy:emulate=W25Q64FV,image=nor,status=status,trace=trace" + (f",stop={stop}" if stop else "")
         ran = subprocess.run([self.program, "-p", keys, *words], cwd=self.folder, capture_output=True, text=True,
                              check=False)
@@ -141,8 +145,8 @@ class Bench:
         return traces.read_trace(self.path("trace").read_text(encoding="ascii")), ended
 
     def replay(self, chip, before, transactions):
-        """Sends the transactions of a run to QEMU's chip. Returns the differences of the replies, and of the bytes
-        afterwards."""
+        """Sends the transactions of a run to QEMU's chip. Returns the differences in the replies, and in the bytes and
+        the status afterwards."""
         after = self.path("nor").read_bytes()
         compared, found = traces.play(chip, transactions, before, after)
         self.counts["transactions"] += len(transactions)
@@ -158,7 +162,7 @@ class Bench:
         return found
 
     def start(self, case):
-        """Starts QEMU with the chip of a case."""
+        """Starts QEMU with the chip of a case, and sets the status of this chip."""
         chip = emulator.Emulator(self.path("qemu"))
         for sent in (b"\x06", b"\x01" + case.status):
             chip.exchange(sent, 0)
@@ -192,7 +196,7 @@ class Bench:
 
 
 def faulty(transactions):
-    """Returns variants of a trace with one fault each: the name of the fault, and the transactions."""
+    """Returns variants of a trace, each with one error: the description of the error, and the transactions."""
     def first(is_it):
         return next(number for number, it in enumerate(transactions) if is_it(it))
 
@@ -216,8 +220,8 @@ def faulty(transactions):
 
 
 def try_faults(bench):
-    """Checks that a trace without a fault is reported as the same, and each trace with a fault as different. Returns
-    the failures."""
+    """Checks that `replay` reports no difference for a trace without an error, and a difference for each trace with an
+    error. Returns the failures."""
     case = Case(KINDS.index("part"))
     bench.lay(case)
     transactions, _ = bench.run([*case.words, "--journal", "journal"])

@@ -1,9 +1,10 @@
 #!/usr/bin/env bash
 # scripts/compare/rows.sh [PROGRAM]: runs flashrom and flashnor for most rows of docs/FLASHROM.md.
 #
-# Each row has arguments that flashrom accepts or refuses, and arguments that flashnor accepts or refuses; a refusal is
-# recognized by its printed line. Each option that docs/FLASHROM.md names must be tried by some row. The exit status is
-# 1 if anything differs from the page. This is no part of the gate, since it needs flashrom.
+# Each row has arguments that flashrom accepts or refuses, and arguments that flashnor accepts or refuses. The script
+# recognizes a refusal by the printed line. Each option that docs/FLASHROM.md names must be tried by a row. The exit
+# status is 1 if a program does something else than the page says. The merge gate doesn't run this script, because it
+# needs flashrom.
 set -euo pipefail
 
 top=$(cd "$(dirname "$0")/../.." && pwd)
@@ -34,8 +35,8 @@ wrong() {
     failed=$((failed + 1))
 }
 
-# Creates the files that each row begins with: chips full of FFh, an image of these and its first 4 KiB, another image
-# whose first 8 KiB differ, and a layout of these.
+# Creates the files that each row needs at the start: chips full of FFh, an equal image and its first 4 KiB, another
+# image whose first 8 KiB differ, and a layout of two regions of 4 KiB.
 lay() {
     rm -rf -- *
     head -c $size /dev/zero | tr '\000' '\377' > image
@@ -47,7 +48,8 @@ lay() {
     printf '000000:000fff a\n001000:001fff b\n' > layout
 }
 
-# run PROGRAM ARGUMENTS..: runs the program with its output in the file `said`. Its standard input is the image.
+# run PROGRAM ARGUMENTS..: runs the program with the image as its standard input, and with its output in the file
+# `said`. Notes the options for `all_tried`.
 run() {
     local word
     runs=$((runs + 1))
@@ -55,8 +57,8 @@ run() {
     "$@" < image > said 2>&1
 }
 
-# Runs flashrom. Its chip is that of flashnor, unless `chip` is set. flashrom gets the name of its chip, which makes it
-# faster, unless `any` is set.
+# rom ARGUMENTS..: runs flashrom on a W25Q128FV with the file rom.bin, or on the chip that `chip` names. flashrom also
+# gets its own name for the chip, which makes it faster, unless `any` is set.
 rom() {
     local named=(--chip W25Q128.V)
     [[ -z ${any+set} ]] || named=()
@@ -64,13 +66,13 @@ rom() {
 }
 nor() { run "$program" -p "dummy:emulate=${chip:-W25Q128FV,image=nor.bin}" "$@"; }
 
-# takes WHO ARGUMENTS..: the program accepts these arguments, and ends with status 0.
+# takes WHO ARGUMENTS..: checks that the program (`rom` or `nor`) accepts these arguments, and ends with status 0.
 takes() {
     "$@" || wrong "${*@Q} isn't taken: $(tail -n 1 said)"
 }
 
-# refuses TEXT WHO ARGUMENTS..: the program prints the text, and ends with another status than 0. For flashnor the text
-# is the last line.
+# refuses TEXT WHO ARGUMENTS..: checks that the program (`rom` or `nor`) prints TEXT, and doesn't end with status 0. For
+# flashnor, TEXT must be the last line.
 refuses() {
     local text=$1
     shift
@@ -83,25 +85,25 @@ refuses() {
     fi
 }
 
-# both ARGUMENTS..: both programs accept these arguments.
+# both ARGUMENTS..: checks that both programs accept these arguments.
 both() {
     takes rom "$@"
     takes nor "$@"
 }
 
-# Checks that the last run printed this text.
+# says TEXT: checks that the last run printed TEXT.
 says() { grep -qF -e "$1" said || wrong "$1 isn't said, but: $(tail -n 1 said)"; }
 
 is_same() { cmp -s -- "$1" "$2" || wrong "$1 and $2 differ"; }
 
-# Begins a new row.
+# row NAME: starts a new row.
 row() {
     row=$1
     rows=$((rows + 1))
     lay
 }
 
-# The line that flashnor prints for an argument that it doesn't have.
+# flashnor prints this line if it doesn't know an option.
 unknown='Usage fault 1.'
 
 same_options() {
@@ -153,7 +155,7 @@ changes() {
     row 'changes with a journal or a rehearsal'
     local words
     for words in '-w image' -E '--wp-range=0xfc0000,0x40000'; do
-        # shellcheck disable=SC2086  # the words are parted
+        # shellcheck disable=SC2086  # the shell must split these words
         {
             takes rom $words
             refuses 'Usage fault 6.' nor $words
@@ -170,7 +172,8 @@ changes() {
     refuses 'unrecognized option' rom -E --unlock
 }
 
-# Tests a chip whose last 256 KiB are protected. flashrom lifts the protection without an option.
+# Tests a chip whose last 256 KiB are protected. flashrom lifts this protection without an option; flashnor needs
+# --unlock.
 protection() {
     row 'protection in the way'
     { head -c $((size - 1)) image; printf '\0'; } > other
@@ -191,7 +194,7 @@ ranges() {
     for spelling in --wp-range=0xfc0000,0x40000 '--wp-range 0xfc0000,0x40000' --wp-range=16515072,262144 \
         --wp-range=0,0; do
         number=$((number + 1))
-        # shellcheck disable=SC2086  # the words are parted
+        # shellcheck disable=SC2086  # the shell must split these words
         takes rom $spelling
         # shellcheck disable=SC2086
         takes nor $spelling --journal "journal $number"
@@ -200,7 +203,7 @@ ranges() {
     refuses 'Usage fault 5.' nor '--wp-range=0 0' --journal other
 }
 
-# Tests regions that are read: in all other bytes of the file flashrom has 00h, and flashnor FFh.
+# Tests how regions are read. flashrom writes 00h to all other bytes of the file, and flashnor writes FFh.
 regions() {
     row 'how regions are named and read'
     cp other rom.bin
@@ -227,7 +230,7 @@ layouts() {
     row 'how a layout is written'
     local format fault
     while IFS=' ' read -r fault format; do
-        # shellcheck disable=SC2059  # it is the format
+        # shellcheck disable=SC2059  # `format` is a format of printf
         printf "$format" > layout
         takes rom -l layout -i a -r out
         if ((fault)); then
@@ -307,14 +310,14 @@ spellings() {
     refuses "$unknown" nor --chip W25Q128FV
 }
 
-# Tests options that flashnor doesn't have. flashrom's options for a feature that this chip lacks are recognized by
-# flashrom's message that it is missing.
+# Tests options that flashnor doesn't have. Some options of flashrom need data that this chip doesn't contain, such as
+# an fmap. For these options flashrom must print that the data are missing, which shows that it knows the option.
 left_out() {
     row 'what there is none of'
     local words
     for words in --wp-enable --wp-disable '--wp-region a -l layout' -R -f '-N -v image' '-x -l layout' \
         '--flash-contents image -v image'; do
-        # shellcheck disable=SC2086  # the words are parted
+        # shellcheck disable=SC2086  # the shell must split these words
         {
             takes rom $words
             refuses "$unknown" nor $words
@@ -329,11 +332,11 @@ left_out() {
     done
 }
 
-# Fails for each option that docs/FLASHROM.md names before its section on flashnor-serprog, and no row tried.
+# Fails for each option that docs/FLASHROM.md names before its section on flashnor-serprog and that no row tried.
 all_tried() {
     row "the options of docs/FLASHROM.md"
     local option
-    # shellcheck disable=SC2016  # the backticks are the page's
+    # shellcheck disable=SC2016  # the backticks are those of the page
     sed '/^## flashnor-serprog/,$d' "$top/docs/FLASHROM.md" | grep -oE '`[^`]*`' | tr -d '`' |
         grep -oE -- '(^| )--?[A-Za-z][a-z-]*' | tr -d ' ' | sort -u > named
     [[ -s named ]] || wrong "docs/FLASHROM.md names no option"

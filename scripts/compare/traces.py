@@ -1,7 +1,7 @@
 """Reads traces of flashnor, and plays them on another chip.
 
-A line of a trace is one transaction: the bytes sent, and if bytes were received ` > ` and their digits, or for more
-than three bytes their number and ` bytes`.
+A line of a trace is one transaction. It has the bytes that were sent. If bytes were received, ` > ` follows, and then
+their digits or, for more than three bytes, their number and ` bytes`.
 """
 import re
 from typing import NamedTuple, Optional
@@ -12,7 +12,8 @@ LINE = re.compile(r"((?:[0-9a-f]{2})+)(?: > (?:((?:[0-9a-f]{2}){1,3})|([4-9]|[1-
 
 
 class Transaction(NamedTuple):
-    """The bytes sent, the number of bytes received, and these bytes, if the line has them."""
+    """A transaction: the bytes that were sent, the number of bytes that were received, and these bytes if the line has
+    them."""
     sent: bytes
     count: int = 0
     reply: Optional[bytes] = None
@@ -25,7 +26,7 @@ class Transaction(NamedTuple):
 
 
 def read_line(line):
-    """Returns the transaction of a line, which has no line feed."""
+    """Returns the transaction of a line, which must not end with a line feed."""
     found = LINE.fullmatch(line)
     if not found:
         raise ValueError(f"no line of a trace: {line!r}")
@@ -43,7 +44,7 @@ def read_trace(text):
 
 
 def wanted_of(transaction, image):
-    """Returns the bytes that must be received, or nothing if neither the trace nor the chip's bytes `image` show
+    """Returns the bytes that the chip must reply, or None if neither the trace nor the bytes `image` of the chip show
     them."""
     if transaction.sent[0] == READ and image is not None:
         start = int.from_bytes(transaction.sent[1:4], "big")
@@ -52,12 +53,11 @@ def wanted_of(transaction, image):
 
 
 def play(chip, transactions, before, after):
-    """Sends the transactions to a chip. Returns the number of replies that were compared, and a text for each reply
-    that differs.
+    """Sends the transactions to a chip. Returns the number of compared replies, and a text for each reply that differs.
 
-    `before` and `after` are the bytes that the chip must have before the first change of its bytes and after the last
-    one; the bytes between two changes are unknown. `chip` has `exchange`, which takes the bytes to send and the number
-    of bytes to receive, and `kept`, the bits of status 1 that the chip has.
+    `before` has the chip's bytes before the first change of a byte, and `after` those after the last change; the bytes
+    between these changes are unknown. `chip` must have `exchange`, which takes the bytes to send and the number of
+    bytes to receive, and `kept`, the bits of status 1 that the chip has.
     """
     changing = [number for number, it in enumerate(transactions) if it.changes_bytes()]
     first, last = (changing[0], changing[-1]) if changing else (len(transactions), -1)
