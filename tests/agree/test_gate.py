@@ -1,4 +1,5 @@
-"""The last lines and the status of the gate, on a copy whose parts are replaced."""
+"""Tests the last lines and the exit status of the merge gate (.ci/run), in a copy whose parts are replaced by shell
+commands."""
 import os
 import pathlib
 import shutil
@@ -13,10 +14,11 @@ LEFT_OUT = "echo 'left out: a case (there is no setpriv)'; echo 20000 passed, 0 
 
 
 class Gate(unittest.TestCase):
-    """Runs the gate. Each part passes if it is not replaced by other commands."""
+    """Tests that run the gate. A part passes if the test doesn't replace it by other commands."""
 
     def run_gate(self, parts, **environment):
-        """Returns the status and the output of the gate with these commands as parts."""
+        """Runs the gate with `parts` in place of its scripts, and returns its exit status and the lines that it
+        prints."""
         with tempfile.TemporaryDirectory() as folder:
             top = pathlib.Path(folder)
             (top / ".ci").mkdir()
@@ -27,7 +29,7 @@ class Gate(unittest.TestCase):
                          "tests/serprog/self.py", "tests/serprog/run.py", "tests/wire/self.py",
                          "tests/wire/run.py"):
                 self.put(top / name, "#!/bin/sh\n" + parts.get(name, PASSED))
-            # (the gate removes storm's program, and this part builds it)
+            # The gate removes the program of the crate storm, and scripts/proved.sh builds it again.
             self.put(top / "scripts/proved.sh", "#!/bin/sh\nmkdir -p crates/storm/out && "
                                                 f"cp tests/build/make.py crates/storm/out/storm\n{PASSED}")
             values = {name: value for name, value in os.environ.items() if name != "CI"}

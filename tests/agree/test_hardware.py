@@ -1,5 +1,5 @@
-"""Faults that are planted in a copy of the pages and sources of flashnor-serprog, which scripts/agree/hardware.py must
-reject, with a message that names the fault."""
+"""Plants one error at a time in a copy of the pages and sources of flashnor-serprog. scripts/agree/hardware.py must
+report each error, with a message that names it."""
 import pathlib
 import re
 import shutil
@@ -13,7 +13,7 @@ PAGE, HELP, COMPLETION = "man/flashnor-serprog.8", "crates/flashnor_serprog/src/
 SOURCES = "crates/board_files crates/board_jobs crates/board_progress crates/flashnor_serprog crates/nor_args " \
     "crates/nor_console crates/nor_layout crates/nor_probe crates/nor_request crates/nor_serprog scripts man docs " \
     "completion"
-# The file of each plant, a pattern whose first match is replaced, the new text, and the expected message.
+# Each plant has a file, a pattern whose first match is replaced, the new text, and the expected message.
 PLANTS = {
     "an option that the page lacks": (
         PAGE, r"(?m)^\.TP\n\\fB\\-\\-quick\\fR\n(?:.*\n)*?(?=\.TP)", "", "sources has '--quick', manual hasn't"),
@@ -77,7 +77,7 @@ PLANTS = {
 
 
 class Plants(unittest.TestCase):
-    """A copy of the files that scripts/agree/hardware.py reads, in which one fault at a time is planted."""
+    """Tests on a copy of the files that scripts/agree/hardware.py reads, in which one error at a time is planted."""
 
     @classmethod
     def setUpClass(cls):
@@ -88,7 +88,7 @@ class Plants(unittest.TestCase):
             shutil.copytree(TOP / name, cls.tree / name, ignore=shutil.ignore_patterns("out", "__pycache__", "proofs"))
 
     def differences(self):
-        """Returns the exit status, and the lines that report differences."""
+        """Runs scripts/agree/hardware.py, and returns its exit status and the lines that report differences."""
         words = ["env", "PYTHONPATH=scripts", sys.executable, "-B", "scripts/agree/hardware.py"]
         ended = subprocess.run(words, cwd=self.tree, capture_output=True, text=True, encoding="utf-8", check=False)
         return ended.returncode, [it for it in (ended.stdout + ended.stderr).splitlines() if "DIFFERS: " in it]

@@ -1,5 +1,5 @@
-"""Checks that each change of a page that tests/flashnor/self.py tests on the built program does change its page. This
-needs no program."""
+"""Checks that each row of PAGES in tests/flashnor/self.py changes its page. That script tests the changes with the
+built program; this test needs no program."""
 import importlib
 import pathlib
 import re

@@ -1,4 +1,5 @@
-"""Copies of the repository with one fault each, which agree must reject, with a message that names the fault."""
+"""Plants errors in copies of the repository. `make agree` must report each of them, with a message that names the
+error."""
 import concurrent.futures
 import os
 import pathlib
@@ -21,8 +22,8 @@ STATEMENT = ["python3", "scripts/statement.py", "--check"]
 CRATES = ["python3", "scripts/crates.py"]
 TWICE = ["python3", "scripts/twice.py"]
 
-# Each plant has the part that must reject it, the file, a pattern whose first match is replaced, the new text, and the
-# expected message. One plant of each part must be rejected by agree as a whole, the others by that part.
+# Each plant has the command that must report it, the file, a pattern whose first match is replaced, the new text, and
+# the expected message. Plants with AGREE must be reported by agree.sh as a whole, and the others by one part of it.
 PLANTS = {
     "a clause of another call": (
         AGREE, "README.md", r"`session`: `unsent`, `same`, `restorable`", "`probe`: `unsent`, `same`, `restorable`",
@@ -77,7 +78,7 @@ PLANTS = {
         PATHS, "crates/nor_read/src/lib.rt", r"`specs/Reading\.antt`", "`specs/Saving.antt`",
         "there is no specs/Saving.antt"),
     "a head's name that isn't there": (
-        PATHS, "crates/nor_read/src/lib.rt", r"`wp_status`", "`wp_state`", "there is no wp_state"),
+        PATHS, "crates/nor_read/src/protection.rt", r"`wp_status`", "`wp_state`", "there is no wp_state"),
     "a page's definitions in another crate": (
         PATHS, "docs/ARCHITECTURE.md", r"`specs/Within` says", "`specs/Guard` says", "there is no specs/Guard"),
     "an option that the help hasn't": (
@@ -199,8 +200,8 @@ if shutil.which("rt"):
     PLANTS["a kit with another logic"] = (
         WORDS, "README.md", r"logic `\w+`", "logic `none`", "the kit's logic: README has 'none', rt hasn't")
 
-# Changes of the sources' layout that change no meaning: the part that reads the file, the file, the pattern, and the text
-# that replaces the match. tests/agree/test_sources.py has those of functions and their contracts.
+# These changes of the sources' layout change no meaning. Each has the part that reads the file, the file, a pattern,
+# and the text that replaces its first match. test_sources.py has the changes of functions and their contracts.
 HARMLESS = {
     "a constant on three lines": (
         LIMITS, "crates/nor_layout/src/region.rt", r"usize = 64;", "usize =\n    // most\n    64;"),
@@ -212,7 +213,7 @@ HARMLESS = {
 
 
 class Trees:
-    """Copies of the files that agree reads, one for each processor; each is used by one run at a time."""
+    """A number of copies of the files that agree.sh reads. Only one run at a time uses a copy."""
 
     def __init__(self, folder, count):
         self.free = queue.Queue()
@@ -226,9 +227,9 @@ class Trees:
             self.free.put(tree)
 
     def run(self, words, *changes):
-        """Runs a command in a copy of the repository after these changes, each a file, a pattern whose first match is
-        replaced, and the new text; then undoes them. Returns the status, or None if a pattern matches nothing, and the
-        lines that report differences."""
+        """Changes a copy of the repository, runs a command there, and undoes the changes. Each change has a file, a
+        pattern whose first match is replaced, and the new text. Returns the exit status, or None if a pattern matches
+        nothing, and the lines that report differences."""
         tree = self.free.get()
         old = {file: (tree / file).read_text(encoding="utf-8") for file, *_ in changes}
         try:
@@ -248,16 +249,18 @@ class Trees:
 
 
 def is_told(name, result):
-    """Returns whether a run was rejected with the message of this plant."""
+    """Returns whether a run ended with status 1, and printed the message of this plant."""
     status, lines = result
     return status == 1 and any(re.search(PLANTS[name][4], line) for line in lines)
 
 
 class Plants(unittest.TestCase):
-    """Checks the output of agree for each plant. The plants of a part are tried at once, because each run of a part reads
-    all sources again. A plant that isn't reported then is tried by itself, since another plant may have hidden it. The
-    part STATEMENT ends at its first difference, so each of its plants is tried by itself. The plants that agree as a
-    whole must reject are in different files."""
+    """Checks the output of agree.sh and its parts for each plant.
+
+    Each run of a part reads all sources again, so all plants of a part are tried together. If a plant is not reported
+    then, it is tried by itself, since another plant may have hidden it. The part STATEMENT ends at its first
+    difference, so each of its plants is tried by itself. The plants for agree.sh as a whole are in different files.
+    """
 
     def test_each_plant_is_refused(self):
         groups = {}

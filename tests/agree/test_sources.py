@@ -1,4 +1,4 @@
-"""Tests of the readers of sources, on small sources."""
+"""Tests the scripts that read the sources (contracts.py, sources.py, statement.py) on small sources."""
 import pathlib
 import tempfile
 import unittest
@@ -15,7 +15,7 @@ use Rattle.std.specs.Prelude.{ℕ, Bool, true}
 
 
 class Small(unittest.TestCase):
-    """A directory of crates that a test fills."""
+    """Tests on a directory of crates, which is empty at first."""
 
     def setUp(self):
         folder = tempfile.TemporaryDirectory()
@@ -28,24 +28,24 @@ class Small(unittest.TestCase):
         sources.source.cache_clear()
 
     def put(self, path, text):
-        """Writes a file below crates/, and returns what `sources` reads from it."""
+        """Writes a file below crates/, and returns what sources.py reads from it."""
         file = self.crates / path
         file.parent.mkdir(parents=True, exist_ok=True)
         file.write_text(text, encoding="utf-8")
         return sources.source(path)
 
     def refuses(self, path, text, told):
-        """Checks that reading this text ends the script with a message that contains `told`."""
+        """Checks that sources.py ends with a message that contains `told` when it reads this text."""
         with self.assertRaises(SystemExit) as ended:
             self.put(path, text)
         self.assertIn(told, str(ended.exception))
 
 
 class Definitions(Small):
-    """Files of specs/."""
+    """Tests of files in specs/."""
 
     def spec(self, text):
-        """Writes a file of definitions, and returns what `sources` reads from it."""
+        """Writes a file of definitions, and returns what sources.py reads from it."""
         return self.put("one/specs/Some.antt", HEAD + text)
 
     def test_a_comment_between_equations_belongs_to_the_next_one(self):
@@ -87,7 +87,7 @@ class Definitions(Small):
 
 
 class Cut(Small):
-    """Parts of records and of contracts, and how they are set."""
+    """Tests of records and contracts of which STATEMENT.md has only a part, and of their layout."""
 
     def test_a_field_that_is_left_out_is_named(self):
         fields = "  -- low\n  pub low : x ≤ 3\n  -- high\n  pub high :\n      3 ≤ x\n  pub same : x ≡ 3\n"
@@ -113,7 +113,7 @@ class Cut(Small):
 
 
 class Contracts(Small):
-    """Files of src/."""
+    """Tests of files in src/."""
 
     def test_a_function_ends_where_its_body_begins(self):
         code = self.put("one/src/a.rt", "pub fn one() -> u8 {\n    1\n}\n\npub fn two(x: [u8; 2]) -> u8\n"
@@ -168,7 +168,7 @@ impl<T: Law> Law for One<T> {
     fn each_is_even() {}
 }
 """
-# Changes of the layout that change no meaning: the text, and its replacement.
+# These changes of the layout change no meaning. Each has a text, and its replacement.
 HARMLESS = {
     "a name for a requires": ("requires {", "requires small {"),
     "a clause's brace on a line of its own": ("ensures low {", "ensures low\n    {"),
@@ -182,10 +182,10 @@ HARMLESS = {
 
 
 class Layout(Small):
-    """Tests that a change of a source's layout changes nothing that is read from it."""
+    """Tests that a change of a source's layout doesn't change what is read from the source."""
 
     def said(self, text):
-        """Returns what is read from the functions of a text."""
+        """Returns what contracts.py reads from the functions in a text."""
         self.put("one/src/a.rt", text)
         sources.source.cache_clear()
         code = sources.source("one/src/a.rt")

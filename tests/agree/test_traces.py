@@ -1,10 +1,10 @@
-"""Tests of how the comparison with another chip reads and plays traces of flashnor."""
+"""Tests scripts/compare/traces.py, which reads traces of flashnor and plays them on another chip."""
 import pathlib
 import sys
 import unittest
 
 sys.path.insert(0, str(pathlib.Path(__file__).resolve().parents[2] / "scripts/compare"))
-import traces  # noqa: E402  (it is in another directory than the other scripts)
+import traces  # noqa: E402  (the line above adds its directory to the path)
 from traces import Transaction
 
 WRITE = """05 > 00
@@ -18,7 +18,7 @@ WRITE = """05 > 00
 
 
 class Chip:
-    """A chip with given replies, whose status has only the four lowest bits."""
+    """A chip with given replies. Its status register has only the lowest four bits."""
     kept = 0x0F
 
     def __init__(self, *replies):
@@ -52,8 +52,8 @@ class Lines(unittest.TestCase):
 
 class Played(unittest.TestCase):
     def play(self, *replies, trace=WRITE):
-        """Plays a trace on a chip with these replies. Returns the number of replies that were compared, and the lines
-        that differ."""
+        """Plays a trace on a chip with these replies. Returns the number of compared replies, and the lines of the
+        trace whose replies differ."""
         self.chip = Chip(*replies)
         compared, found = traces.play(self.chip, traces.read_trace(trace), b"\xff\xff\xff\xff", b"\x12\xff\xff\xff")
         return compared, [it.split(" (")[0] for it in found]
@@ -72,7 +72,7 @@ class Played(unittest.TestCase):
     def test_what_is_left_out(self):
         trace = "05 > 00\n05 > 10\n35 > 00\n4b00000000 > 8 bytes\n"
         self.assertEqual(self.play("f0", "00", "11", "0102030405060708", trace=trace), (2, []))
-        # The bytes between two changes are unknown, so a read there isn't compared.
+        # Between two changes the bytes of the chip are unknown, so a read there isn't compared.
         self.assertEqual(self.play("00", trace="0200000012\n03000000 > ff\n0200000100\n"), (0, []))
 
 

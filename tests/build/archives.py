@@ -1,4 +1,4 @@
-"""The tests of `make install` and `make dist`, which tests/build/make.py runs."""
+"""Tests `make install` and `make dist`. tests/build/make.py runs these tests."""
 import os
 import re
 import shutil
@@ -7,7 +7,8 @@ from tree import HARDWARE, MANUALS, PROGRAM, SOURCE
 
 
 def installed(tree, expect):
-    """`make install` installs both programs of the present sources and the pages, or nothing."""
+    """Checks that `make install` installs both programs, built from the current sources, and the pages. If the build
+    fails, or a source is edited during the build, it must install nothing."""
     root = tree.work / "a root"
     program = root / "usr/local/bin/flashnor"
     install = ("install", f"DESTDIR={root}")
@@ -29,7 +30,7 @@ def installed(tree, expect):
 
 
 def packed(tree, expect):
-    """An archive names the commit with which each of its programs was proved, and not a later one."""
+    """Checks that an archive names the commit with which each of its programs was proved, and not a later commit."""
     def built(commit, *counts):
         return [["a kit", f"commit {commit}", str(count)] for count in counts]
 
@@ -57,7 +58,8 @@ def packed(tree, expect):
 
 
 def lacking(folder):
-    """Returns the files that an archive needs and lacks: pages to which its pages link, and checksums."""
+    """Returns the files that are missing in an archive, such as pages to which its pages link, and the files without a
+    checksum."""
     needed = {"flashnor", "flashnor-serprog", "flashnor_serprog", "PROVED-WITH", "install.sh", "docs/README.md",
               "completion/flashnor.bash", *MANUALS}
     for page in folder.rglob("*.md"):
@@ -72,7 +74,7 @@ def lacking(folder):
 
 
 def complete(tree, expect):
-    """An archive has each page to which its pages link, and the licence if there is one."""
+    """Checks that an archive has each page to which its pages link, and the licence if there is one."""
     folder = tree.archive()
     expect("what an archive lacks", lacking(folder), [])
     expect("a licence that isn't there", sorted(it.name for it in folder.glob("LICEN*")), [])
@@ -88,8 +90,8 @@ def complete(tree, expect):
 
 
 def repeated(tree, expect):
-    """Two archives of the same programs and pages have the same bytes, whatever the times and permissions of the
-    files. The archive's installer installs and removes what `make install` does."""
+    """Checks that two archives with equal programs and pages have equal bytes, even if times and permissions of the
+    files differ. The installer of an archive must install what `make install` installs, and remove all of it."""
     tree.make()
     archive = tree.top / tree.make("dist")[1].splitlines()[-1]
     first = archive.read_bytes()

@@ -1,10 +1,9 @@
 #!/usr/bin/env python3
-"""tests/build/examples.py: compiles and runs the example on each library's first page.
+"""tests/build/examples.py: compiles and runs the example in the first comment of each library that has one.
 
-The first page of a library is the comment at the head of its src/lib.rt. Each example there becomes a test of one
-scratch crate, which `rt try --test` runs: the example must compile as it is, and its assertions must hold. It is not
-proved. Names of items that the example declares, and its imports, precede the test. The last line is `N passed, M
-failed`.
+This comment is at the start of the library's src/lib.rt. Each example becomes a test of one temporary crate, which `rt
+try --test` runs. The example must compile as it is, and its assertions must hold; nothing is proved. In the test's
+module, the imports and items of the example come before the test function. The last line is `N passed, M failed`.
 """
 import os
 import re
@@ -16,7 +15,7 @@ from pathlib import Path
 
 TOP = Path(__file__).resolve().parents[2]
 NAME = "first_pages"
-# Each example returns its first error, of any type.
+# If a step of the example fails, the test returns this error, which may have any type.
 TEST = """#![tactic(auto)]
 //! The example of {crate}.
 {items}
@@ -29,7 +28,8 @@ fn of_{crate}(rt: HostRuntime) -> Result<(), anyhow::Error> {{
 
 
 def example(text):
-    """Returns the lines of the only example at the head of a source, none if it has none."""
+    """Returns the lines of the example in the first comment of a source, or an empty list if there is none. Raises
+    ValueError if there are several."""
     page = [line[3:].removeprefix(" ") for line in text.splitlines() if line.startswith("//!")]
     found = re.findall(r"^```rust\n(.*?)^```$", "\n".join(page) + "\n", re.MULTILINE | re.DOTALL)
     if len(found) > 1:
@@ -38,8 +38,7 @@ def example(text):
 
 
 def test_of(crate, lines):
-    """Returns a module with the example as a test. The body of the test begins with the first line that is a
-    statement."""
+    """Returns a module with the example as a test. The test's body begins with the first line that is a statement."""
     first = next(n for n, line in enumerate(lines) if re.match(r"(let|assert\w*)\b", line))
     body = "\n".join(f"    {line}" for line in lines[first:])
     return TEST.format(crate=crate, items="\n".join(lines[:first]), body=body).replace("#![tactic(auto)]\n", "", 1)
@@ -53,7 +52,8 @@ def libraries():
 
 
 def lay_out(work):
-    """Copies the sources, and writes the scratch crate next to them. Returns the crates whose examples it has."""
+    """Copies the sources, and writes the temporary crate next to them. Returns the names of the crates that have an
+    example."""
     for name in os.listdir(TOP / "crates"):
         shutil.copytree(TOP / "crates" / name, work / "crates" / name, ignore=shutil.ignore_patterns("out", "must-fail"))
     shutil.copy(TOP / "HANDLES", work)

@@ -1,12 +1,16 @@
 #!/usr/bin/env python3
-"""tests/build/make.py: checks the Makefile.
+"""tests/build/make.py: tests the Makefile, in a copy of the repository (tree.py). These are the requirements:
 
-It must use no program that is older than its sources. An archive must have all pages to which its pages link, and name
-the toolchain and commit of each program; the same files must give the same archive. `make quick` must run each program
-with the files of its crate, and detect one that does not compile, print or end as it must, and a library that does not
-compile. `make case` must fail if its case gives no answer, `make prove` must prove a crate and those that depend on it,
-and `make demo` must run the first example of README, and leave a program. tree.py has the copy of the repository that
-the test uses. The last line is `N passed, M failed`.
+- No target uses a program that is older than its sources.
+- An archive has all pages to which its pages link, and names the toolchain and the commit of each program. Equal files
+  result in equal archives.
+- `make quick` runs each program with the files of its crate. It detects a program that doesn't compile, or doesn't
+  print or end as it must, and a library that doesn't compile.
+- `make case` fails if its case gives no result.
+- `make prove` proves a crate and those that depend on it.
+- `make demo` runs the first example of README, and leaves a program.
+
+The last line is `N passed, M failed`.
 """
 import re
 import shutil
@@ -17,13 +21,14 @@ from pathlib import Path
 from archives import complete, installed, lacking, packed, repeated
 from tree import PROGRAM, SOURCE, TOP, Tree
 
-# A try that ended without an answer, as far as its last line says; its status may be 0 all the same.
+# These commands replace `rt try`. Their last line says that the run ended without a result, although the exit status is
+# 0.
 SILENT = "echo 'run=no-answer proved=no' >&2; exit 0\n"
 TARGETS = ["install", "dist", "runs", "serprog", "wire", "sweep", "kill", "compare"]
 
 
 def stale(tree, expect):
-    """No target uses a program that is older than its sources."""
+    """Checks that no target uses a program that is older than its sources."""
     expect("no program", tree.would_build(*TARGETS), TARGETS)
     tree.make("build")
     expect("only flashnor", tree.would_build(*TARGETS), ["install", "dist", "serprog", "wire"])
@@ -63,7 +68,8 @@ WRONG_TRIES = {
     "a program that isn't compiled in time": ("bench", "exit 124", QUICK("bench") + ", only compiled"),
     "tests that don't compile": ("rows", "exit 1", "the tests of rows, only compiled"),
 }
-# The program or tests that are tried for a library without tests, and what `make quick` then calls them.
+# If a library has no tests, `make quick` tries another crate in its place: a program or tests that depend on it. Each
+# entry has this crate (None if there is none), and the name that `make quick` prints for the try.
 TRIED_FOR = {
     "nor_args": ("flashnor", QUICK("flashnor")),
     "nor_serprog": ("flashnor_serprog", QUICK("flashnor_serprog")),
@@ -73,7 +79,8 @@ TRIED_FOR = {
 
 
 def tried(tree, expect):
-    """`make quick` runs each program as `rt ci` does, and detects each that does not compile or do what it must."""
+    """Checks that `make quick` runs each program as `rt ci` does, and detects each program that doesn't compile or
+    doesn't do what it must."""
     tree.put("a tree/scripts/agree.sh", "")
     for folder in (*tree.top.glob("crates/*/proofs"), *tree.top.glob("crates/*/specs")):
         shutil.rmtree(folder)
@@ -114,7 +121,8 @@ def tried(tree, expect):
 
 
 def played(tree, expect):
-    """`make case` plays the case of this name, with the built program if there is one, and fails without an answer."""
+    """Checks that `make case` plays the case with the given name, on the built program if there is a current one, and
+    fails if it gets no result."""
     text = (tree.top / "crates/transcripts/stdin").read_text(encoding="utf-8")
     names = re.findall("(?m)^case (.*)", text)
     for name in names[0], names[-1]:
@@ -146,7 +154,8 @@ def played(tree, expect):
 
 
 def proved(tree, expect):
-    """`make prove` proves a crate and those that depend on it, and tells which of them aren't proved."""
+    """Checks that `make prove` proves a crate and the crates that depend on it, and reports those that aren't
+    proved."""
     (tree.top / "crates.txt").write_text("low:\nmiddle: low\nother:\nhigh: other middle\n", encoding="utf-8")
     for crate in "low middle other high".split():
         (tree.top / "crates" / crate).mkdir()
@@ -172,7 +181,8 @@ def proved(tree, expect):
 
 
 def cloned(tree, expect):
-    """tests/build/clone.sh runs a command where only tracked files are, as they are here."""
+    """Checks that tests/build/clone.sh runs a command in a directory that has only the tracked files, with their
+    uncommitted changes."""
     tree.make("build")
     tree.put("a tree/untracked", "")
     tree.edit(text="// edited\n")
@@ -185,7 +195,8 @@ def cloned(tree, expect):
 
 
 def shown(tree, expect):
-    """`make demo` prints the first example of README and runs it, even if nothing is built; and how to go on."""
+    """Checks that `make demo` prints and runs the first example of README, even if nothing is built, and prints how to
+    go on."""
     readme = (TOP / "README.md").read_text(encoding="utf-8")
     example = readme[readme.index("$ flashnor ") :].splitlines()[0]
     program = tree.top / "out/demo/flashnor"
@@ -220,7 +231,8 @@ def shown(tree, expect):
 
 
 def wrong(tree, expect):
-    """These tests detect a Makefile whose programs do not depend on the sources, and one that packs too few pages."""
+    """Checks that these tests detect a Makefile whose programs don't depend on the sources, and one that packs too few
+    pages."""
     path = tree.top / "Makefile"
     text = path.read_text(encoding="utf-8")
     path.write_text(re.sub(r"(?m)^(\$\(BUILT\w*\)): \$\(SOURCES\)$", r"\1:", text), encoding="utf-8")

@@ -1,5 +1,6 @@
-"""A copy of the repository for the tests of the Makefile, in a directory with a space in its name, with an `rt` that
-proves nothing and builds a program that prints how many programs were built.
+"""Provides a copy of the repository for the tests of the Makefile, in a directory whose name has a space.
+
+In this copy the command `rt` proves nothing. The programs that it builds print how many times they were built.
 """
 import os
 import shutil
@@ -11,9 +12,14 @@ PROGRAM = Path("crates/flashnor/out/flashnor")
 SOURCE = Path("crates/nor_chip/src/lib.rt")
 HARDWARE = Path("crates/flashnor_serprog/out/flashnor_serprog")
 MANUALS = "man/flashnor.8", "man/flashnor-serprog.8", "man/flashnor-journal.5"
-# The `rt` of these tests. A try prints what the crate's program must print, and ends as it must, or does what the
-# script `as/CRATE` says; it writes its arguments and its input to `tried`. If only the help is asked for, it links a
-# program as `rt try` does. A check fails if there is `refused/CRATE`.
+# This script replaces `rt`:
+#
+# - `rt try` prints what the crate's program must print, and ends with the right status, unless the script `as/CRATE`
+#   says otherwise. It writes its arguments and its input to the directory `tried`. If only the help is requested, it
+#   also links a program, as the real command does.
+# - `rt check` fails if the file `refused/CRATE` exists.
+# - `rt run` builds the program of the crate. It edits a source if the file `edits` exists, and fails if the file
+#   `fails` exists.
 RT = """#!/bin/sh
 crate=${PWD##*/}
 case $1 in
@@ -46,7 +52,7 @@ case $1 in
         [ ! -e "$WORK/fails" ] ;;
 esac
 """
-# The linker of the kit: each program that it links prints its own arguments.
+# This script replaces the kit's linker. The programs that it links print their arguments.
 LINKER = """#!/bin/sh
 printf '#!/bin/sh\necho "unproved: $*"\n' > program
 chmod 755 program
@@ -54,7 +60,7 @@ chmod 755 program
 
 
 class Tree:
-    """A copy of the repository, with the `rt` that proves nothing."""
+    """A copy of the repository, with the replaced `rt`."""
 
     def __init__(self, work):
         self.work = work
@@ -76,7 +82,7 @@ class Tree:
         self.commit()
 
     def run(self, *words):
-        """Runs a command there, and returns its status and its output."""
+        """Runs a command in the copy, and returns its exit status and its output."""
         ran = subprocess.run(words, cwd=self.top, env=self.env, stdin=subprocess.DEVNULL, stdout=subprocess.PIPE,
                              stderr=subprocess.STDOUT, text=True, check=False)
         return ran.returncode, ran.stdout
@@ -85,14 +91,14 @@ class Tree:
         return self.run("make", *words)
 
     def commit(self):
-        """Commits all files, and returns the hash of the commit."""
+        """Commits all files of the copy, and returns the hash of the commit."""
         self.run("git", "add", "-A")
         self.run("git", "-c", "user.name=a", "-c", "user.email=a@example.org", "-c", "commit.gpgsign=false",
                  "commit", "-q", "--allow-empty", "-m", "All")
         return self.run("git", "rev-parse", "HEAD")[1].strip()
 
     def builds(self, crate="flashnor"):
-        """Returns how often the program of this crate was built."""
+        """Returns the number of times that the program of this crate was built."""
         path = self.work / "builds"
         return path.read_text(encoding="utf-8").splitlines().count(crate) if path.exists() else 0
 
@@ -101,24 +107,24 @@ class Tree:
             it.write(text)
 
     def put(self, name, text, mode=0o644):
-        """Writes a file below the directory of the trial."""
+        """Writes a file below the directory of the test, with these permissions."""
         path = self.work / name
         path.parent.mkdir(parents=True, exist_ok=True)
         path.write_text(text, encoding="utf-8")
         path.chmod(mode)
 
     def would_build(self, *targets):
-        """Returns those of the targets that would build the program first."""
+        """Returns those of the targets for which make would build a program first."""
         return [it for it in targets if "rt run" in self.make("-n", it)[1]]
 
     def archive(self):
-        """Makes an archive, and returns the directory with its files."""
+        """Makes an archive, unpacks it, and returns the directory with its files."""
         self.run("tar", "-C", self.work, "-xf", self.make("dist")[1].splitlines()[-1])
         return next(self.work.glob("flashnor-*"))
 
     def packed(self):
-        """Makes an archive, and returns for each of its programs the toolchain and the commit in PROVED-WITH, and the
-        output of the program."""
+        """Makes an archive. For each of its programs, returns the toolchain and the commit in PROVED-WITH, and the
+        output of the program. If a checksum or a name is wrong, returns what sha256sum printed, and the names."""
         folder = self.archive()
         sums = self.run("sh", "-c", f"cd '{folder}' && sha256sum --check --quiet SHA256SUMS && grep '  ' PROVED-WITH | "
                                     "sha256sum --check --quiet")

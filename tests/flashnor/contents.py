@@ -1,4 +1,4 @@
-"""Makes the bytes of a file from the notation of a case (cases/README.md)."""
+"""Makes the bytes of a file from the notation of a case (tests/flashnor/cases/README.md)."""
 import hashlib
 import re
 
@@ -11,15 +11,15 @@ def hexadecimal(digits):
 
 
 def records(first, last, saved):
-    """Returns the journal's records of these sectors of a chip with the bytes `saved`."""
+    """Returns the records that a journal has for the sectors `first` to `last` of a chip with the bytes `saved`."""
     if not first <= last < len(saved) // SECTOR:
         raise ValueError(f"sectors {first} to {last} aren't within {len(saved)} bytes")
     return b"".join(k.to_bytes(4, "little") + saved[SECTOR * k:SECTOR * (k + 1)] for k in range(first, last + 1))
 
 
 def part(text, before, read):
-    """Returns the bytes of one part, before other bytes are put into it. `before` has the bytes of all parts before
-    this one."""
+    """Returns the bytes of one part of a content, before `put` replaces some of them. `before` has the bytes of the
+    earlier parts, and `read` returns those of another file by its name."""
     if found := re.fullmatch(r"(\d+) times (.+)", text):
         return part(found[2], before, read) * int(found[1])
     if found := re.fullmatch(r"(\d+) of each byte", text):
@@ -44,7 +44,7 @@ def part(text, before, read):
 
 
 def put(text, into):
-    """Puts other bytes into the part `into`, as `text` says."""
+    """Replaces bytes of the part `into` as `text` says (`XX.. at 0xA`, or `XX at 0xA to 0xB`)."""
     found = re.fullmatch(r"([0-9a-f ]+) at (0x[0-9a-f]+)(?: to (0x[0-9a-f]+))?", text)
     if not found:
         raise ValueError(f"'{text}' puts no bytes")
@@ -60,7 +60,7 @@ def put(text, into):
 
 def make(content, read):
     """Returns the bytes of a content. `read` returns those of another file by its name. Raises ValueError if the
-    content can't be made, or the OSError of that file."""
+    notation is wrong, and OSError if another file can't be read."""
     made = bytearray()
     for text in content.split(" + "):
         text, *puts = text.split(", ")

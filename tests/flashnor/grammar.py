@@ -1,15 +1,16 @@
-"""Reads cases, whose form cases/README.md describes. A line that belongs to nothing is a fault of its case."""
+"""Parses cases, whose form tests/flashnor/cases/README.md describes. A line that can't be parsed makes its case
+fail."""
 import dataclasses
 import re
 
 
 class Wrong(Exception):
-    """The reason why a line of a case can't be read."""
+    """A line of a case can't be parsed. The message is the reason."""
 
 
 @dataclasses.dataclass
 class File:
-    """A file that a case names before or after a step."""
+    """A file that a case names, with its content before or after a step."""
     name: str
     content: str
     text: list = dataclasses.field(default_factory=list)
@@ -26,7 +27,8 @@ class File:
         self.text.append(line)
 
     def take_numbered(self, line):
-        """Reads a line with its number, or reads of one sector each, from one line number to another."""
+        """Parses a line `  K: TEXT`, or `  K to M: reads from 0xA`, which stands for a read of one sector in each of
+        the lines K to M."""
         found = re.fullmatch(r"  (\d+)(?: to (\d+): reads from 0x([0-9a-f]+)|: (.*))", line)
         if not found or self.count() is None:
             raise Wrong("it belongs to no 'N lines'")
@@ -43,7 +45,7 @@ class File:
 
 @dataclasses.dataclass
 class Step:
-    """A command line, and its expected results."""
+    """A step of a case: a command line, with its expected results."""
     command: str
     output: list = dataclasses.field(default_factory=list)
     errors: list = dataclasses.field(default_factory=list)
@@ -56,7 +58,8 @@ class Step:
 
 @dataclasses.dataclass
 class Case:
-    """A case: its sentence, its files and steps in their order, and the first fault in its form."""
+    """A case: its sentence, its files and steps in their order, and the first fault in its form (empty if there is
+    none)."""
     file: str
     sentence: str
     parts: list = dataclasses.field(default_factory=list)
@@ -67,13 +70,14 @@ class Case:
         return [it for it in self.parts if isinstance(it, Step)]
 
     def step(self):
-        """Returns the last step, to which a line after it belongs."""
+        """Returns the step to which the current line belongs: the last part of the case. Raises Wrong if that isn't a
+        step."""
         if not self.parts or isinstance(self.parts[-1], File):
             raise Wrong("it belongs to no step")
         return self.parts[-1]
 
     def named(self):
-        """Returns the file that the case named last."""
+        """Returns the file to which the current line belongs: the one that the case named last."""
         last = self.parts[-1] if self.parts else None
         if isinstance(last, Step):
             last = last.after[-1] if last.after else None
@@ -90,7 +94,7 @@ class Case:
         step.after.append(file)
 
     def take(self, line):
-        """Reads one line of the case."""
+        """Parses one line of the case."""
         named = re.fullmatch(r"(file|after) ([^:]+):(?: (.*))?", line)
         status = re.fullmatch(r"status (\d+)", line)
         if line.startswith("$ "):
@@ -113,7 +117,7 @@ class Case:
             self.step().output.append(line)
 
     def finish(self):
-        """Checks the form of the whole case."""
+        """Checks the form of the whole case, and sets `fault` if it is wrong."""
         if not self.steps():
             self.fault = self.fault or "it has no step"
         if self.free and any(it.after for it in self.steps()):
@@ -121,7 +125,7 @@ class Case:
 
 
 def read_cases(file, text):
-    """Returns the cases of a file. Each begins with a comment, which is the case's sentence."""
+    """Returns the cases in the text of a file. Each case begins with a comment, which is its sentence."""
     cases = []
     before = ""
     for number, line in enumerate(text.split("\n"), 1):

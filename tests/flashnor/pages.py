@@ -1,12 +1,13 @@
-"""Makes the examples of README.md, of HOW, of the FAQ and of the manual pages into cases.
+"""Turns the examples of README.md, HOW, the FAQ and the manual pages into cases.
 
-A line that begins with `$` is a step, in the order of the page. If it ends with a backslash, the next line belongs to
-it. The lines after a step are what both streams print. chip.bin and new.bin are those of `make files`, as the pages say.
-A file that a page shows by `cat` has the content that the page shows. A step after which the page shows a line that
-begins with `error: ` is run at a terminal, since only a terminal gets such lines.
+A line that begins with `$` is a step. The steps run in the order of the page. If such a line ends with a backslash, it
+continues on the next line. The lines after a step are its output on standard output and standard error. The pages say
+that chip.bin and new.bin are those of `make files`, so each case begins with this step. If a page shows a file with
+`cat`, the case creates this file. If a page shows a line that begins with `error: ` after a step, the step runs at a
+terminal, because the program prints such lines only to a terminal.
 
-tests/flashnor/pages.py TEXT: prints the snippet of flashnor(8), an example without `$`, that contains this
-text. It fails if another snippet contains it too.
+tests/flashnor/pages.py TEXT: prints the snippet of flashnor(8), an example without `$`, that contains TEXT. Fails if
+not exactly one snippet contains it.
 """
 import re
 import sys
@@ -19,7 +20,7 @@ FAULT = re.compile(r"(Error|File fault|Layout fault|Usage fault) ")
 
 
 def of_markdown(text):
-    """Returns the lines within the examples of a page of Markdown. A block without a step is none, but a picture."""
+    """Returns the lines of the examples on a Markdown page. A code block without a step is no example."""
     blocks = [block.split("\n")[1:] for block in text.split("```")[1::2]]
     return [line for block in blocks if any(it.startswith("$ ") for it in block) for line in block]
 
@@ -33,13 +34,13 @@ def examples_of(text):
 
 
 def of_manual(text):
-    """Returns the lines within the examples of a manual page. A line that ends with a backslash is joined with the
-    next."""
+    """Returns the lines of the examples on a manual page. A line that ends with a backslash is joined with the next
+    line."""
     return re.sub(r" \\\n +", " ", "\n".join(examples_of(text))).split("\n")
 
 
 def snippet_with(part):
-    """Returns the snippet of flashnor(8) that contains this text."""
+    """Returns the snippet of flashnor(8) that contains this text. Ends the script if not exactly one snippet does."""
     page = Path(__file__).resolve().parents[2] / "man/flashnor.8"
     snippets = [it for it in examples_of(page.read_text(encoding="utf-8")) if not it.startswith("$ ")]
     found = {it for it in snippets if part in it}
@@ -49,7 +50,8 @@ def snippet_with(part):
 
 
 def case_of(name, lines):
-    """Returns the case of a page. If the line of a fault follows a step, the step's status must be 1."""
+    """Returns the case that runs the examples of a page. If the page shows a fault after a step, the step must end with
+    status 1."""
     case = Case(name, f"The examples of {name}, in their order.", free=True)
     case.parts.append(Step('make files SCRATCH="$PWD"'))
     for line in lines:
@@ -71,7 +73,7 @@ def case_of(name, lines):
 
 
 def cases(*files):
-    """Returns a case for each of the pages, whose texts are in these files."""
+    """Returns a case for each page of PAGES. `files` has the paths of their texts, in the same order."""
     texts = [file.read_text(encoding="utf-8") for file in files]
     kinds = [of_markdown if page.endswith(".md") else of_manual for page in PAGES]
     return [case_of(page.rpartition("/")[2], kind(text)) for page, kind, text in zip(PAGES, kinds, texts)]

@@ -1,15 +1,17 @@
 #!/usr/bin/env python3
-"""tests/flashnor/run.py [PROGRAM [FOLDER]] or tests/flashnor/run.py PROGRAM README MANUAL..: runs the built program on
-each case of a directory, each case in a directory of its own, or on the examples of these pages.
+"""tests/flashnor/run.py [PROGRAM [FOLDER]]: runs the program on each case of the directory FOLDER, each case in a
+directory of its own. tests/flashnor/run.py PROGRAM README MANUAL..: runs the program on the examples of these pages.
 
-Without FOLDER it runs the cases of cases/, and the examples of README.md and the manual pages (pages.py). Then it also
-checks that wrong programs, wrong cases and an empty directory don't pass (self.py), that the pages show the
-program's help and list of chips (scripts/agree.sh), and that the program works for a parent process that closes
-streams, sets limits and has terminals, as no shell does (streams.py). cases/README.md describes the form of a case.
+Without FOLDER, the script runs the cases of tests/flashnor/cases, and the examples of README.md, HOW, the FAQ and the
+manual pages (pages.py). It then makes three further checks:
 
-A case that fails is printed, with the expected and the actual results. A case that can't be run here is printed in a
-line that begins with `left out:`. The last line is `N passed, M failed`, and the exit status is 1 if a case failed or
-none was run.
+- Wrong programs, wrong cases and an empty directory don't pass (self.py).
+- The pages agree with the help and the list of chips that the program prints (scripts/agree.sh).
+- The program works for a parent process that closes streams, sets limits or provides terminals (streams.py).
+
+tests/flashnor/cases/README.md describes the form of a case. A case that fails is printed, with the expected and the
+actual results. For a case that can't run on this machine, a line that begins with `left out:` is printed. The last line
+is `N passed, M failed`, and the exit status is 1 if a case failed or none was run.
 """
 import os
 import re
@@ -25,12 +27,12 @@ import pages
 from trial import Differs, Trial, shown
 
 TOP = Path(__file__).resolve().parents[2]
-# The file system on which a case gets a directory other than its own.
+# If a case uses `$disk`, it gets a directory here, on another file system than its own directory.
 SECOND_DISK = "/dev/shm"
 
 
 class Tally:
-    """The numbers of passed and of failed cases."""
+    """The numbers of passed and failed cases."""
 
     def __init__(self):
         self.passed = 0
@@ -44,7 +46,8 @@ class Tally:
             print(shown(line))
 
     def add(self, what, words):
-        """Adds the counts that another program prints in its last line."""
+        """Runs another program, and adds the counts in its last line. If it prints no counts, or fails without a failed
+        case, this counts as a failure."""
         said = subprocess.run(words, stdout=subprocess.PIPE, stderr=subprocess.STDOUT, check=False)
         *lines, last = [""] + os.fsdecode(said.stdout).splitlines()
         found = re.fullmatch(r"(\d+) passed, (\d+) failed", last)
@@ -58,21 +61,22 @@ class Tally:
 
 
 def needs(case, need):
-    """Returns whether a step of the case matches this pattern."""
+    """Returns whether a command of the case matches the pattern `need`."""
     return any(re.search(need, it.command) for it in case.steps())
 
 
 class Machine:
-    """The program that is tested, and the abilities of this machine."""
+    """The program that is tested, and the reasons why some cases can't run on this machine."""
 
     def __init__(self, work, program):
         self.work = work
-        # (it is copied, so that a user who is not root can run it too)
+        # The program is copied, so that a user other than root can run it, too.
         self.program = work / "flashnor"
         shutil.copy(program, self.program)
         self.program.chmod(0o755)
         self.library = work / "meanwhile.so"
-        # A pattern for what a step may need, and the function that finds out whether this machine lacks it.
+        # Each pattern matches a command that needs something special. Its function returns None if this machine has it,
+        # and otherwise the reason why not.
         self.needs = {r"\bnobody ": self.no_nobody, r"\bwrites ": self.no_counts, "/dev/full": self.no_full,
                       r"\b(meanwhile|failing|alike) ": self.no_library, r"\$disk\b": self.no_second_disk}
         self.missing = {}
@@ -97,8 +101,8 @@ class Machine:
         return f"another user than root can't be, or has no way to {self.work.parent}: set TMPDIR"
 
     def no_library(self):
-        """Builds the library that acts at a call of the program (meanwhile.c), or returns the reason why it can't be
-        built."""
+        """Builds the library that acts at a call of the program (meanwhile.c). Returns None, or the reason why it can't
+        be built."""
         if not shutil.which("cc"):
             return "there is no C compiler (cc)"
         words = ["cc", "-std=c11", "-O1", "-shared", "-fPIC", "-o", self.library, TOP / "tests/flashnor/meanwhile.c"]
@@ -116,7 +120,7 @@ class Machine:
         return None
 
     def do(self, case):
-        """Runs a case, and returns whether it passed, or None if it was left out, and the lines to print."""
+        """Runs a case. Returns whether it passed (None if it was left out), and the lines to print."""
         for need, why in self.missing.items():
             if why and needs(case, need):
                 return None, f"left out: {case.file}: {case.sentence} ({why})"
@@ -151,7 +155,8 @@ class Machine:
 
 
 def agree(program, tally):
-    """Prints the differences between the pages and the output of the program."""
+    """Compares the pages with the output of the program (scripts/agree.sh), counts the result, and prints the
+    differences."""
     said = subprocess.run(["bash", TOP / "scripts/agree.sh", program], stdout=subprocess.PIPE,
                           stderr=subprocess.STDOUT, check=False)
     if said.returncode == 0:
@@ -162,7 +167,7 @@ def agree(program, tally):
 
 
 def cases_of(folder):
-    """Returns the cases of all files of a directory."""
+    """Returns the cases in all files of a directory."""
     files = sorted(Path(folder).glob("*.case"))
     return [case for it in files for case in grammar.read_cases(it.name, os.fsdecode(it.read_bytes()))]
 

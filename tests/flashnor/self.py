@@ -1,9 +1,9 @@
 #!/usr/bin/env python3
 """tests/flashnor/self.py PROGRAM: checks that run.py fails when it must, and prints the reason.
 
-It must fail for programs that do something else, for wrong or empty cases, for a directory without cases, and for pages
-on which a number was changed. It must also fail for PROGRAM with one thing made wrong in it (wrong.c), on the cases
-that must detect this. The last line is `N passed, M failed`.
+run.py must fail for programs that do something else than a case says, for wrong cases, for a directory without cases,
+and for pages with a wrong number. It must also fail for PROGRAM with one mistake (wrong.c), on the cases that must
+detect the mistake. The last line is `N passed, M failed`.
 """
 import os
 import re
@@ -30,7 +30,8 @@ CLOSED = "# Streams are closed.\n$ closed flashnor\n" + BEHIND
 MOMENT = "# It is read.\nfile given: hex 30300a\n$ meanwhile 'MOMENT' 'echo 11 > given' flashnor\n11\n" + BEHIND
 MOMENT += "after given: hex 31310a\n"
 
-# Each trial has a name, the program as lines of shell, the case, and the text that must be printed if it doesn't pass.
+# Each trial has a name, the program as lines of shell, the case, and the text that run.py must print (None if the case
+# must pass).
 TRIALS = [
     ("what is as the case says", RIGHT, CASE, None),
     ("lines of a trace", RIGHT, TRACE + "  1: 05\n  2: 06\n", None),
@@ -110,8 +111,8 @@ TRIALS = [
     ("a byte behind its part", RIGHT, CASE.replace("hex 3030", "2 of 30, 31 at 0x2"), "isn't within its part"),
 ]
 
-# Each row has a name, a page, the change of it, and the text that must be printed: the step, its output, and what the
-# page shows.
+# Each row has a name, a page, a pattern with its replacement on this page, and the texts that run.py must print: the
+# step, its output, or what the page shows.
 PAGES = [
     ("transactions in README", "README.md", r"(programs 1, transactions )13\.", r"\g<1>14.",
      ["transactions 13.", "transactions 14."]),
@@ -126,8 +127,8 @@ PAGES = [
     ("README without its examples", "README.md", r"^\$ flashnor", "$ echo", ["no example was found"]),
 ]
 
-# Each row has the mistake of the program, the file of cases that must detect it, and the beginning of the sentence of
-# one of these cases.
+# Each row has the name of a mistake (wrong.c), the file of cases that must detect it, and the beginning of the sentence
+# of a case that must fail. With None, all cases of the file must pass.
 WRONG = [
     ("nothing", "disks.case", None),
     ("nothing", "locks.case", None),
@@ -151,8 +152,8 @@ class Tally:
         self.failed = 0
 
     def run(self, what, wanted, told, *words):
-        """Runs run.py with the arguments `words`. Its status and last line must be `wanted`, and its output must
-        contain each text of `told`."""
+        """Runs run.py with the arguments `words`, and counts the result. The exit status and the last line must be
+        `wanted`, and the output must contain each text of `told`."""
         ran = subprocess.run([sys.executable, TOP / "tests/flashnor/run.py", *words], stdout=subprocess.PIPE,
                              stderr=subprocess.STDOUT, check=False)
         said = os.fsdecode(ran.stdout)
@@ -188,7 +189,7 @@ def try_page(work, tally, program, trial):
 
 
 def try_wrong(work, tally, program):
-    """Tests the program with one thing made wrong, once for each file of cases."""
+    """Runs each file of cases that WRONG names on the program with one mistake."""
     library = work / "wrong.so"
     if not shutil.which("cc"):
         print("left out: programs in which one thing is made wrong (there is no C compiler (cc))")
@@ -215,7 +216,7 @@ def main(program):
     tally = Tally()
     with tempfile.TemporaryDirectory() as name:
         work = Path(name)
-        # (another user must be able to run the programs, too)
+        # A user other than root must be able to run the programs, too.
         work.chmod(0o755)
         for number, trial in enumerate(TRIALS):
             try_case(work, tally, number, trial)

@@ -1,11 +1,10 @@
 #!/usr/bin/env python3
-"""tests/flashnor/starts.py: makes an image of 64 KiB and a journal of a TINY64 for each pattern that their bytes may
-begin with.
+"""tests/flashnor/starts.py: creates an image of 64 KiB and a journal of a TINY64 for each of many patterns of bytes.
 
-A pattern is a string of hexadecimal digits: each byte value eight times, and signatures of files, of parts of firmware,
-of chips and of commands. PATTERN.img begins with these bytes; the rest of its first sector is 00 and the rest of the
-image is FF. PATTERN.j is the journal, of format 2, that saves the first sector of this image. The patterns are printed,
-one per line.
+A pattern is a string of hexadecimal digits. The patterns are each byte value, eight times, and signatures of files, of
+parts of firmware, of chips and of commands. PATTERN.img begins with the bytes of the pattern. The rest of its first
+sector is 00h, and the rest of the image is FFh. PATTERN.j is a journal of format 2 that saves the first sector of this
+image. The script prints the patterns, one per line.
 """
 import hashlib
 from pathlib import Path

@@ -2,10 +2,10 @@
 """tests/flashnor/streams.py PROGRAM: runs the program from a parent process that does what no shell does for a case.
 
 The parent closes standard input, output and error in each combination before it starts the program, once with the
-numbers above them free and once with these in use; it limits how many files the program may open; it gives the program
-terminals; and it hides /proc from it. Each run must print, leave and end with what the tables below say. No text of a
-run may be written into a file. The last line is `N passed, M failed`, and the status is 1 if a run failed. If the
-machine doesn't let the parent hide /proc, it prints `skipped` with the reason.
+descriptors 3 to 9 free and once with them in use. It also limits how many files the program may open, gives it
+terminals, and hides /proc from it. Each run must print, leave and end with what the tables below say, so no printed
+text may end up in a file. The last line is `N passed, M failed`, and the exit status is 1 if a run failed. If the
+machine doesn't let the parent hide /proc, the script prints `skipped` with the reason.
 """
 import itertools
 import os
@@ -27,7 +27,7 @@ TINY = ["-p", "dummy:emulate=TINY64,image=chip.bin,status=s"]
 
 
 def sealed(text):
-    """Returns a journal of these bytes, with its end and its digest."""
+    """Returns the journal that begins with these bytes: adds the end mark and the digest."""
     text += b"\xff" * 4
     return text + sha256(text).digest()
 
@@ -42,7 +42,8 @@ LARGE_JOURNAL = sealed(b"NORUNDO2\xef\x40\x17" + bytes(8) + CLEAR + b"\0\0\x80\0
 SAVED = sealed(HEADER + b"\x0a\0\0\0" + ERASED[:4096])
 FILES = {"chip.bin": OLD, "s": CLEAR, "new.bin": NEW, "short": ERASED[:100], "saved": SAVED}
 
-# Each job has its arguments, the files that it changes or creates, its output on both streams, and its status.
+# Each job has its arguments, the files that it changes or creates, its standard output, its standard error, and its
+# exit status.
 JOBS = {
     "a write": ([*TINY, "-w", "new.bin", "--journal", "j"], {"chip.bin": NEW, "j": JOURNAL},
                 FOUND + done(1, 1, 1, 30), "", 0),
@@ -63,8 +64,8 @@ JOBS = {
     "a missing journal": ([*TINY, "--restore", "none"], {}, "", "File fault 1: none.\n", 1),
 }
 
-# Each row has the number of files that the program may have open, the closed streams, and the result of a run that
-# prints a size. The program needs three files before all others.
+# Each row has the arguments, the number of files that the program may have open, the closed streams, standard output,
+# standard error, and the exit status. Before anything else, the program opens the root directory three times.
 SIZE = ["-p", "dummy:emulate=TINY64", "--flash-size"]
 NO_ROOT = "File fault 1: /.\n"
 NO_OUTPUT = "File fault 2: standard output.\n"
@@ -84,7 +85,7 @@ LIMITS = [
     (JOBS["a write"][0], 3, "2", "", "", 1),
 ]
 
-# Each row has arguments in which TTY is replaced by the name of a terminal, and the expected standard error.
+# Each row has arguments, in which TTY is replaced by the name of a terminal, and the expected standard error.
 TERMINALS = [
     (["-p", "dummy:emulate=TINY64,image=TTY"], "File fault 1: TTY.\n"),
     (["-p", "dummy:emulate=TINY64,status=TTY", "--flash-size"], "File fault 1: TTY.\n"),
@@ -99,8 +100,9 @@ TERMINALS = [
 ]
 
 
-# Ways to hide /proc: the options of unshare, what a shell does before the program, and the fault of a run that would
-# change or create a file and whose standard output is its image. $0 is an empty directory outside the chip's.
+# Each way to hide /proc has a name, the options of unshare, the shell commands that start the program, and a fault. A
+# run ends with this fault if it would change or create a file and its standard output is its image. $0 is an empty
+# directory outside the chip's directory.
 CHROOT = 'mount --rbind / "$0" && umount -l "$0/proc" && exec chroot "$0" sh -c \'cd "$0" && exec "$@"\' "$PWD" "$@"'
 ELSEWHERE = """mount --bind /proc "$0" && mount -t tmpfs none /proc && mount -t tmpfs none /dev &&
     ln -s "$0/self/fd" /dev/fd && exec "$@" """
@@ -111,13 +113,13 @@ HIDDEN = [
     ("/dev/fd without /proc", ["--mount"], ELSEWHERE, "File fault 5: chip.bin.\n"),
 ]
 
-# Runs whose standard output is the chip's image, and which would change or create a file.
+# These runs would change or create a file. They are tried with the chip's image as standard output.
 TO_IMAGE = [[*TINY, "-w", "new.bin", "--journal", "j"], [*TINY, "-E", "--journal", "j"], [*TINY, "--restore", "saved"],
             [*TINY, "-r", "out"], ["-p", TINY[1] + ",trace=t"]]
 
 
 class Failed(Exception):
-    """A test that failed: the expected and the actual result."""
+    """A test failed. The arguments are the expected and the actual result."""
 
 
 def same(what, wanted, got):
@@ -132,9 +134,9 @@ class Runs:
         self.failed = 0
 
     def try_one(self, what, wanted, words, before=(), **how):
-        """Runs the program in a directory of its own, and compares the files that it left, its output and its status.
-        `wanted` may also be a function that returns the expected result for what was printed. The words of `before`
-        start the program."""
+        """Runs the program in a directory of its own, and compares its output, its status and the files that it left.
+        `wanted` has the expected results, or is a function that returns them for the actual output. If `before` is
+        given, this command starts the program."""
         with tempfile.TemporaryDirectory() as name:
             place = Path(name)
             for file, content in FILES.items():
@@ -176,8 +178,8 @@ class Runs:
                          words, closed=[int(it) for it in closed], limit=limit)
 
     def starve_session(self):
-        """A session that may open too few files ends with a file fault, and sends nothing. With enough files it ends as
-        it does without a limit."""
+        """Checks that a session that may open too few files ends with file fault 1 or 2 and doesn't change the chip,
+        and that with enough files it ends as without a limit."""
         words, changed, printed, _, _ = JOBS["a write"]
         ends = set()
 
@@ -200,7 +202,8 @@ class Runs:
         for words, faults in TERMINALS:
             words = [it.replace("TTY", name) for it in words]
             self.try_one(f"{words} with a terminal", ({}, "", faults.replace("TTY", name), 1), words)
-        # A terminal as standard output or standard error is not a file that a run could write.
+        # The trace may be the terminal of standard output or standard error, because a terminal isn't a file that a run
+        # could overwrite.
         size = "05 > 00|9f > fe1010|5a00000000 > 8 bytes|5a00000800 > 8 bytes|5a00001000 > 36 bytes|65536|"
         for stream in ("stdout", "stderr"):
             words = ["-p", f"dummy:emulate=TINY64,trace=/dev/{stream}", "--flash-size"]
@@ -217,8 +220,8 @@ class Runs:
 
 
     def hide_proc(self):
-        """If /proc isn't that of the program, the streams are found in /dev/fd. If they aren't there either, a run that
-        would change or create a file ends before it does. A run that only reads is done."""
+        """Checks runs that don't see their own /proc. They look for their streams in /dev/fd. If /dev/fd doesn't have
+        them either, a run that would change or create a file ends before it does so; a run that only reads succeeds."""
         for what, flags, setup, fault in HIDDEN:
             with tempfile.TemporaryDirectory() as root:
                 before = ["unshare", *flags, "sh", "-c", setup, root]
@@ -233,8 +236,8 @@ class Runs:
 
 
 def run(words, place, closed=(), is_full=False, limit=0, terminal=None, output=None):
-    """Returns what the words print on standard output and standard error in this directory, and their status. What they
-    print to the file of the name `output` isn't returned."""
+    """Runs the command `words` in the directory `place`. Returns its standard output, its standard error and its exit
+    status. If `output` names a file, standard output goes to this file, and isn't returned."""
     kept = [os.open("/dev/null", os.O_RDONLY)] * is_full
     kept += [os.dup2(kept[0], it) for it in range(3, 10) if is_full and it != kept[0]]
 

@@ -1,6 +1,6 @@
 #!/usr/bin/env python3
-"""tests/flashnor/terminal.py COMMAND..: runs a command with its standard error at a terminal, and prints to standard
-error what the terminal was sent. The status is that of the command."""
+"""tests/flashnor/terminal.py COMMAND..: runs a command with its standard error at a terminal, and prints what the
+terminal receives to standard error. The exit status is that of the command."""
 import os
 import pty
 import subprocess
@@ -9,7 +9,7 @@ import tty
 
 
 def received(descriptor):
-    """Yields what the terminal was sent, until no process has it open."""
+    """Yields the bytes that the terminal receives, until no process has it open."""
     while True:
         try:
             got = os.read(descriptor, 65536)

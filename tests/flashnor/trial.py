@@ -9,18 +9,19 @@ from pathlib import Path
 import contents
 from grammar import Step
 
-# A larger file isn't read: only its length and its time are compared.
+# A file with more bytes isn't read: only its length and its time are compared.
 MOST_COMPARED = 32 << 20
-# The notation of a case for a name that is no file with bytes, as `look` returns it.
+# This pattern matches what a case gives as the content of a name that isn't a regular file: `no file`, or the text that
+# `look` returns.
 OTHERS = r"no file|a directory|a FIFO|a link to .+"
 
 
 class Differs(Exception):
-    """A comparison that failed: the expected and the actual result."""
+    """A comparison failed. The arguments are the expected and the actual result."""
 
 
 def shown(text):
-    """Returns a text as a terminal can show it."""
+    """Returns a text with escape sequences in place of the characters that a terminal can't show."""
     return "".join(it if it.isprintable() or it == "\n" else ascii(it)[1:-1] for it in text)
 
 
@@ -38,8 +39,8 @@ def read(path):
 
 
 def look(path):
-    """Returns the bytes of a file and its permissions. For anything else returns a text that describes it in place of
-    the bytes."""
+    """Returns the bytes of a file, and its permissions. For anything else, and for a file with more than MOST_COMPARED
+    bytes, returns a text that describes it in place of the bytes."""
     found = path.lstat()
     rights = stat.S_IMODE(found.st_mode)
     if stat.S_ISLNK(found.st_mode):
@@ -54,7 +55,7 @@ def look(path):
 
 
 def all_files(folder):
-    """Returns what `look` returns for each file and directory below `folder`, by its name."""
+    """Returns the results of `look` for all files and directories below `folder`, by their names."""
     found = {}
     for place, folders, files in os.walk(folder):
         for name in folders + files:
@@ -64,19 +65,19 @@ def all_files(folder):
 
 
 def told(what):
-    """Returns a text for what `look` returned, for messages."""
+    """Returns a text for a result of `look` in a message: the number of bytes, or the text that describes another kind
+    of file."""
     return f"{len(what)} bytes" if isinstance(what, bytes) else what
 
 
 def differing(wanted, got):
-    """Returns a text with the first bytes that differ."""
+    """Returns a text with the first bytes that differ, at most four."""
     places = [k for k in range(min(len(wanted), len(got))) if wanted[k] != got[k]][:4]
     return "".join(f", {got[k]:02x} at 0x{k:x}, not {wanted[k]:02x}" for k in places)
 
 
 def same_lines(file, got):
-    """Compares a file with the number of lines that it must have, and with the lines that are given by their
-    numbers."""
+    """Checks that a file has the expected number of lines, and the lines that the case gives with their numbers."""
     lines = os.fsdecode(got).split("\n")
     if len(lines) != file.count() + 1 or lines.pop() != "":
         raise Differs(f"wanted of {file.name}: {file.content}", f"got: {len(lines)} lines, or one without an end")
@@ -86,8 +87,8 @@ def same_lines(file, got):
 
 
 def text_differs(name, wanted, got):
-    """Returns the lines that describe how the printed text differs, if it does. A line `..` of the expected text
-    matches any lines."""
+    """Returns the lines that describe how the printed text differs from the expected lines, or an empty list. A line
+    `..` of the expected text matches any number of lines."""
     pattern = "".join(r"(?:[^\n]*\n)*" if it == ".." else re.escape(it + "\n") for it in wanted)
     got = os.fsdecode(got)
     if re.fullmatch(pattern, got):
@@ -97,8 +98,8 @@ def text_differs(name, wanted, got):
 
 
 class Trial:
-    """A case that is run in the directory `folder`. `words` are variables of its steps, with the program and the
-    repository."""
+    """A case that runs in the directory `folder`. `words` has shell variables for its steps, such as the paths of the
+    program and of the repository."""
 
     def __init__(self, case, folder, words):
         self.case = case
@@ -108,7 +109,7 @@ class Trial:
         self.command = ""
 
     def content(self, file):
-        """Returns the bytes that the case gives for a file."""
+        """Returns the bytes that the case gives for this file."""
         if not file.content:
             return b"".join(os.fsencode(f"{it}\n") for it in file.text)
         try:
@@ -117,7 +118,7 @@ class Trial:
             raise Differs(f"'{file.content}' of {file.name} can't be made: {why}") from why
 
     def do(self):
-        """Runs all steps. Raises `Differs` at the first difference."""
+        """Creates the files of the case, and runs its steps. Raises `Differs` at the first difference."""
         if self.case.fault:
             raise Differs(self.case.fault)
         for it in self.case.parts:
@@ -144,15 +145,15 @@ class Trial:
             self.compare(before, wanted, all_files(self.folder))
 
     def wanted(self, file):
-        """Returns the expected content of a file: its bytes, a text if it is no file with bytes, or the file itself if
-        the case gives only its length or its number of lines."""
+        """Returns the expected content of a file: its bytes, or a text if it isn't a regular file. Returns `file`
+        itself if the case gives only its length or its number of lines."""
         if re.fullmatch(OTHERS, file.content):
             return file.content
         return file if re.fullmatch(r"\d+ (bytes|lines?)", file.content) else self.content(file)
 
     def compare(self, before, wanted, after):
-        """Checks that each file has its expected content and the permissions from before, and that there is no other
-        file."""
+        """Checks that each file has its expected content and its permissions from before the step, and that no other
+        file exists."""
         for name in sorted({*before, *wanted, *after}):
             want = wanted.get(name, before.get(name, ("no file",))[0])
             got, rights = after.get(name, ("no file", 0))

@@ -1,13 +1,13 @@
 # shellcheck shell=bash disable=SC2034,SC2154
-# The checks of run.sh in which no call is interrupted: the order of the calls of a run, the directories that are
-# synced, locks, and the permissions, owners and times of files.
+# run.sh sources this file. Its functions check the order of the calls of a run, the directories that a run syncs,
+# locks, and the permissions, owners and times of files.
 
-# Counts one check, which fails if there is a problem.
+# Counts one check. The check failed if the arguments describe a problem.
 counted() {
     if [[ -z $* ]]; then passed=$((passed + 1)); else tell "$run: $*"; fi
 }
 
-# Prints the number of the last call whose line is one of these, or 0.
+# Prints the number of the last call in `made` that is one of the arguments, or 0 if there is none.
 last_of() {
     local i line number=0
     for ((i = 0; i < ${#made[@]}; i++)); do
@@ -16,8 +16,9 @@ last_of() {
     echo "$number"
 }
 
-# Prints what is wrong with the order of the calls in `made`: a journal and its directory must be synced before the
-# chip's files are written. Each of these must be truncated and synced after its last write. All are opened once.
+# Prints the mistakes in the order of the calls in `made`. Before image or status is written, the journal and its
+# directory must be synced. After their last write, image and status must be truncated and synced. Image, status and
+# journal must be opened at most once.
 problems_of_order() {
     local name opened first=0 written
     for name in image status journal; do
@@ -55,7 +56,7 @@ check_order() {
     counted "${problems//$'\n'/}"
 }
 
-# check NAME: does the check of this name, if no other run is asked for.
+# check NAME: runs the check of this name, unless run.sh was given the name of another run.
 check() {
     local run=$1 from=(byte_00 clear) sealed='' kept='' before=$passed
     [[ -z $only || $only == "$1" ]] || return 0
@@ -63,7 +64,8 @@ check() {
     echo "$1: $((passed - before)) checks"
 }
 
-# The directory that is synced must be the one in which the journal is created, or the image.
+# Checks that a run that creates its journal syncs the journal's directory, and that a run without an image syncs the
+# image's directory.
 check_folders() {
     local name folder
     mkdir -p a/b
@@ -79,7 +81,8 @@ check_folders() {
             counted "$name is created, and its directory is not synced"
         fi
     done
-    # For a missing image in the root directory, that one is synced. The run ends before anything is created.
+    # If the image is missing in the root directory, the run must sync the root directory. This run ends before it
+    # creates a file, because the file `../none` doesn't exist.
     begin
     attempt 0 '' -p dummy:emulate=TINY64,image=/flashnor.$$ -w ../none --journal journal
     if [[ $(< faults) == 'File fault 1: ../none.' && $(< calls) == *$'open /\nfsync /\n'* ]]; then
@@ -89,8 +92,9 @@ check_folders() {
     fi
 }
 
-# No session and no restore begins while another process has a lock on one of the chip's files, and no restore while
-# another one has an exclusive lock on the journal. While they work, nobody else gets a lock.
+# Checks that a session and a restore refuse an image or status that another process has locked, and that a restore
+# refuses a journal that another process has locked exclusively. Also checks that no other process can lock these files
+# while the session or restore works.
 check_locks() {
     local file
     if command -v flock > /dev/null; then
@@ -98,7 +102,7 @@ check_locks() {
             begin
             "$program" -p "$on_tiny" -w ../byte_01 --journal journal > said
             is_refused "$file" 5 "$file" --restore journal
-            # (no session begins, and none takes a lock, if its journal's file exists)
+            # If the journal's file exists, the session ends with file fault 4 before it takes a lock.
             is_refused "$file" 4 journal -w ../byte_00 --journal journal
             rm journal
             is_refused "$file" 5 "$file" -w ../byte_00 --journal journal
@@ -110,7 +114,7 @@ check_locks() {
         on_tiny+=,trace=trace is_refused trace 5 trace -v ../byte_01
         : > out
         is_refused out 5 out -r out
-        # Another restore may read the journal at the same time.
+        # A restore takes a shared lock on its journal, so it must succeed if another process has a shared lock, too.
         flock --shared --no-fork journal "$program" -p "$on_tiny" --restore journal > said 2>&1 || true
         [[ $(tail -n 1 said) != Done* ]] || file=''
         counted ${file:+"a restore doesn't share its journal with another one: $(cat said)"}
@@ -126,8 +130,8 @@ check_locks() {
     on_tiny+=,trace=trace holds_all read 2 -r out
 }
 
-# is_refused LOCKED NUMBER NAME ARGUMENTS..: while another process has a lock on LOCKED, the run must end with this file
-# fault of NAME, and leave all files as they are.
+# is_refused LOCKED NUMBER NAME ARGUMENTS..: runs the program while another process has an exclusive lock on LOCKED. The
+# run must end with file fault NUMBER of NAME, and leave all files as they are.
 is_refused() {
     local status=0 files
     files=$(sum_of ./*)
@@ -142,9 +146,9 @@ is_refused() {
 
 sum_of() { for each in "$@"; do [[ ! -f $each ]] || cksum "$each"; done; }
 
-# holds_all WHAT LEAST ARGUMENTS..: at each call from the journal's first write or read on, no other process can lock
-# the chip's files, nor the journal while it is written, or restored from. Nor can it lock the trace and the file of -r
-# while they are written. There must be at least LEAST such calls.
+# holds_all WHAT LEAST ARGUMENTS..: runs the program, and checks that no other process can lock its files. From the
+# first write or read of the journal on, image and status must be locked. The journal must be locked while it is written
+# or restored from, and the trace and the file of -r while they are written. At least LEAST calls must be checked.
 holds_all() {
     local problem
     LOCKS=yes attempt 0 '' -p "$on_tiny" "${@:3}"
@@ -169,8 +173,8 @@ holds_all() {
     counted ${problem:+"$1: $problem"}
 }
 
-# New files have no more permissions than the chip's files have; files that are there keep permissions and owner; and a
-# run that doesn't change the chip changes nothing of its files.
+# Checks that new files don't get more permissions than image and status have, that existing files keep their
+# permissions and owner, and that a run that doesn't change the chip leaves its files as they were.
 check_modes() {
     local mask image status journal file words left
     while read -r mask image status journal; do
@@ -197,7 +201,8 @@ EOT
 022 image 640 640
 077 status 600 600
 EOT
-    # A umask that forbids writing must not leave a new chip unwritten. Root may write it anyway: this is another user.
+    # Even with a umask that forbids writing, a session must write the files of a new chip. Root can write every file,
+    # so the program runs as another user, if possible.
     local program=$program as_other=()
     if [[ $(id -u) == 0 ]]; then
         cp "$program" ../program
@@ -218,7 +223,7 @@ EOT
         have byte_01 clear || tell "$run: umask $mask leaves another chip"
     done
     as_other=()
-    # A file whose permissions can't be read must not open the journal to more people than its owner.
+    # If the permissions of image or status can't be read, only the owner may get access to the journal.
     for file in image status; do
         begin
         attempt 0 '' -p "$on_tiny" -w ../byte_01 --journal journal
@@ -236,14 +241,14 @@ EOT
     keeps_all
 }
 
-# with_mask MASK ARGUMENTS..: runs with this umask. The run must end with status 0.
+# with_mask MASK ARGUMENTS..: runs the program with this umask. The run must end with status 0.
 with_mask() {
     local problem=''
     (umask "$1" && ${as_other[@]+"${as_other[@]}"} "$program" -p "$on_tiny" "${@:2}") > said 2> faults || problem=$?
     counted ${problem:+"umask $1, ${*:2}: ended with $problem. $(cat said faults)"}
 }
 
-# has_modes WHAT NAME=MODE..: these files have these permissions.
+# has_modes WHAT NAME=MODE..: checks that each file NAME has the permissions MODE.
 has_modes() {
     local pair found problem=''
     for pair in "${@:2}"; do
@@ -253,14 +258,14 @@ has_modes() {
     counted ${problem:+"$1:$problem"}
 }
 
-# A session and its restore keep owner, permissions and inode of the chip's files, of the journal that is restored from,
-# and of a trace that is there.
+# Checks that a session and its restore keep the owner, permissions and inode of image and status. The session must also
+# keep those of an existing trace, and the restore those of its journal.
 keeps_owner() {
     local of='%n %i %u %g %a' before traced=$on_tiny,trace=trace
     begin
     echo old > trace
     chmod 640 image status trace
-    # (only root can give files to another user)
+    # Only root can give files to another user.
     [[ $(id -u) != 0 ]] || chown 65534:65534 image status trace
     before=$(stat -c "$of" image status trace)
     "$program" -p "$traced" -w ../byte_01 --journal journal > said
@@ -270,7 +275,7 @@ keeps_owner() {
     has_stat "a restore" "$before" "$of %y" journal "$of" image status
 }
 
-# has_stat WHAT STAT FORMAT NAME.. [FORMAT NAME..]: these files have this output of stat.
+# has_stat WHAT STAT FORMAT NAME.. [FORMAT NAME..]: checks that stat prints STAT for these files in these formats.
 has_stat() {
     local found='' what=$1 wanted=$2 format=$3 each
     shift 3
@@ -281,7 +286,8 @@ has_stat() {
     counted ${what:+"$what leaves $found, and before there was $wanted"}
 }
 
-# Each of these runs leaves permissions, owner, inode and the time of the last change of the chip's files.
+# Checks that runs that don't change the chip keep the permissions, owner, inode, length and times of image, status and
+# journal.
 keeps_all() {
     local words before of='%n %i %u %g %a %s %y %z'
     begin
@@ -290,7 +296,7 @@ keeps_all() {
     before=$(stat -c "$of" image status journal)
     for words in '' '-r out' '-v ../byte_00' '-v ../byte_01' '-w ../byte_01 --rehearse 25' \
         '-w ../byte_01 --journal journal' '-w ../byte_01' '--restore none'; do
-        # shellcheck disable=SC2086  # each is a list of arguments
+        # shellcheck disable=SC2086  # `words` is a list of arguments
         "$program" -p "$on_tiny" $words > said 2> faults || true
         has_stat "the run '$words'" "$before" "$of" image status journal
     done

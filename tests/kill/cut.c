@@ -1,11 +1,11 @@
-/* Interrupts one call on a file of the program into which it is loaded (LD_PRELOAD): the call whose number, counted
-   from 1, is in CALL. The number 0 interrupts none. HOW says in which way:
+/* Interrupts one call on a file of the program into which this library is loaded (LD_PRELOAD). The environment variable
+   CALL has the number of this call, counted from 1 (0 interrupts none). HOW has the way:
      before, after    the process is killed before the call, or after it
      one, half, most  it is killed after a write has written one byte, half of its bytes, or all but one
      last             it is killed after a write has written only the last half of its bytes, as a host crash may leave
                       them
      EIO and others   the call fails with this error, and does nothing
-     EIO+ and others  so do all later calls on that file
+     EIO+ and others  this call and all later calls on that file fail with this error
      short            a write writes half of its bytes, and all later writes fail with ENOSPC
      part             a read or a write moves half of its bytes, and returns their number
      grown            another process has appended four bytes to the file before the call
@@ -48,7 +48,7 @@
 enum { FILES = 64, LENGTH = 4096 };
 
 static const char *calls, *how, *recorded, *locks;
-/* In which way the program is wrong, and the file that this is about. */
+/* The mutant that WRONG names, and the name that follows it. */
 static const char *fault, *faulty;
 static unsigned long called, nth;
 static int is_cut, is_full;
@@ -72,7 +72,7 @@ __attribute__((constructor)) static void begin(void) {
     if (*calls) alarm(60);
 }
 
-/* Ends the process because of something that this file doesn't support. */
+/* Ends the process because it did something that this library doesn't support. */
 static void die(const char *what, const char *name) {
     dprintf(STDERR_FILENO, "cut.c: %s: %s\n", what, name);
     abort();
@@ -99,10 +99,10 @@ static int is_wrong(const char *way) {
     return strncmp(fault, way, length) == 0 && fault[length] == ' ';
 }
 
-/* True if the next sync was already recorded. */
+/* Whether the next sync was already recorded. */
 static int is_ahead;
 
-/* Returns true if this changes the file, or the directory, whose syncs are wrong. */
+/* Returns true if this change is one of the file, or in the directory, of which the mutant records wrong syncs. */
 static int is_faulty(const char *what, const char *name) {
     if (strcmp(what, "make") != 0) return strcmp(name, faulty) == 0;
     const char *end = strrchr(name, '/');

@@ -1,9 +1,9 @@
-"""The contents that a disk may have after a host crash.
+"""Computes the contents that a disk may have after a host crash.
 
-Nothing is assumed about the order in which changes reach a disk. Until a file is synced, each of its blocks may be as
-it was at the last sync or after any later write, and so may its length. Where the length grew but no block was written,
-the disk has zeros. Until a directory is synced, a name in it may refer to the file that it referred to at the last
-sync, to any later one, or to none.
+Changes may reach the disk in any order. Until a file is synced, each of its blocks may be as it was at the last sync or
+after any later write, and so may its length. If the length grew but a block wasn't written, the disk has zeros there.
+Until a directory is synced, each name in it may be as it was at the last sync or after any later change: it may refer
+to an older file, to a newer one, or to none.
 """
 import os
 
@@ -11,12 +11,12 @@ BLOCK = 512
 
 
 def block_of(content, number):
-    """Returns a block of these bytes, with zeros after their end."""
+    """Returns the block of `content` with this number, filled up with zeros."""
     return bytes(content[number * BLOCK : (number + 1) * BLOCK]).ljust(BLOCK, b"\0")
 
 
 class File:
-    """A file: the bytes that programs see, and those that the disk may have instead."""
+    """A file: the bytes that programs see (`seen`), and the lengths and blocks that the disk may have instead."""
 
     def __init__(self, content=b""):
         self.seen = bytearray(content)
@@ -28,8 +28,8 @@ class File:
         self.blocks = {}
 
     def changed(self, begin, end):
-        """Adds the present contents of the blocks between these positions to what each block may be, and the present
-        length to the possible lengths."""
+        """Adds the current contents of the blocks from `begin` to `end` to the contents that these blocks may have, and
+        the current length to the lengths that the file may have."""
         if len(self.seen) != self.lengths[-1]:
             self.lengths.append(len(self.seen))
         for number in range(begin // BLOCK, -(-end // BLOCK)):
@@ -49,7 +49,8 @@ class File:
         self.changed(begin, end)
 
     def left(self, pick):
-        """Returns what a host crash leaves of the file. `pick` selects one of the possible contents of each part."""
+        """Returns the bytes that a host crash leaves in the file. `pick` chooses one of the possible lengths, and one
+        of the possible contents of each block."""
         length = pick(self.lengths)
         content = bytearray(self.synced[:length].ljust(length, b"\0"))
         for number, found in self.blocks.items():
@@ -58,14 +59,14 @@ class File:
 
 
 class Disk:
-    """Files by their names. Each name has the list of files to which it may refer on the disk, or None for no file.
-    Programs see the last one."""
+    """A disk with files. Each name has the list of files to which it may refer after a crash; None stands for no file.
+    Programs see the last entry."""
 
     def __init__(self):
         self.names = {}
 
     def put(self, name, content):
-        """Adds a durable file."""
+        """Makes this name refer to a durable file with this content."""
         self.names[name] = [File(content)]
 
     def make(self, name):
@@ -78,7 +79,7 @@ class Disk:
         return self.names.get(name, [None])[-1]
 
     def sync(self, name):
-        """Syncs the file of this name, or the directory if there is no such file."""
+        """Syncs the file of this name or, if there is no such file, the directory."""
         if self.file(name):
             self.file(name).sync()
             return
@@ -87,7 +88,7 @@ class Disk:
                 del files[:-1]
 
     def change(self, what, name, at, content):
-        """Makes a recorded change."""
+        """Makes a change that cut.c recorded."""
         name = os.path.normpath(name)
         if what == "make":
             self.make(name)
@@ -101,11 +102,12 @@ class Disk:
             raise ValueError(f"no change that is known: {what} {name}")
 
     def seen(self):
-        """Returns the bytes that programs see of the existing files."""
+        """Returns the bytes of each existing file, as programs see them."""
         return {name: bytes(files[-1].seen) for name, files in self.names.items() if files[-1]}
 
     def left(self, picks):
-        """Returns the files that a host crash leaves. `picks` makes a new `pick` for each name."""
+        """Returns the files that a host crash leaves, by their names. `picks` makes the function `pick` for each
+        name."""
         left = {}
         for name, files in sorted(self.names.items()):
             pick = picks()
@@ -116,7 +118,8 @@ class Disk:
 
 
 def read_record(path):
-    """Returns the records of cut.c: each has what happened, the file, the position, and the bytes."""
+    """Returns the records that cut.c wrote. Each has the kind of change, the file's name, the position, and the
+    bytes."""
     with open(path, "rb") as it:
         text = it.read()
     records, at = [], 0
@@ -137,8 +140,9 @@ def last(options):
 
 
 def picks_of(number, chance):
-    """Returns the function that makes the picks of a host crash. Number 0 leaves nothing that wasn't synced, and number
-    1 everything. Other numbers pick by chance: little of some files, and nearly everything of others."""
+    """Returns the function `picks` (see `Disk.left`) of the crash with this number. In crash 0, the disk has nothing
+    that wasn't synced, and in crash 1 everything. In other crashes, chance decides for each name whether the disk has
+    little or nearly everything."""
     if number < 2:
         return lambda: (first, last)[number]
 

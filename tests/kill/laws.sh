@@ -1,18 +1,20 @@
 # shellcheck shell=bash disable=SC2154
-# The requirements of run.sh for a run with one interrupted call. Each function takes the call's number in `made`, the
-# call itself, and the way in which it is interrupted, or the first of these.
+# run.sh sources this file. Its functions check a run in which one call was interrupted. If a comment doesn't say
+# otherwise, $1 is the number of the call in `made`, $2 the call itself, and $3 the way in which it was interrupted
+# (cut.c).
 
-# Succeeds if the chip has this file before the run.
+# Succeeds if $1 is image or status, and exists before the run.
 was_there() { [[ $1 == image && ${from[0]} != - || $1 == status && ${from[1]} != - ]]; }
 
-# Succeeds if this is one of the chip's files.
+# Succeeds if the file $1 is image or status.
 is_chips() { [[ $1 == image || $1 == status ]]; }
 
-# Succeeds if the session is over when this call is made, so that the chip's files are written and it prints its result.
+# Succeeds if the call comes after the last call on the journal. From then on, the run writes image and status, and
+# prints its result.
 is_late() { (($1 > called)); }
 
-# Succeeds if this is a look at a file that the run will read, before it looks at the image and opens a file. If that
-# look fails, the file counts as missing.
+# Succeeds if the call is a stat of an input file, and stats of the image and an open follow it. If this stat fails, the
+# program treats the input file as missing.
 is_ahead() {
     local i
     [[ ${made[$1 - 1]} == 'statx ../'* && ${made[$1]:-} == 'statx image' ]] || return 1
@@ -26,17 +28,19 @@ is_ahead() {
     return 1
 }
 
-# Succeeds if this is the last look at one of the chip's files, after both were written: it doesn't follow a sync.
+# Succeeds if the call is the last stat of image or status, which the run makes after it wrote both. This stat doesn't
+# follow a sync, and an fstat of the file follows it.
 is_last_look() {
     local name=${made[$1 - 1]#* }
     is_late "$1" && is_chips "$name" && [[ ${made[$1 - 2]:-} != fsync* ]] \
         && [[ "${made[$1 - 1]},${made[$1]:-}" == "statx $name,fstat $name" ]]
 }
 
-# Prints the ways in which the call of this number is interrupted.
-# A call that reads leaves nothing, so it only fails or reads less; for a chip of 8 MiB only reads of the layout do.
-# Calls that look at a file are interrupted only in some runs, which are `deep`. A file that has grown since it was read
-# must be truncated to its length. If a file is long enough already, a write's bytes may become durable in any order.
+# Prints the ways in which the call $1 is interrupted.
+# A call that reads changes nothing, so it only fails or reads fewer bytes; for a chip of 8 MiB only reads of the layout
+# are interrupted. Most calls of stat, fstat and `open /` are interrupted only in some runs, for which `deep` is set. In
+# the way `grown`, the run must truncate the file to its right length. The way `last` is tried only on files that
+# existed before, because their bytes may become durable in any order.
 ways() {
     local call=${made[$1 - 1]:-none} name
     name=${call#* }
@@ -73,8 +77,8 @@ ways() {
     [[ $call,${made[$1 - 2]:-} != 'statx journal,fsync journal' ]] || echo shrunk
 }
 
-# Succeeds if another file may take the name of this call's file before the call: of an image or status that is being
-# written, or of a journal.
+# Succeeds if another process may replace the file before this call (the way `stranger`). The call must work on an image
+# or status that is being written, or on the journal of a session.
 can_be_replaced() {
     case $2 in
         write*image | write*status | ftruncate*image | ftruncate*status | fsync*image | fsync*status) is_late "$1" ;;
@@ -84,7 +88,8 @@ can_be_replaced() {
     esac
 }
 
-# Prints the file for which this call opens, syncs or closes a directory: the last one that was worked on before.
+# Prints the file for which the call $1 opens, syncs or closes a directory: the image, status or journal that was last
+# used before.
 owner_of() {
     local i
     for ((i = $1 - 2; i >= 0; i--)); do
@@ -94,7 +99,7 @@ owner_of() {
     done
 }
 
-# Prints the lines that report how the call of this number failed.
+# Prints the lines that the program must print if this call failed in this way.
 lines_of() {
     local name=${2#* } memory='Error 18: out of memory.'
     [[ $name != . ]] || name=$(owner_of "$1")
@@ -117,9 +122,10 @@ lines_of() {
     [[ $3 != short ]] || lines_without_room "$1"
 }
 
-# Prints the line for a look at this name that failed. After a sync, and after both files of the chip were written, the
-# name must still refer to the file; that of the journal must do so when the chip is written, too. A file that is to be
-# written must be regular, or neither be there nor be a link. Other names are compared before the run works.
+# line_of_look NUMBER NAME WAY: prints the line for a failed stat or fstat of NAME. After a sync of NAME, and after
+# image and status were written, the program checks that NAME still refers to its file. Before it opens a file for
+# writing, it checks that the file is regular, or that neither a file nor a link has this name. It compares other names
+# before it starts its work.
 line_of_look() {
     if is_late "$1" && [[ $2 == journal ]] || is_last_look "$1"; then
         echo "File fault 2: $2."
@@ -132,12 +138,12 @@ line_of_look() {
     esac
 }
 
-# Succeeds if the run goes on after this look failed:
+# Succeeds if the run must ignore that this stat or fstat failed, for one of these reasons:
 # - The length of a file that is read is only a hint.
-# - Before a file is read, and before one is opened for the trace or for -r, the program asks whether it is a FIFO.
-# - Before two names are compared, it asks whether the journal's file is there; after it, whether new files are there.
-# - Standard output and error have a second name.
-# - The journal's permissions are compared with those of two files.
+# - The program only asks whether a file that it will read, the trace, or the file of -r is a FIFO.
+# - The program only asks whether the journal or another new file exists.
+# - Standard output and standard error have a second name (/dev/fd).
+# - The program only needs the permissions of a file to choose those of a new file.
 is_hint() {
     [[ $2 != *' /proc/self/fd/'[12] ]] || return 0
     ! { is_late "$1" && [[ $2 == *' journal' ]] || is_last_look "$1" || is_ahead "$1"; } || return 1
@@ -151,7 +157,7 @@ is_hint() {
     esac
 }
 
-# Prints the lines for all writes from this one on, since a write without disk space is followed by others without it.
+# Prints a line for each file that is written from call $1 on. In the way `short`, all later writes fail too.
 lines_without_room() {
     local name later
     later=$(printf '%s\n' "${made[@]:$1 - 1}")
@@ -160,8 +166,8 @@ lines_without_room() {
     done
 }
 
-# Succeeds if the run printed only those lines, and left the files that it must leave. Its result is printed too if the
-# session was over, or if only the trace was not written.
+# Succeeds if the run printed only the lines of `lines_of`, and left the right files. It must also have printed its
+# result if the call came after the session (`is_late`), or only wrote or truncated the trace.
 is_told() {
     local printed='' faults
     faults=$(lines_of "$@")
@@ -174,7 +180,7 @@ is_told() {
     [[ $ended == 1 && $(< said) == "$printed" && $(< faults) == "$faults" ]]
 }
 
-# Succeeds if these files are as the run leaves them when nothing is interrupted.
+# Succeeds if the files in the arguments are as an uninterrupted run leaves them.
 is_as_own() {
     local file
     for file in "$@"; do
@@ -182,7 +188,8 @@ is_as_own() {
     done
 }
 
-# Succeeds if that is so for all files, except for those of which these lines report that they were not written.
+# Succeeds if all files are as an uninterrupted run leaves them, except files for which the lines in $1 have a file
+# fault 2.
 is_left_but_for() {
     local file
     for file in "${files[@]}"; do
@@ -190,8 +197,8 @@ is_left_but_for() {
     done
 }
 
-# Succeeds if image and status are as before the run. A file that was missing may be that of an erased chip, or reported
-# as not written.
+# Succeeds if image and status are as before the run. A file that was missing may be that of an erased chip. It may have
+# any contents if the run reported file fault 2 for it.
 is_untouched() {
     local i file=(image status) erased=(erased clear)
     for i in 0 1; do
@@ -203,7 +210,7 @@ is_untouched() {
     done
 }
 
-# Succeeds if these files are missing, or a prefix of what the run leaves when nothing is interrupted.
+# Succeeds if each file in the arguments is missing, or is a prefix of the file that an uninterrupted run leaves.
 is_prefix() {
     local file
     for file in "$@"; do
@@ -211,18 +218,18 @@ is_prefix() {
     done
 }
 
-# Succeeds if nothing was printed yet by a run that was killed, unless it had only to close files.
+# Succeeds if the killed run printed nothing. If only calls of close were left, it may have printed its result.
 is_silent() {
     local call
     [[ -s said || -s faults ]] || return 0
     for call in "${made[@]:$1 - 1}"; do [[ $call == close* ]] || return 1; done
 }
 
-# Succeeds if this file has just the bytes that cut.c wrote as another process.
+# Succeeds if the file $1 has only the bytes `more`, which cut.c wrote as another process.
 has_more() { cmp -s "$1" <(printf more); }
 
-# Succeeds if the run reports that another file has this name, and left that file alone. Its own file must be as it has
-# to be, unless the run created it.
+# Succeeds if the run reported that another file has taken the name of its file, and didn't change this other file. If
+# the run's own file existed before, it must be as an uninterrupted run leaves it.
 is_replaced() {
     local name=${2#* }
     has_more "$name" || return 1
@@ -231,11 +238,13 @@ is_replaced() {
     ! was_there "$name" || is_as_own "$name"
 }
 
-# Succeeds if the run ended as it must after this call was interrupted in this way. It ends as if nothing had failed if
-# - a file is closed, since std doesn't return that error, and all files were synced before; or a call is made again,
-# - a directory may not be opened (EACCES, EPERM), or its file system can't sync it,
-# - the file system has no locks,
-# - a name doesn't exist when the program compares names.
+# Succeeds if the run ended as it must after this call was interrupted in this way. In these cases it must end as if the
+# call had succeeded:
+# - A close failed: the standard library ignores this error, and all files were synced before.
+# - A read or write moved only a part of its bytes, or failed with EINTR: the program makes the call again.
+# - A directory can't be opened (EACCES, EPERM), or its file system can't sync it (EINVAL, EOPNOTSUPP, ENOSYS).
+# - The file system has no locks (ENOLCK, EOPNOTSUPP, ENOSYS).
+# - A stat or fstat failed whose result is only a hint (`is_hint`).
 ended_rightly() {
     [[ $(< calls) == *$'\n'"cut $3"* ]] || return 1
     [[ $3 == last || $3 == stranger ]] || is_prefix trace out || return 1

@@ -1,24 +1,23 @@
 #!/usr/bin/env python3
-"""tests/kill/lost.py PROGRAM LIBRARY [RUN [EVENT CHOICE]]: host crashes while flashnor works.
+"""tests/kill/lost.py PROGRAM LIBRARY [RUN [EVENT CHOICE]]: tests host crashes while flashnor works.
 
-Each story of stories.py is a chip in files, and successive runs of PROGRAM on it. LIBRARY, which is cut.c, records what
-a run does to files. After each of these events the host crashes, and disk.py computes what the disk may hold: nothing
-that wasn't synced, all of that, and CHOICES random choices, which depend only on SEED and the name of the crash. Writes
-that an earlier run left unsynced are included. For each crash that differs from those before it in its run, the test
-follows the manual page's RECOVERY:
+Each story of stories.py is a chip in files, with successive runs of PROGRAM on this chip. LIBRARY, the compiled cut.c,
+records the changes that a run makes to files. After each of these events the host crashes, and disk.py computes what
+the disk may hold: nothing that wasn't synced, everything, or one of CHOICES random choices. These depend only on SEED
+and on the name of the crash. An earlier run may have left writes unsynced, and these are included. Crashes of a run
+that leave equal disks are tried once. After each crash, the test follows RECOVERY in flashnor(8):
 
-  - If the journal is complete, by its digest, `--restore` must end with 0, and image and status must be as before the
-    session. For a file that didn't exist then, `--restore` may report a wrong length; the file is moved away, and the
-    restore is run again.
-  - If the journal is incomplete or missing, `--restore` must report that, and image and status must be as before the
+  - If the digest of the journal is right, `--restore` must end with status 0, and image and status must be as before
+    the session. If one of these files didn't exist then, `--restore` may report that it has the wrong length. The test
+    then moves the file away, and repeats the restore.
+  - If the journal is incomplete or missing, `--restore` must report this, and image and status must be as before the
     session.
-  - If `Done` was printed, image and status must be what the run had to make, whatever the disk holds, and the journal
-    must restore the original chip.
+  - If the run printed `Done`, image and status must be as the run had to make them on every disk that is possible, and
+    the journal must restore the original chip.
 
-Some of the crashes from which the journal restores the chip are followed by a second crash, after each event of the
-restore, and so are some runs that were killed. WRONG, which cut.c knows, makes PROGRAM a mutant: then the test ends
-with the first run that loses a chip. The last line has the counts. The exit status is 1 if a chip was lost, or if there
-were too few crashes.
+After some crashes from which the journal restores the chip, and after some kills, the host also crashes after each
+event of the restore. If WRONG names a mutant of cut.c, a story ends with the first run that loses a chip. The last line
+has the counts. The exit status is 1 if a chip was lost, or if there were too few crashes.
 """
 import collections
 import concurrent.futures
@@ -39,20 +38,21 @@ from stories import DONE, Step, images, stories
 SEED = int(os.environ.get("SEED", "1"))
 CHOICES = int(os.environ.get("CHOICES", "16"))
 WRONG = os.environ.get("WRONG", "")
-# The number of crashes of a run whose restore crashes, too, and the number of killed runs whose restore does.
+# The host also crashes during the restore after at most AGAIN crashes of each run, and after at most AGAIN of its
+# kills.
 AGAIN = 3
-# The states at a crash. Each must occur, and at least this number of crashes in all.
+# These are the kinds of crashes. Each kind must occur, and there must be at least LEAST crashes.
 KINDS = ("without a whole journal", "with one", "done")
 LEAST = 3000
 REFUSAL = re.compile(rb"Error 15: journal fault [1-7]\.\n")
 
 
 class Lost(Exception):
-    """The fault of a run, or of the files that a crash left."""
+    """A run failed without a crash, or its record is incomplete."""
 
 
 def is_whole(journal):
-    """Returns whether the journal ends with the SHA-256 of all bytes before."""
+    """Returns whether a journal ends with the SHA-256 digest of all bytes before the digest."""
     return journal is not None and len(journal) > 60 and hashlib.sha256(journal[:-32]).digest() == journal[-32:]
 
 
@@ -63,7 +63,7 @@ def put_files(folder, files):
 
 
 def files_of(folder):
-    """Returns all files in a directory and below it."""
+    """Returns the contents of all files in a directory and below it, by their relative names."""
     found = {}
     for below, _, names in os.walk(folder):
         for name in names:
@@ -78,7 +78,7 @@ def text_of(ended):
 
 
 class Bench:
-    """A directory for the runs of a program, with the images that these write."""
+    """A directory for the runs of a program, with the images that these runs write."""
 
     def __init__(self, program, library, folder):
         self.program, self.library, self.folder = os.path.abspath(program), os.path.abspath(library), folder
@@ -86,7 +86,7 @@ class Bench:
 
     @contextlib.contextmanager
     def folder_with(self, files):
-        """Makes a directory with these files, and removes it afterwards."""
+        """Makes a directory with these files and with the directories `chip` and `kept`, and removes it afterwards."""
         folder = tempfile.mkdtemp(dir=self.folder)
         for name in "chip", "kept":
             os.mkdir(os.path.join(folder, name))
@@ -102,15 +102,15 @@ class Bench:
             raise Lost(f"{' '.join(words)} doesn't come to an end") from it
 
     def record(self, folder, words):
-        """Runs the program, and returns its result and the records of what it did to files."""
+        """Runs the program, and returns its result and the records of its changes to files (cut.c)."""
         path = tempfile.mktemp(dir=self.folder)
         ended = self.run(folder, words, LD_PRELOAD=self.library, RECORD=path, WRONG=WRONG, CALL="0")
         return ended, read_record(path) if os.path.exists(path) else []
 
 
 class Machine:
-    """A host crash: the files that it left, whether `Done` was printed, and whether another program may be responsible
-    for the state of the chip."""
+    """A host crash: the files that it left, whether `Done` was printed before, and whether another program may have
+    caused the state of the chip (`is_excused`)."""
 
     def __init__(self, place, files, is_done, is_excused):
         self.place, self.files, self.is_done, self.is_excused = place, files, is_done, is_excused
@@ -123,7 +123,7 @@ class Machine:
 
 
 class Run:
-    """A run of a story, and the host crashes in it."""
+    """A run of a story, with the host crashes in it."""
 
     def __init__(self, bench, name, story, step, disk):
         self.bench, self.name, self.step, self.disk = bench, name, step, disk
@@ -134,8 +134,8 @@ class Run:
         self.killed = []
 
     def machines(self):
-        """Returns the host crashes after each event, each different one once. Keeps the disks of runs that are killed
-        while they write the chip's files."""
+        """Returns the host crashes after each event, without duplicates. Also stores the disk after each event while
+        the chip's files are written (`killed`), as if the run had been killed then."""
         found = {}
         for _ in self.work():
             if self.has_written and not self.is_done:
@@ -145,7 +145,7 @@ class Run:
         return list(found.values())
 
     def work(self):
-        """Runs the step, and makes its changes of the disk one after another."""
+        """Runs the step, and makes its recorded changes on the disk. Yields after each change."""
         with self.bench.folder_with(self.disk.seen()) as folder:
             ended, records = self.bench.record(folder, ["-p", self.chip.programmer + self.step.keys, *self.step.words])
             left = files_of(folder)
@@ -163,8 +163,9 @@ class Run:
             raise Lost(f"{self.name} left other files than its record says")
 
     def lose(self):
-        """Yields the host crashes at this moment. If another program left the chip's files unsynced, the run must have
-        synced them when its journal is complete, or when it writes these files."""
+        """Yields the host crashes after the last event. If another program left the chip's files unsynced, the run must
+        sync them before its journal is complete, and before it writes them. Until then, a crash may lose them
+        (`is_excused`)."""
         for number in range(CHOICES + 2):
             place = [self.name, str(self.events), str(number)]
             files = self.disk.left(picks_of(number, random.Random(f"{SEED} {' '.join(place)}")))
@@ -172,7 +173,7 @@ class Run:
             yield Machine(place, files, self.is_done, self.is_story_old and not self.has_written and not is_saved)
 
     def problem(self, machine):
-        """Returns a text that says how the chip is lost after this crash, or nothing."""
+        """Returns a text that says how the chip is lost after this crash, or an empty string."""
         step, chip = self.step, self.chip
         difference = machine.is_done and chip.difference(machine.files, step.wanted)
         if difference:
@@ -194,7 +195,8 @@ class Run:
         return ended.returncode == 1 and not ended.stdout and is_told
 
     def restore(self, folder):
-        """Runs the restore. A file that the session may have created is moved away if it has a wrong length."""
+        """Runs the restore. If it reports the wrong length of a file that the session may have created, moves this file
+        away and repeats the restore."""
         for _ in range(1 + len(self.made)):
             ended = self.bench.run(folder, ["-p", self.chip.programmer, "--restore", self.step.journal])
             short = [name for name in self.made if ended.stderr == f"File fault 3: {name}.\n".encode()]
@@ -217,7 +219,7 @@ def disk_of(files):
 
 
 def runs_of(bench, story):
-    """Yields the runs of a story, one after another on one disk."""
+    """Yields the runs of a story, which follow one another on one disk."""
     chip = story.chip
     disk = disk_of(chip.files(story.start))
     journal = None
@@ -231,7 +233,8 @@ def runs_of(bench, story):
 
 
 def leave_unsynced(disk, files):
-    """Gives the files on the disk these contents, while programs still see the present ones."""
+    """Gives the files on the disk these contents. Programs still see the present contents, as if these hadn't been
+    synced."""
     for name, content in files.items():
         file = disk.file(name)
         disk.put(name, content)
@@ -242,8 +245,8 @@ def leave_unsynced(disk, files):
 
 
 def runs_again(run, story, machines):
-    """Yields restores after the run: after some of the crashes whose journal can restore the chip, and after some runs
-    that were killed, so that nothing is lost and their writes aren't synced."""
+    """Yields restores after the run: after some of the crashes whose journal can restore the chip, and after some
+    kills. A kill loses no writes, but leaves them unsynced."""
     step, chance = run.step, random.Random(f"{SEED} {run.name} again")
     undo = Step(["--restore", step.journal], "", step.journal, step.before, step.before, DONE)
     lost = [it for it in machines if run.needs_restore(it)]
@@ -257,15 +260,16 @@ def runs_again(run, story, machines):
 
 
 class Account:
-    """The results of the crashes. If a place is given, only of its crashes: a story or run, an event and a choice."""
+    """The counts of the crashes. If `place` is given, only the crashes at this place are tried: it has the name of a
+    story or run, and maybe an event and a choice."""
 
     def __init__(self, pool, place):
         self.pool, self.place = pool, place
         self.kinds = collections.Counter()
 
     def is_asked(self, place):
-        """Returns whether the crashes of this place are selected. A run includes those of the restores after it, unless
-        an event is given."""
+        """Returns whether a crash at `place` is selected. A selected run includes the restores after it, unless an
+        event is selected."""
         name, *rest = self.place or [""]
         is_below = not name or f"{place[0]}/".startswith(f"{name}/")
         return is_below and (not rest or [name, *rest] == place[: 1 + len(rest)])
@@ -275,7 +279,7 @@ class Account:
         print(f"kill: {place}: {problem}", file=sys.stderr)
 
     def add(self, run):
-        """Checks the crashes of a run, and prints the first one that loses the chip. Returns the crashes."""
+        """Checks the crashes of a run, and prints the first one that loses the chip. Returns all crashes of the run."""
         machines = run.machines()
         asked = [it for it in machines if self.is_asked(it.place)]
         first = None
@@ -289,7 +293,7 @@ class Account:
         return machines
 
     def tell(self, bench, story):
-        """Runs a story. For a mutant the story ends with the first run that loses a chip."""
+        """Runs a story, and prints its counts. For a mutant, the story ends with the first run that loses the chip."""
         before, runs = self.kinds.copy(), 0
         for run in runs_of(bench, story):
             machines = self.add(run)

@@ -1,19 +1,22 @@
 #!/usr/bin/env bash
-# tests/kill/run.sh [PROGRAM [RUN [CALL HOW]]]: flashnor killed at each of its calls on files, and with each of them
-# failing; or only the run of this name, or only its call of this number, interrupted in one of the ways of cut.c.
+# tests/kill/run.sh [PROGRAM [RUN [CALL HOW]]]: the crash test. Kills flashnor at each of its calls on files, and makes
+# each of these calls fail. RUN selects one run by its name, CALL one call of the run by its number, and HOW one of the
+# ways of cut.c in which this call is interrupted.
 #
-# There are ten sessions, each on a chip in files of given bytes, and a restore of each from its journal; and a read and
-# a rehearsal. When nothing is interrupted, they must print and leave what is given here. The requirements for a run
-# with one interrupted call (laws.sh) are:
-#   - It prints nothing before all is written if it is killed, and else its own result or the line of the failure.
-#   - It leaves each file that could be written as it must be: the trace and the file of -r too.
-#   - The rescue of the manual page works: `--restore` ends with status 0, and both files are as before the session; or
-#     it reports an incomplete journal, and they are as before the session already.
-# Of each run the first failure is printed (if ALL is set, each one) with the command that repeats it, and the status is
-# 1.
+# There are ten sessions, each on a chip whose files have given bytes, ten restores from their journals, a read and a
+# rehearsal. An uninterrupted run must print and leave what its line at the end of this script says. A run with one
+# interrupted call (laws.sh) must meet these requirements:
+#   - If it is killed, it has printed nothing before all files are written. Otherwise it prints its usual result, or the
+#     line for the failure.
+#   - Each file that could be written is as it must be, including the trace and the file of -r.
+#   - The steps of RECOVERY in flashnor(8) work. Either `--restore` ends with status 0, and image and status are then as
+#     before the session. Or `--restore` reports an incomplete journal, and image and status are still as before the
+#     session.
+# If a run fails, its first failure is printed with the command that repeats it (if ALL is set, each failure), and the
+# exit status is 1.
 #
-# Checks of their own are the runs `folders`, `locks` and `modes` (checks.sh). After them come host crashes (lost.py),
-# whose runs are `lost/..`, and mutants that must be detected (self.sh). This needs a C compiler.
+# The runs `folders`, `locks` and `modes` are further checks (checks.sh). Then the test tries host crashes (lost.py), in
+# the runs `lost/..`, and mutants that it must detect (self.sh). The test needs a C compiler.
 set -euo pipefail
 
 top=$(cd "$(dirname "$0")/../.." && pwd)
@@ -46,7 +49,7 @@ cd "$work/chip"
 . "$top/tests/kill/checks.sh"
 cc -std=c11 -O1 -shared -fPIC -o ../cut.so "$top/tests/kill/cut.c"
 
-# Prints the last line and ends with its status.
+# Prints the last line, with the counts, and ends the script. A part (`begin_part`) only ends, with status 1.
 finish() {
     [[ -z $part ]] || exit 1
     echo "kill: $passed passed, $failed failed"
@@ -63,7 +66,7 @@ fail() {
     finish
 }
 
-# A call that cut.c doesn't intercept could not be interrupted.
+# The program may import only functions on files that cut.c intercepts. No other call could be interrupted.
 changing='open|creat|write|trunc|sync|rename|link|remove|fallocate|splice|tee|sendfile|copy_file|mmap|temp|syscall'
 changing+='|chmod|chown|utime|mkdir|rmdir|mknod|mkfifo|lock|stat|seek|dup|fcntl'
 files=(image status trace out journal)
@@ -72,10 +75,10 @@ others=$(awk '{ sub(/@.*/, "", $NF); print $NF }' ../symbols | grep -E "$changin
     grep -vxF -f <(nm -D --defined-only ../cut.so | awk '{ print $NF }') || true)
 [[ -z $others ]] || fail "the program makes calls that cut.c doesn't know: ${others//$'\n'/ }"
 
-# Prints this number of bytes, each with this value (in octal).
+# bytes COUNT VALUE: prints COUNT bytes, each with the octal value VALUE.
 bytes() { head -c "$1" /dev/zero | tr '\000' "\\$2"; }
 
-# Makes images for chips of 64 KiB and of 8 MiB, with FFh in all other bytes, and status files.
+# Creates images for chips of 64 KiB and of 8 MiB, which have FFh except in a few bytes, a layout, and status files.
 make_files() {
     local tiny=65536 large=8388608 guarded=131072
     bytes $tiny 377 > erased
@@ -93,12 +96,11 @@ make_files() {
     printf '\004\000' > guarding
 }
 
-# Prints the bits of a status file that a restore brings back: all except BUSY, WEL and SUS, which a chip may show after
-# a stop.
+# Prints the non-volatile bits of a status file: all except BUSY, WEL and SUS, which may be set after a stop.
 kept_bits() { od -An -tu1 "$1" | while read -r one two; do echo $((one & 0xfc)) $((two & 0x7f)); done; }
 
-# Succeeds if the chip's files have these contents. A file that was missing (-) may be missing, or be that of an erased
-# chip.
+# have IMAGE STATUS: succeeds if the chip's files have these contents. For `-` the file may be missing, or be that of an
+# erased chip.
 have() {
     local image=${1/#-/erased} status=${2/#-/clear}
     [[ $1 == - && ! -e image ]] || cmp -s image "../$image" || return 1
@@ -106,8 +108,9 @@ have() {
         [[ $(stat -c %s status) == 2 && $(kept_bits status) == "$(kept_bits "../$status")" ]]
 }
 
-# Runs the program with these arguments, and interrupts the call of this number in this way. Its output is then in
-# `said` and `faults`, the calls are in `calls`, and `ended` is the status.
+# attempt NUMBER HOW ARGUMENTS..: runs the program, and interrupts the call NUMBER in the way HOW (0 interrupts none).
+# The output goes to the files `said` and `faults`, the calls go to the file `calls`, and `ended` is set to the exit
+# status.
 attempt() {
     local number=$1 how=$2
     shift 2
@@ -118,7 +121,7 @@ attempt() {
     } 2> killed
 }
 
-# Puts the chip's files as they are before the run, where - is none, and for a restore its journal.
+# Creates the chip's files as they are before the run (`-` in `from`: no file) and, for a restore, its journal.
 begin() {
     rm -f "${files[@]}" ./*.old
     [[ ${from[0]} == - ]] || cp "../${from[0]}" image
@@ -126,8 +129,8 @@ begin() {
     [[ -z $sealed ]] || cp "$kept" journal
 }
 
-# Succeeds if the run ended as it does when nothing is interrupted. Before its files are kept, image and status must be
-# those that it is to make.
+# Succeeds if the run printed its usual result and left the right files: those of the uninterrupted run (`own`) or, in
+# the uninterrupted run itself, the image and status that `to` names.
 is_own() {
     local printed=said none=faults status=0
     [[ $answer != Error* ]] || printed=faults none=said status=1
@@ -135,7 +138,8 @@ is_own() {
     if [[ -d $own ]]; then is_as_own "${files[@]}"; else have "${to[@]}"; fi
 }
 
-# Restores. A file that the session created and that has the wrong length is moved aside, and the restore is repeated.
+# Runs a restore. If the restore reports that a file which the session created has the wrong length, moves this file
+# away and repeats the restore.
 rescue() {
     local i file=(image status)
     attempt 0 '' -p "$chip" --restore journal
@@ -147,10 +151,11 @@ rescue() {
     done
 }
 
-# What a restore prints if its journal was never sealed.
+# A restore prints this line if its journal was never sealed.
 unsealed='Error 15: journal fault 1.'
 
-# Succeeds if the rescue restores the chip. Only a session may have left an incomplete journal, or none.
+# Succeeds if the rescue restores the chip. After an interrupted session, the journal may also be incomplete or missing,
+# but then the chip must be as before.
 is_given_back() {
     if [[ -e journal ]]; then
         rescue
@@ -161,7 +166,7 @@ is_given_back() {
     fi && have "${before[@]}"
 }
 
-# Succeeds if the rescue restores the chip, now or after another run that left the same files.
+# Succeeds if the rescue restores the chip. If an earlier run left equal files, the rescue isn't repeated.
 is_rescued() {
     local left
     left="files: $(cksum image status journal 2> /dev/null || true)"
@@ -170,7 +175,7 @@ is_rescued() {
     rescued[$left]=yes
 }
 
-# Interrupts the call of this number in this way, and counts the result.
+# cut_off NUMBER HOW: runs the program, interrupts the call NUMBER in the way HOW, and counts the result.
 cut_off() {
     local number=$1 how=$2 call=${made[$1 - 1]:-none} problem=''
     runs=$((runs + 1))
@@ -189,7 +194,8 @@ cut_off() {
 Run it again with: tests/kill/run.sh $program $run $number $how" >&2
 }
 
-# Tries host crashes, if no other run is asked for, and checks that mutants are detected.
+# Tries host crashes (lost.py), unless run.sh was given the name of another run. Also checks that mutants are detected
+# (self.sh), unless it was given any name.
 lose_machines() {
     local status=0 last
     [[ -z $only || $only == lost/* ]] || return 0
@@ -197,7 +203,7 @@ lose_machines() {
         echo "skipped: lost machines, since there is no Python (python3)"
         return
     fi
-    # (an argument that was not given is none)
+    # Empty arguments are left out.
     python3 -B "$top/tests/kill/lost.py" "$program" ../cut.so ${only:+"$only"} ${at:+"$at"} ${way:+"$way"} |
         tee ../machines || status=$?
     last=$(tail -n 1 ../machines)
@@ -212,9 +218,8 @@ lose_machines() {
     passed=$((passed + BASH_REMATCH[1])) failed=$((failed + BASH_REMATCH[2]))
 }
 
-# Prints the number of the last call on the journal before the chip's files are written back: the last one that reads,
-# writes or syncs it, or a look at it (stat) directly after that. Prints the number of all calls if the run has no
-# journal.
+# Prints the number of the last call on the journal before image and status are written: a read, write or sync of the
+# journal, or a stat or fstat that directly follows. If the run has no journal, prints the number of all calls.
 last_before() {
     local i is_last=''
     for ((i = ${#made[@]}; i > 0; i--)); do
@@ -227,7 +232,7 @@ last_before() {
     echo "$i"
 }
 
-# Runs once without an interruption, and then interrupts each of the calls.
+# Runs the program once without an interruption, and then once for each call and each way to interrupt it.
 cut_each() {
     local number how runs=0 lost=0 made called own=../own.${run//\//.}
     local -A rescued=()
@@ -248,8 +253,8 @@ cut_each() {
     echo "$run: ${#made[@]} calls, $runs runs, $lost lost"
 }
 
-# Keeps the journal for the restores. The chip must not pass as restored if the program does nothing, or if a byte
-# differs that no journal saved.
+# Keeps the journal for the restores. Also checks that `is_given_back` fails if the program does nothing, and if a byte
+# of the image is wrong that no journal saved.
 keep_journal() {
     cp journal "$kept"
     ! program=true is_given_back || fail "$run passes as restored by a program that does nothing"
@@ -257,7 +262,8 @@ keep_journal() {
     ! is_given_back || fail "$run passes as restored although another byte was changed"
 }
 
-# Begins a part of this name in its own directory. Parts run at the same time; `gather` shows their output and counts.
+# begin_part NAME: starts a part of the test, in its own directory. Several parts run at once, and `gather` then prints
+# their output and adds their counts.
 begin_part() {
     part=$1 passed=0 failed=0
     trap end_part EXIT
@@ -265,14 +271,14 @@ begin_part() {
     cd "../in.$part"
 }
 
-# shellcheck disable=SC2317  # the trap calls it
+# shellcheck disable=SC2317  # the trap calls this function
 end_part() {
     local status=$?
     ((status == 0 || failed > 0)) || tell "$part ended with $status"
     echo "$passed $failed" > "$work/$part.counts"
 }
 
-# Waits until a core is free for the part of this name.
+# await_core NAME: waits until a core is free for the part of this name.
 await_core() {
     while (($(jobs -rp | wc -l) >= $(nproc))); do wait -n || true; done
     names+=("$1")
@@ -289,8 +295,9 @@ gather() {
     done
 }
 
-# job NAME CHIP BEFORE AFTER END UNDONE ARGUMENTS..: image and status before and after the session, and what it and its
-# restore print. Only the session has the key `stop`.
+# job NAME CHIP BEFORE AFTER END UNDONE ARGUMENTS..: tests a session with ARGUMENTS, and its restore. BEFORE and AFTER
+# are image and status before and after the session. END is what the session prints, and UNDONE what the restore prints.
+# If `stop` is set, it is added to CHIP for the session.
 job() {
     [[ -z $only || ${only%/restore} == "$1" ]] || return 0
     await_core "$1"
@@ -310,7 +317,8 @@ cut_session() {
     cut_each
 }
 
-# look NAME CHIP BEFORE END ARGUMENTS..: a run that leaves image and status as they are, and creates no journal.
+# look NAME CHIP BEFORE END ARGUMENTS..: tests a run that leaves image and status as they are (BEFORE), creates no
+# journal, and prints END.
 look() {
     [[ -z $only || $only == "$1" ]] || return 0
     await_core "$1"
@@ -324,7 +332,7 @@ cut_look() {
     cut_each
 }
 
-# Prints the result of a change of a chip of 64 KiB, and of one of 8 MiB, with these counts.
+# `tiny` and `large` print the result of a session or restore with these counts, for a chip of 64 KiB and of 8 MiB.
 counts() { printf 'Done: touched %s, erases %s, programs %s, transactions %s.' "$@"; }
 tiny() { printf 'Found SFDP (fe1010), 65536 bytes.\n%s' "$(counts "$@")"; }
 large() { printf 'Found W25Q64FV (ef4017), 8388608 bytes.\n%s' "$(counts "$@")"; }
@@ -332,7 +340,7 @@ large() { printf 'Found W25Q64FV (ef4017), 8388608 bytes.\n%s' "$(counts "$@")";
 (cd .. && make_files)
 on_tiny=dummy:emulate=TINY64,image=image,status=status
 on_large=dummy:emulate=W25Q64FV,image=image,status=status
-# (the long ones first)
+# The longest jobs start first.
 job protect $on_large 'guarded_00 clear' 'guarded_00 guarding' "$(large 0 0 0 7)" "$(large 0 0 0 7)" \
     --wp-range 0x7e0000,0x20000
 job unlock $on_large 'guarded_00 guarding' 'guarded_01 guarding' "$(large 1 1 1 49)" "$(large 1 0 1 16)" \

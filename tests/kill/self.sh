@@ -1,11 +1,14 @@
 #!/usr/bin/env bash
 # tests/kill/self.sh PROGRAM LIBRARY: checks that the crash test detects mutants of PROGRAM, which is right.
 #
-# LIBRARY, which is cut.c, makes the mutants. Those for lost.py don't sync a file or a directory at all, sync it only
-# once, not before the session, or before its contents are written; other programs restore nothing, or refuse to. Each
-# must be detected by its way of losing a chip. Those for run.sh don't truncate the image, ignore a short write, lose
-# bytes when a close fails, unlock a file too early or don't lock it, or print before they work. And disk.py must make
-# exactly the contents that a disk may have after a host crash. The last line is `N passed, M failed`.
+# LIBRARY is the compiled cut.c, which makes most mutants. The mutants for lost.py never sync a file or directory, sync
+# it only once, don't sync it before the session, or sync it before its contents are written. Two other programs restore
+# nothing, or refuse to restore. For each of these, lost.py must report a lost chip with the expected line. The mutants
+# for run.sh don't truncate the image, ignore a short write, lose bytes when a close fails, don't lock a file, unlock it
+# too early, or print before they work.
+#
+# The script also checks that disk.py computes exactly the contents that a disk may have after a host crash. The last
+# line is `N passed, M failed`.
 set -uo pipefail
 export LC_ALL=C CHOICES=4
 
@@ -17,7 +20,8 @@ trap 'rm -rf "$work"' EXIT
 passed=0
 failed=0
 
-# tells STORY WAY WHAT: in that story some chip must be lost, and the first one in this way, which is a pattern.
+# tells STORY WAY WHAT: runs lost.py on this story. It must report a lost chip, and its first report must match the
+# pattern WAY.
 tells() {
     local story=$1 way=$2 what=$3 said status last
     said=$(python3 -B "$top/tests/kill/lost.py" "$program" "$library" "lost/$story" 2>&1)
@@ -32,10 +36,11 @@ tells() {
     fi
 }
 
-# Tests the right program, recorded with this fault.
+# wrong MUTANT STORY WAY WHAT: tests the mutant MUTANT, of which cut.c records other syncs than the program makes.
 wrong() { WRONG=$1 tells "${@:2}"; }
 
-# Tests a program that does this instead of a restore that isn't recorded.
+# restoring COMMANDS STORY WAY WHAT: tests a program that runs COMMANDS in place of a restore, unless the restore is
+# recorded.
 restoring() {
     local right=$program program=$work/stub
     cat > "$program" << EOT
@@ -47,7 +52,7 @@ EOT
     tells "${@:2}"
 }
 
-# Tests a program that prints before it works.
+# Tests a program that prints a result before it works.
 hasty() {
     local said status
     cc -x c -o "$work/hasty" - << EOT
@@ -69,7 +74,8 @@ EOT
     fi
 }
 
-# detected MUTANT REPORT ARGUMENTS..: run.sh with these arguments must report this for this mutant (WRONG in cut.c).
+# detected MUTANT REPORT ARGUMENTS..: runs run.sh with these arguments on this mutant (WRONG in cut.c). It must print
+# REPORT.
 detected() {
     local said status
     said=$(WRONG=$1 bash "$top/tests/kill/run.sh" "$program" "${@:3}" 2>&1)
@@ -83,8 +89,8 @@ detected() {
     fi
 }
 
-# leaves WHAT IS: the disk on which these changes were made, in Python, may hold these contents of the file f, None
-# being no file, and no others.
+# leaves WHAT IS: makes the changes WHAT (Python statements) on a disk. In 1,000 host crashes, the file f must have
+# exactly the contents in the set IS, where None stands for no file.
 leaves() {
     if python3 -B - "$2" "$top/tests/kill" << EOT
 import random, sys

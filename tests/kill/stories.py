@@ -1,4 +1,4 @@
-"""The stories of lost.py: each is a chip in files, and the runs on it."""
+"""Defines the stories of lost.py. A story is an emulated chip in files, with successive runs on it."""
 import collections
 import random
 
@@ -7,21 +7,22 @@ SECTOR = 4096
 DONE = "Done: "
 STOPPED = "Error 12: stopped."
 
-# The contents of a chip, image and status. None if there is no file, or none is named.
+# A Content has the bytes of a chip's image and status. One of them is None if its file doesn't exist, or if the chip
+# has no such file.
 Content = collections.namedtuple("Content", "image status")
 
-# A run: its arguments after -p, the keys that are added to its programmer, its journal, the chip's contents before the
-# session and after the run, and the line with which it ends.
+# A Step is a run. `words` are its arguments after -p, `keys` is added to the value of -p, and `journal` is its
+# journal's file. `before` has the chip's contents before the session, and `wanted` those after the run. The run must
+# print `end`.
 Step = collections.namedtuple("Step", "words keys journal before wanted end")
 
-# A chip, the contents of its files at first, and its runs. If there is an `old` content, another program writes the
-# chip's files again before the last run, with the same bytes, or deletes them, and syncs nothing: the disk then has
-# `old`.
+# A Story has a chip, the contents of its files at the start, and its runs. If `old` is given, another program has
+# written or deleted the chip's files before the last run, but synced nothing, so the disk still has the contents `old`.
 Story = collections.namedtuple("Story", "name chip start old steps")
 
 
 class Chip:
-    """An emulated chip in files."""
+    """An emulated chip whose bytes and status are in files."""
 
     def __init__(self, part, image, status):
         self.image, self.status = image, status
@@ -37,14 +38,14 @@ class Chip:
         return SIZE if name == self.image else 2
 
     def files(self, content):
-        """Returns the files of the chip with this content."""
+        """Returns the files of a chip with this content, by their names."""
         pairs = zip((self.image, self.status), content)
         return {name: given for name, given in pairs if name and given is not None}
 
     def difference(self, files, content):
-        """Returns a text that says how these files differ from those of a chip with this content, or nothing. A missing
-        file may exist as that of an erased chip. BUSY, WEL and SUS are not compared, since a chip that was stopped may
-        show them."""
+        """Returns a text that says how these files differ from those of a chip with this content, or an empty string. A
+        file that is None in the content may also be that of an erased chip. BUSY, WEL and SUS are not compared, because
+        they may be set after a stop."""
         found = []
         if self.image:
             wanted, image = content.image or b"\xff" * SIZE, files.get(self.image)
@@ -68,8 +69,8 @@ def kept_bits(status):
 
 
 def images(seed):
-    """Returns images by their names. `one`, `two` and `other` differ in each block. `three` equals `two`, and `few` an
-    erased chip, except for three sectors each."""
+    """Returns images by their names. `one`, `two` and `other` differ in each block of the disk (512 bytes). `three`
+    differs from `two`, and `few` from an erased chip, only in three sectors."""
     chance = random.Random(f"{seed} images")
     found = {name: chance.randbytes(SIZE) for name in ("one", "two", "other")}
     for name, same in ("three", found["two"]), ("few", b"\xff" * SIZE):
@@ -81,8 +82,8 @@ def images(seed):
 
 
 def stories(seed):
-    """Returns all stories. A journal that isn't needed any more is deleted, so each session has a journal of a new
-    name."""
+    """Returns all stories. Each session has a journal with a new name, because `runs_of` deletes a journal that is no
+    longer needed."""
     found = {name: Content(image, b"\0\0") for name, image in images(seed).items()}
     one, two, other = found["one"], found["two"], found["other"]
     none, erased = Content(None, None), Content(b"\xff" * SIZE, b"\0\0")

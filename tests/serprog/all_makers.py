@@ -1,8 +1,8 @@
-"""Cases of the chips of twelve makers, which chips/ describes: each is written and restored exactly, or refused.
+"""Cases with modelled chips of twelve makers, which the package `chips` describes.
 
-A chip that is written must have each byte of the target, and then of the original, and all its status bits, also after
-kills and losses of power. A chip that is refused receives only reads, and no journal is created. The lines to the
-programmer float to another level in the restore than in the session, as at another clip.
+Each chip is either refused, or written and restored. After a write the chip must hold each byte of the target. After
+the restore it must hold each byte and status bit of the original, even if the program was killed or the chip lost its
+power. A chip that is refused receives only reads, and the program creates no journal.
 """
 import hashlib
 import random
@@ -16,22 +16,29 @@ from models import Model, action_of
 
 SECTOR, BLOCK = 4096, 65536
 READS = ("data", "status", "id", "sfdp", "unique", "wake")
-# What a session is stopped at, as (operation, poll), and its restore. The first ones erase, and the last ones program.
+# The events that stop a session, each at a pair of numbers: an operation, and a poll after it (poll 0 is the
+# operation's own command). The first operations erase, and the later ones program. `dip` is a short loss of power.
+# `RESTORE_STOPS` stop a restore.
 STOPS = (("kill", (1, 0)), ("power", (1, 1)), ("lose", (2, 0)), ("power", (3, 0)), ("kill", (6, 1)), ("power", (9, 0)),
          ("dip", (2, 0)), ("dip", (8, 0)))
 RESTORE_STOPS = (("power", (1, 0)), ("kill", (4, 0)))
-# A write of the regions that contain what changes, without the comparison of the whole chip.
+# The arguments of a write, without the journal's name, that is limited to the regions with changed sectors. -N leaves
+# out the comparison of the whole chip.
 IN_REGIONS = "-w", "new", "-N", "-l", "layout", "-i", "low", "-i", "middle", "-i", "high", "--journal"
-# Each reply byte of a line that nobody drives.
+# The two values of a received byte if nothing drives the line to the programmer.
 LEVELS = 0xFF, 0x00
-# How long a run may take that is refused, in seconds, on a busy machine.
+# The longest time in seconds that a refused run may take, even on a busy machine.
 SOON = 20
-# What is sent to a chip that seems to be missing after it was asked ten times: what ends QPI mode and continuous reads.
+# If no chip replies, the program reads the ID and status 1 ten times (`ASKED`). Then it sends `LEAVING`, which ends QPI
+# mode and continuous reads.
 ASKED, LEAVING = [b"\x9f", b"\x05"] * 10, [b"\xff", b"\xff\xff"]
 
 
 class Refused(NamedTuple):
-    """The beginnings of the lines of the jobs that are refused. The other jobs only read, and succeed."""
+    """The beginnings of the lines printed by the jobs that end with an error (`err`), and these jobs (`jobs`).
+
+    The other jobs of the case only read, and succeed.
+    """
 
     err: tuple
     jobs: tuple
@@ -48,22 +55,26 @@ def unknown(fault, *hints):
     return Refused((f"Error 2: unknown chip, SFDP fault {fault}.", *hints), jobs)
 
 
-# The chips that are refused. All others are written. 32 MiB; no SFDP; 256 KiB sectors; 4 KiB sectors at one end; no
-# status 1.
+# The chips that are refused; all others are written. W25Q256JV has 32 MiB, MX25L6405D has no SFDP, and S25FL128S-256
+# has sectors of 256 KiB. The other S25FL128S have 4 KiB sectors only at one end. The last two chips have no status 1.
 NO_STATUS = unknown(1, reference.NO_STATUS[1])
 REFUSED = {
     "W25Q256JV": unknown(7), "MX25L6405D": unknown(1), "S25FL128S-256": unknown(8),
     "S25FL128S": NO_SECTORS, "S25FL128S-top": NO_SECTORS, "S25FL128S-old": NO_SECTORS,
     "AT45DB081E": NO_STATUS, "MX35LF1GE4AB": NO_STATUS,
 }
-# The chips whose blocks are all locked after each power-up, and the bit of the third register that shows it.
+# The chips whose blocks are all locked after each power-up, and the bit of the third register that is set while blocks
+# have locks of their own.
 LOCKED, OWN_LOCKS = ("SST26VF064B",), 0x04
-# The chips whose SFDP says that bit 6 of status 1 is QE, which is no protection bit and isn't restored.
+# The chips whose SFDP says that bit 6 of status 1 is QE. QE isn't restored, so a journal contains 0 for this bit.
 QUAD = "MX25L12873G", "IS25LP064", "IS25LP128"
 
 
 def images(it):
-    """Returns the original, the target, and the sectors that differ: a block, and three more. One needs no erase."""
+    """Returns the original, the target, and the numbers of the sectors that differ: a block of 64 KiB and three more.
+
+    Only sector 40 needs no erase.
+    """
     chance = random.Random(it.name)
     old = bytearray(chance.randbytes(it.size))
     last = it.size // SECTOR - 1
@@ -82,7 +93,7 @@ def images(it):
 
 
 class Play:
-    """A bench with a chip by its description, its original and its target."""
+    """A bench whose chip is a `Model` of the description `it`, with its original, target and changed sectors."""
 
     def __init__(self, start, it, status=None):
         self.it, self.bench = it, start()
@@ -96,11 +107,14 @@ class Play:
             f"{at:08x}:{after - 1:08x} {name}\n" for name, at, after in self.regions()).encode())
 
     def regions(self):
-        """Returns the regions that contain each changed sector."""
+        """Returns the name, the first address and the end of three regions, which contain all changed sectors."""
         return (("low", 0, BLOCK), ("middle", 40 * SECTOR, 42 * SECTOR), ("high", self.it.size - SECTOR, self.it.size))
 
     def run(self, *words, **events):
-        """Runs the program. Each transaction must be one that the chip knows, or a read that it ignores."""
+        """Runs the program, and returns its result. Checks that the chip ignored only reads and ABh.
+
+        Afterwards the chip must not be in QPI mode, asleep or in four-byte mode.
+        """
         got = self.bench.run(*words, **events)
         check(f"what the chip ignored in {words}", [it.hex() for it in self.chip.ignored if it[:1] != b"\xab"], [])
         check(f"in QPI, asleep, or in 4-byte mode after {words}",
@@ -112,14 +126,20 @@ class Play:
         return self.bench.chip
 
     def only_reads(self, words):
-        """Checks that the last run sent only reads."""
+        """Checks that the last run sent only reads, ABh (which wakes the chip), and opcodes that the chip doesn't know.
+
+        It must not have sent 06h, 01h, or a 35h that doesn't read status 2 of this chip.
+        """
         sent = sorted({f"{out[0]:02x}" for out, _ in self.bench.server.log
                        if (action_of(self.it, out) or "data") not in READS or out[0] in (0x01, 0x06, 0x35)
                        and action_of(self.it, out) != "status"})
         check(f"other opcodes than those of reads in {words}", sent, [])
 
     def expect(self, *words, out=()):
-        """Runs the program, which must succeed, and whose last line of output must begin so."""
+        """Runs the program, which must succeed and name the chip in its first line.
+
+        The next lines must begin with the texts in `out`.
+        """
         got = self.run(*words)
         check(f"exit status of {words}, {got.err}", got.status, 0)
         check(f"the first line of {words}", f"({self.it.id.hex()}), {self.it.size} bytes." in got.out[0], True)
@@ -131,7 +151,10 @@ class Play:
         check("status registers", bytes(self.chip.status).hex(), self.registers.hex())
 
     def check_journal(self, name, numbers):
-        """Checks each byte of a journal. A chip without a unique ID has the same byte eight times."""
+        """Checks each byte of a journal that saves the sectors `numbers`.
+
+        If the chip has no unique ID, the journal contains eight bytes FFh or eight bytes 00h as its unique ID.
+        """
         found = self.bench.path(name).read_bytes()
         unique = found[11:19]
         if set(self.it.unique) <= {0xFF}:
@@ -157,7 +180,7 @@ def identifies(play):
 
 
 def is_written(play, journal="j"):
-    """The whole chip: a backup, a write, the comparison, and a restore."""
+    """Backs up the whole chip, writes it, compares it and restores it, and checks the chip and the journals."""
     play.expect("--backup", "b", out=("Read ",))
     play.only_reads("--backup")
     play.check_journal("b", range(play.it.size // SECTOR))
@@ -171,7 +194,10 @@ def is_written(play, journal="j"):
 
 
 def is_restored(play):
-    """Interrupted sessions in regions, each with a restore, which is interrupted too in the last two."""
+    """Interrupts a session in regions at each of `STOPS`, and restores the chip after each of them.
+
+    After the first two sessions, the first restore is interrupted, too.
+    """
     for number, (event, at) in enumerate(STOPS):
         journal = f"j{number}"
         stop(play, (*IN_REGIONS, journal), event, at)
@@ -182,21 +208,21 @@ def is_restored(play):
 
 
 def stop(play, words, event, at):
-    """Runs the program with an event, which must occur, and plugs the programmer in again."""
+    """Runs the program with an event, which must occur. Except after `kill` and `dip`, connects a programmer again."""
     got = play.run(*words, events={at: event})
     if play.bench.server.traits.events:
         check(f"the event {event} at {at} of {words}", got, "an event")
     if event == "kill":
         check(f"exit status of {words}", got.status, -9)
         return
-    # After a short loss of power the program finds wrong bytes, or goes on, since a later erase has mended them.
+    # After a short loss of power, the run may detect wrong bytes (exit status 1) or succeed.
     if event != "dip":
         check(f"exit status of {words}, {got.err}", got.status, 1)
         play.bench.plug()
 
 
 def is_protected(play):
-    """The protected range of a chip with a row: half of the chip is protected, and then nothing again."""
+    """Protects the first half of the chip. A write then ends with error 10, and a restore removes the protection."""
     half = play.it.size // 2
     play.expect("--wp-range", f"0,{half:#x}", "--journal", "p", out=("Done: ",))
     check("the protected range", play.it.protected(play.chip.status, play.it.size), (0, half))
@@ -209,7 +235,7 @@ def is_protected(play):
 
 
 def is_refused(play, refused):
-    """The refused jobs send only reads, and create no journal. The others read the chip."""
+    """Checks that the refused jobs end soon, send only reads and create no journal. Other jobs must read the chip."""
     for words in refused.jobs:
         began = time.monotonic()
         got = play.run(*words)
@@ -226,19 +252,19 @@ def is_refused(play, refused):
         play.bench.check_file("out", play.old)
 
 
-# The chips whose ID is in the program's table: only their protected range is changed.
+# The chips whose ID is in the program's table of chips. Only on these chips a case changes the protected range.
 ROWS = "W25Q64FV", "W25Q64JV", "W25Q128JV", "W25Q64JV-M"
 
 
 def writes(start, it):
-    """identified, backed up, written, compared and restored, and each byte and status bit is as it must be"""
+    """a chip that is identified, backed up, written, compared and restored, with each byte and status bit checked"""
     play = Play(start, it)
     identifies(play)
     is_written(play)
 
 
 def moves(start, it):
-    """restored at another clip, whose floating lines have another level"""
+    """a chip that is restored while its floating lines have another level than in the session, as at another clip"""
     play = Play(start, it)
     for before, after in (LEVELS, LEVELS[::-1]):
         journal = f"j{before}"
@@ -251,17 +277,17 @@ def moves(start, it):
 
 
 def stops(start, it):
-    """restored after kills, lost replies and losses of power in a session and in a restore"""
+    """a chip that is restored after kills, lost replies and losses of power in a session and in a restore"""
     is_restored(Play(start, it))
 
 
 def protects(start, it):
-    """protected in half, refused a write there, and restored to no protection"""
+    """a chip whose first half is protected, so a write there ends with error 10, until a restore unprotects it"""
     is_protected(Play(start, it))
 
 
 def has_own_locks(start, it):
-    """left as it was while its blocks are locked; once another tool has unlocked them, it is restored and written"""
+    """a chip that keeps its bytes while its blocks are locked, and is restored and written once they are unlocked"""
     play = Play(start, it)
     play.chip.status[2] |= OWN_LOCKS
     got = play.bench.run("-w", "new", "--journal", "j")
@@ -276,23 +302,26 @@ def has_own_locks(start, it):
 
 
 def refuses(start, it):
-    """refused by each job, with nothing sent but reads"""
+    """a chip that is refused by the jobs of `REFUSED`, which send only reads"""
     is_refused(Play(start, it), REFUSED[it.name])
 
 
 def is_in_qpi(start, it):
-    """refused within seconds while it is in QPI mode that FFh doesn't end, at either level of the floating line"""
+    """a chip in QPI mode that ignores FFh, so each run ends with error 1, at either level of the floating line"""
     for level in LEVELS:
         stays_lost(start, it, level)
 
 
 def is_in_qpi_at_00(start, it):
-    """refused within seconds while it is in QPI mode and the floating line is low, so that it can't receive FFh"""
+    """a chip in QPI mode that can't receive FFh, because the floating line is low, so each run ends with error 1"""
     stays_lost(start, it, 0x00)
 
 
 def stays_lost(start, it, level):
-    """Each job on a chip in QPI mode is refused. What the chip may take for another byte than FFh isn't sent."""
+    """Checks that each job on a chip in QPI mode ends with error 1, and sends FFh only if the floating line is high.
+
+    If the line is low, the chip would receive another byte than FFh.
+    """
     play = Play(start, it)
     play.chip.floating, play.chip.is_in_qpi = level, True
     for words in (), CHANGES[0], BACKUP:
@@ -306,9 +335,9 @@ def stays_lost(start, it, level):
 
 
 def begins_in_four_byte_mode(start, it):
-    """refused by each job while it is in four-byte mode, with nothing sent but ABh and reads of data"""
+    """a chip in four-byte mode, on which each job sends only ABh and reads, and ends with programmer fault 15"""
     for level in LEVELS:
-        # If the line is low, each read begins with 00h, and then returns the FFh of this chip.
+        # The chip waits for a fourth address byte, so the first byte of each reply has the level of the floating line.
         play = Play(start, it)
         play.chip.floating, play.chip.has_four = level, True
         for words in (), ("-r", "out"), CHANGES[1], BACKUP:
@@ -322,12 +351,12 @@ def begins_in_four_byte_mode(start, it):
 
 
 def sent_to(play):
-    """Returns what the last run sent, after the transaction that wakes the chip."""
+    """Returns the bytes sent by each transaction of the last run except the first one, which wakes the chip."""
     return [out for out, _ in play.bench.server.log[1:]]
 
 
 def leaves_qpi(start, it):
-    """found while it is in QPI mode, which FFh ends. Later runs don't send FFh"""
+    """a chip in QPI mode that is found after the program has sent FFh, which ends this mode. Later runs send no FFh"""
     play = Play(start, it)
     play.chip.is_in_qpi = True
     got = play.bench.run()
@@ -340,18 +369,18 @@ def leaves_qpi(start, it):
 
 
 def ends_continuous_reads(start, it):
-    """found while it is in a continuous read with two or four lines, in which a blank chip returns only FFh"""
+    """a blank chip that is found although it is in a continuous read with two or four lines, so it returns only FFh"""
     for lines in 2, 4:
         play = Play(start, it)
         play.chip.data[:], play.chip.lines = b"\xff" * it.size, lines
         got = play.bench.run()
         check(f"the run with {lines} lines, {got.err}", (got.status, play.chip.lines), (0, 0))
-        # With four lines, the transaction that wakes the chip ends the read.
+        # With four lines, the first transaction (ABh) already ends the continuous read, so FFh isn't sent.
         check("FFh was sent", LEAVING[0] in sent_to(play), lines == 2)
 
 
 def case_of(played, it, name=None):
-    """Returns the case of a chip, which has a name of its own."""
+    """Returns a case that runs `played` on the chip `it`. Its name ends with the name of the chip."""
     def case(start):
         played(start, it)
     case.__name__ = f"{name or played.__name__}_{it.name.lower().replace('-', '_')}"

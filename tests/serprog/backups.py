@@ -1,4 +1,4 @@
-"""Cases of --backup, which saves the whole chip in a new journal, and of restores from it."""
+"""Cases of --backup, which saves the whole chip in a new journal, and of restores from this journal."""
 import reference
 from bench import STRIDE, check
 from chip import READ_ID, SECTOR
@@ -10,17 +10,17 @@ from wire import STOPPED, begins, check_unchanged
 
 UNIQUE = bytes(range(8))
 BACKUP = ("--backup", "whole")
-# How the whole chip can be restored: each saved sector is rewritten, or each that differs.
+# The two ways to restore the whole chip. The first rewrites each saved sector, and --quick only those that differ.
 WAYS = (("--restore", "whole"), ("--restore", "whole", "--quick"))
 
 
 def large_chip():
-    """Returns the bytes of a W25Q64FV whose first and last sectors aren't blank."""
+    """Returns the bytes of a W25Q64FV whose first two and last two sectors aren't blank."""
     return bytes(range(256)) * 32 + b"\xff" * (LARGE - 16384) + bytes(range(255, -1, -1)) * 32
 
 
 def saves_the_chip(start):
-    """--backup saves each sector, the status bits and the unique ID in a new journal, and changes nothing."""
+    """--backup saves each sector, the status bits and the unique ID in a new journal, and doesn't change the chip."""
     for part, old, status in ("TINY64", images("saves_the_chip")[0], b"\0\0"), \
             ("W25Q64FV", large_chip(), b"\x84\x02"):
         bench = start(part, data=old, status=status, unique=UNIQUE)
@@ -34,7 +34,7 @@ def saves_the_chip(start):
 
 
 def shows_how_much_is_saved(start):
-    """On a terminal the scan of a backup has lines with the number of sectors of the chip."""
+    """With plain progress at a terminal, a backup prints how many sectors of the chip it has scanned."""
     start().expect_at_terminal(*BACKUP, lines=["identify", "scan: sector 1 of 16"])
     bench = start("W25Q64FV")
     bench.expect_at_terminal(*BACKUP, lines=[
@@ -42,7 +42,11 @@ def shows_how_much_is_saved(start):
 
 
 def restores_other_sectors(start):
-    """A backup restores a sector that no session touched, with --quick and without. The session's journal doesn't."""
+    """After damage outside the session's sectors, the session's journal can't restore the chip, but a backup can.
+
+    The restore from the session's journal ends with chip fault 5. A restore from the backup succeeds with and without
+    --quick.
+    """
     old, new = images("restores_other_sectors")
     for words in WAYS:
         bench = start(data=old)
@@ -59,20 +63,23 @@ def restores_other_sectors(start):
             plan = reference.session("TINY64", now, old)
             line = reference.done(plan, now, old)
         bench.expect(*words, out=[reference.found("TINY64"), line])
-        # The backup saves each sector, so there is no other one to compare.
+        # The backup saves each sector, so no other sector has to be compared.
         bench.check_frames(reference.whole_restore("TINY64", plan, ALL))
         bench.check_chip(old)
         bench.check_file("whole", reference.journal("TINY64", old, ALL))
 
 
 def restores_a_locked_chip(start):
-    """A backup of a chip with a locked protected range is error 9 without --quick. With --quick it can restore."""
+    """If SRP0 and a protected range are set, a restore from a backup ends with error 9, except with --quick.
+
+    If only SRP0 is set, the restore works without --quick, too.
+    """
     old = large_chip()
     damaged = b"\0" * SECTOR + old[SECTOR:]
     for status, is_protected in (b"\x84\0", True), (b"\x80\0", False):
         bench = start("W25Q64FV", data=old, status=status)
         check("the backup", bench.run(*BACKUP).status, 0)
-        # Sector 0 is not in the protected range, which is the end of the chip.
+        # Sector 0 is damaged. The protected range is at the end of the chip, so it doesn't contain sector 0.
         bench.chip.data[:] = damaged
         if is_protected:
             bench.expect("--restore", "whole", err=reference.locked(status))
@@ -84,7 +91,10 @@ def restores_a_locked_chip(start):
 
 
 def restores_after_wrong_addresses(start):
-    """After a wrong address bit of an erase, or of a whole change, a backup restores the chip as it was."""
+    """A backup restores the original chip after an address bit was wrong in one erase, or in a whole change.
+
+    The session then ends with error 14 or chip fault 4, and a restore from its journal with chip fault 5.
+    """
     for numbers, is_one in ((1, 2, 7, 15), True), ((2, 7, 15), False):
         old, new = images("restores_after_wrong_addresses", numbers)
         wire = session_wire(old, new)
@@ -105,7 +115,10 @@ def restores_after_wrong_addresses(start):
 
 
 def makes_a_new_file(start):
-    """A file that exists is file fault 4, and stays as it is. Without a chip, or with another one, none is created."""
+    """A backup to an existing file ends with file fault 4, and the file stays unchanged.
+
+    If there is no chip, or -c names another chip, the backup creates no file.
+    """
     old, _ = images("makes_a_new_file")
     bench = start(data=old)
     for content in b"", old, reference.journal("TINY64", old, [1]):
@@ -125,7 +138,7 @@ def makes_a_new_file(start):
 
 
 def takes_no_other_option(start):
-    """--backup is an operation, which takes neither a journal nor regions, -n, -N, --unlock or --quick."""
+    """--backup with a second operation, --journal, -l, -i, -n, -N, --unlock or --quick ends with a usage fault."""
     bench = start(data=FREE)
     bench.write("layout", b"0:fff first\n")
     for fault, words, why in (
@@ -144,7 +157,10 @@ def takes_no_other_option(start):
 
 
 def check_begun(bench, old):
-    """Checks that the chip is as it was, and that no file, or a part of a journal, was left, which restores nothing."""
+    """Checks that the chip is unchanged, and that the journal is absent or incomplete. Removes an incomplete journal.
+
+    An incomplete journal must be a prefix of the whole one, and a restore from it must end with error 15.
+    """
     check_unchanged(bench, old, b"\0\0")
     if not bench.path("whole").exists():
         return
@@ -157,16 +173,17 @@ def check_begun(bench, old):
 
 
 def saves_no_wrong_bit(start):
-    """One wrong bit in a reply stops a backup. What is left of its journal is refused (error 15).
+    """One wrong bit in a reply stops a backup (error 12). If the journal exists, a restore from it ends with error 15.
 
-    The replies before the job are not used: that to ABh, which wakes the chip, and those of the trial reads.
+    The case leaves out the replies before the job: those to ABh (which wakes the chip), to the trial reads, and to the
+    first reads of the ID and of status 1.
     """
     old, _ = images("saves_no_wrong_bit")
     wire = reference.carried(reference.backup("TINY64"), old)
     bench = start(data=old)
     for number, (out, replies) in list(enumerate(wire, 1))[bench.first() - 1 :]:
         for byte in {0, replies // 2, replies - 1} if replies else ():
-            # A wrong BUSY bit of a poll costs one more poll, and nothing else.
+            # Bit 3 is wrong, not bit 0 (BUSY), which would only cost one more poll.
             bench.server.traits.wrong_bits = {number: (byte, 3)}
             cause = LOST if out[0] == READ_ID else DIFFER
             begins(f"transaction {number}, {out.hex()}", bench.run(*BACKUP), [STOPPED, cause])

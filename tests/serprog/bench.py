@@ -1,4 +1,4 @@
-"""A chip at a programmer, the program that is tested, and the checks of what it prints and sends."""
+"""A programmer with a chip, the program under test, and checks of what the program prints and sends."""
 import copy
 import os
 import re
@@ -12,26 +12,27 @@ import reference
 from chip import DEVICE, Chip
 from server import ARGUMENTS, O_SPIOP, Server, Traits, trace_line
 
-# A case that interrupts a job at each transaction in turn takes each STRIDE-th one. The number is 1, except if self.py
-# tests such a case, since it runs the stand-in, which is slow.
+# A case that interrupts a job at each transaction tries only every STRIDE-th transaction. STRIDE is 1, except in the
+# runs of self.py, whose program (stand_in.py) is slow.
 STRIDE = int(os.environ.get("STRIDE", "1"))
 
-# How long a run may take, in seconds. A run that takes longer hangs, even on a busy machine.
+# The longest time of a run in seconds. A run that takes longer is taken to hang, even on a busy machine.
 LONGEST = 300
 
-# The line of the progress that a run prints after each minute, if its standard error is no terminal.
+# The progress line that a run prints each minute if its standard error isn't a terminal.
 MINUTE = re.compile(r"(?:identify|scan|erase|program|protect|read back|compare): .*, (?:.* left|.* so far|took .*)")
 
-# The line before the first exchange. A terminal shows it until the programmer replies, except with plain progress.
+# The line that is printed before anything is sent. A terminal shows it until the programmer replies, and with plain
+# progress also afterwards.
 WAITING = "Waiting for the programmer. No reply in 10 s? Ctrl-C; see flashnor-serprog(8)."
 
 
 class Differs(Exception):
-    """A check that failed. Its arguments are lines."""
+    """A check that failed. Its arguments are the lines that describe the failure."""
 
 
 class Result(NamedTuple):
-    """What a run printed, as lines, and its exit status."""
+    """The exit status of a run, and the lines that it printed to standard output and standard error."""
 
     status: int
     out: list
@@ -39,7 +40,7 @@ class Result(NamedTuple):
 
 
 def check(what, got, wanted):
-    """Raises `Differs` unless both are the same."""
+    """Raises `Differs` unless `got` equals `wanted`."""
     if got != wanted:
         raise Differs(f"{what}:", f"    got    {abridged(got)}", f"    wanted {abridged(wanted)}")
 
@@ -50,7 +51,7 @@ def abridged(value):
 
 
 def check_data(what, got, wanted):
-    """Raises `Differs` unless both have the same bytes, with the first address that differs."""
+    """Raises `Differs`, with the first address that differs, unless `got` and `wanted` have equal bytes."""
     check(f"{what}, length", len(got), len(wanted))
     if got != wanted:
         at = next(at for at, (one, other) in enumerate(zip(got, wanted)) if one != other)
@@ -58,7 +59,7 @@ def check_data(what, got, wanted):
 
 
 def read_all(terminal):
-    """Returns what is printed to a terminal, until no process has it open, and closes it."""
+    """Returns the bytes that are printed to a terminal until no process has it open, and closes `terminal`."""
     shown = b""
     with os.fdopen(terminal, "rb", buffering=0) as source:
         try:
@@ -70,11 +71,11 @@ def read_all(terminal):
 
 
 class Bench:
-    """A directory with a programmer at the link `dev`, and a chip behind it.
+    """A directory with a programmer at the link `dev`, and the chip of this programmer.
 
-    `plug` connects a programmer, after the one before was unplugged or closed. The chip stays the same. Without
-    `remembers` the chip before a run isn't kept, so `carried` can't compare with an image. `environment` is added to that
-    of a run.
+    `plug` connects a new programmer after it closes the current one. The chip stays as it is. If `remembers` is false,
+    no copy of the chip is made before a run, so `carried` ignores the image of -w or -v. `environment` contains
+    variables that are added to the environment of each run.
     """
 
     def __init__(self, program, folder, part="TINY64", data=None, status=b"\0\0", unique=DEVICE, scale=0.0, **traits):
@@ -82,10 +83,10 @@ class Bench:
         self.chip = Chip(part, data, status, unique, scale)
         self.server, self.command, self.words = None, "", []
         self.before, self.image, self.remembers = None, None, True
-        # The first bytes of the chip before the last run, which has its trial reads there.
+        # The first 64 KiB of the chip before the last run. The trial reads of this run are in this range.
         self.head = b""
         self.environment = {}
-        # When the last run began, and the lines that it printed because it took more than a minute.
+        # The start time of the last run, and the progress lines that it printed because it took more than a minute.
         self.began, self.minutes = 0, []
         self.plug(**traits)
 
@@ -101,7 +102,7 @@ class Bench:
         return self.folder / name
 
     def remove_journal(self):
-        """Removes the journal j and the file beside it, where they exist."""
+        """Removes the journal j and its file j.sectors, if they exist."""
         for name in "j", "j.sectors":
             self.path(name).unlink(missing_ok=True)
 
@@ -109,7 +110,7 @@ class Bench:
         self.path(name).write_bytes(content)
 
     def start(self, words, keys="", err=subprocess.PIPE, out=subprocess.PIPE):
-        """Starts the program with these arguments, after -p, and returns the process."""
+        """Starts the program with -p for this programmer and these arguments, and returns the process."""
         words = [str(self.program), "-p", f"serprog:dev={self.folder / 'dev'}{keys}", *words]
         return self.start_words(words, err, out)
 
@@ -119,7 +120,8 @@ class Bench:
         self.head = bytes(self.chip.data[:65536])
         self.began = time.monotonic()
         names = [name for option, name in zip(words, words[1:]) if option in ("-w", "-v") and self.remembers]
-        # Data is read once only if the whole chip is compared with the image in the end.
+        # Sectors that equal the image are read only once, but only if the whole chip is compared with the image at the
+        # end.
         names = names if not {"-n", "-N", "--noverify-all"} & set(words) else []
         self.image = self.path(names[0]).read_bytes() if names and self.path(names[0]).exists() else None
         process = subprocess.Popen(words, cwd=self.folder, stdin=subprocess.DEVNULL, stdout=out,
@@ -128,7 +130,7 @@ class Bench:
         return process
 
     def finish(self, process):
-        """Waits until a run ended, and returns its result."""
+        """Waits until a run ends, and returns its result without the progress lines and the note of a restore."""
         try:
             out, err = process.communicate(timeout=LONGEST)
         except subprocess.TimeoutExpired:
@@ -141,7 +143,11 @@ class Bench:
         return self.without_note(Result(process.returncode, out, [it for it in err if it not in self.minutes]))
 
     def note(self):
-        """Returns the last line of the last run, if it restored a journal without the file beside it."""
+        """Returns the note with which a successful last run must end, as a list of one line or none.
+
+        A restore without -N prints this note if its journal saves only some sectors, and the file NAME.sectors is
+        missing.
+        """
         names = [name for option, name in zip(self.words, self.words[1:]) if option == "--restore"]
         if not names or {"-N", "--noverify-all"} & set(self.words) or self.path(f"{names[0]}.sectors").exists():
             return []
@@ -149,18 +155,18 @@ class Bench:
         return [reference.unknown_sectors(names[0])] if is_partial else []
 
     def without_note(self, got):
-        """Checks that a restore that succeeded printed its note, if it has one, and returns the result without it."""
+        """Checks that a successful run ends with the lines of `note`, and returns the result without them."""
         note = self.note() if got.status == 0 else []
         check("the last line of a restore", got.err[len(got.err) - len(note) :], note)
         return Result(got.status, got.out, got.err[: len(got.err) - len(note)])
 
     def run(self, *words, keys="", events=None):
-        """Runs the program with these arguments, and returns its result. The log begins anew."""
+        """Clears the log of the programmer, runs the program with these arguments, and returns the result."""
         self.server.begin(events or {})
         return self.finish(self.start(words, keys))
 
     def expect(self, *words, out=(), err=(), keys="", events=None):
-        """Runs the program, and checks both streams and the exit status, which is 1 if `err` has lines."""
+        """Runs the program, and checks both output streams and the exit status: 1 if `err` has lines, else 0."""
         got = self.run(*words, keys=keys, events=events)
         self.compare(got, out, err)
         return got
@@ -168,7 +174,7 @@ class Bench:
     def expect_at_terminal(self, *words, lines):
         """Runs the program with standard error at a terminal, and checks that it succeeds and prints these lines.
 
-        The progress is plain. The line on a programmer that never replies comes before it.
+        The progress is plain (--progress plain). The line `WAITING` is printed before these lines.
         """
         terminal, slave = os.openpty()
         self.server.begin({})
@@ -181,7 +187,10 @@ class Bench:
         check("exit status", process.returncode, 0)
 
     def expect_to_wait(self, *words):
-        """Runs the program with standard error at a terminal, and kills it when it has printed a line and waits."""
+        """Runs the program with standard error at a terminal. Kills it a second after it printed `WAITING`.
+
+        The program must still be waiting then.
+        """
         terminal, slave = os.openpty()
         self.server.begin({})
         process = self.start(words, err=slave)
@@ -199,7 +208,7 @@ class Bench:
         process.communicate()
 
     def run_unprinted(self, *words):
-        """Runs the program with standard output at /dev/full, and returns its exit status and the faults' lines."""
+        """Runs the program with standard output at /dev/full. Returns exit status and lines of standard error."""
         self.server.begin({})
         with open("/dev/full", "wb") as full:
             process = self.start(words, out=full)
@@ -213,7 +222,7 @@ class Bench:
         check("exit status", got.status, int(bool(err)))
 
     def device(self, text):
-        """Returns a message, with the name of the device in the place of DEV."""
+        """Returns the text, in which the path of the device replaces DEV."""
         return text.replace("DEV", str(self.folder / "dev"))
 
     def transactions(self):
@@ -221,18 +230,25 @@ class Bench:
         return [trace_line(*it) for it in self.server.log]
 
     def carried(self, plan):
-        """Returns the transactions over the wire of a plan that is the plan of the last run."""
+        """Returns the transactions that the programmer must have received, if `plan` is the plan of the last run.
+
+        The plan has the transactions of the engine (see reference.py). The result also contains the reads ahead, and
+        the reads that confirm a reply.
+        """
         server = self.server
         return reference.carried(plan, self.head, server.longest_read(), server.longest_part(),
                                  copy.deepcopy(self.before), self.image)
 
     def first(self):
-        """Returns the number of the first transaction of a job on the chip as it is. Those before wake and try it."""
+        """Returns the number of the first transaction of a job on the current chip.
+
+        The transactions before it wake the chip, make the trial reads, and read the ID and status 1.
+        """
         server = self.server
         return len(reference.before_job(self.chip.data, server.longest_part(), server.longest_read())) + 1
 
     def check_frames(self, plan):
-        """Checks that the bytes of the last run after the handshake are exactly the frames of this plan."""
+        """Checks that the bytes that the last run sent after the handshake are exactly the frames of this plan."""
         _, rest = split_handshake(self.server.received)
         wanted = reference.frames(self.carried(plan))
         if rest == wanted:
@@ -244,7 +260,7 @@ class Bench:
                       f"    wanted {wanted[max(0, at - 12) : at + 12].hex(' ')}")
 
     def check_carried(self, number):
-        """Checks how many transactions the programmer carried out, once it is done with those that it received."""
+        """Waits up to two seconds for `number` transactions, and checks that the programmer carried out this many."""
         end = time.monotonic() + 2
         while len(self.server.log) < number and time.monotonic() < end:
             time.sleep(0.01)
@@ -272,7 +288,7 @@ class Bench:
 
 
 def split_handshake(received):
-    """Returns the commands before the first O_SPIOP, each with its arguments, and the bytes from there on."""
+    """Returns the commands before the first O_SPIOP, each with its arguments, and the bytes from this O_SPIOP on."""
     commands, at = [], 0
     while at < len(received) and received[at] != O_SPIOP:
         after = at + 1 + ARGUMENTS.get(received[at], 0)

@@ -1,9 +1,10 @@
-"""Each single wrong bit of a reply, and each single frame that the chip misses, in sessions and restores.
+"""Tries each single wrong bit of a reply, and each single transaction that the chip misses, in sessions and restores.
 
-None may end with status 0 and a chip or a journal that isn't as asked, and none may set a one-time bit. If one fails
-after it has changed the chip, a restore must succeed. Of a reply to 03h only `SAMPLE` bits are tried, spread over it,
-and up to 16 of those that differ between the chip and the target. Of other replies each bit is tried. The first poll
-after each command is also tried while the chip is busy, with the durations of the datasheet.
+A run with a fault may end with exit status 0 only if the chip and the journal are right, and must not set a one-time
+bit (LB1 to LB3). If a run fails after it has changed the chip, a restore must succeed. In a reply to 03h, `SAMPLE` bits
+spread over the reply are tried, and up to 16 bits that differ between the chip before and after the job. In other
+replies each bit is tried. For the first poll after each operation the faults are tried a second time on a chip that is
+busy for the typical durations of the datasheet.
 """
 import tempfile
 from functools import partial
@@ -18,13 +19,17 @@ UNIQUE = bytes(range(8))
 NUMBER = 48
 LAYOUT = b"030000:030fff one\n"
 REGION = ("-N", "-l", "layout", "-i", "one", "--journal", "j")
-# A restore of a large chip leaves out the comparison, which would read 8 MiB twice.
+# A restore of a W25Q64FV uses -N, because the comparison of the other sectors would read 8 MiB twice.
 RESTORE = ("--restore", "j", "-N")
 RESTORE_TINY = ("--restore", "j")
 
 
 class Work(NamedTuple):
-    """A job: its arguments, the chip before and after it, its plan, and the journal that it writes or restores."""
+    """A job: its chip and arguments, the bytes and status before and after it, its plan, and its journal.
+
+    The plan lists the transactions of the engine (see reference.py). A session writes the journal, and a restore reads
+    it.
+    """
 
     part: str
     words: tuple
@@ -37,7 +42,10 @@ class Work(NamedTuple):
 
 
 class Sweep(NamedTuple):
-    """A transaction of a job, by its number or as an operation and a poll after it, with the opcode and the replies."""
+    """A transaction of a job in which faults are tried. `replies` is the length of its reply.
+
+    `at` is the number of the transaction, or a pair: the numbers of an operation and of a poll after it.
+    """
 
     work: str
     at: object
@@ -46,7 +54,7 @@ class Sweep(NamedTuple):
 
 
 def chip_with(part, sector):
-    """Returns a blank chip, except for one sector, which begins with these bytes."""
+    """Returns the bytes of a chip that is blank except for one sector, which begins with the bytes `sector`."""
     at = NUMBER * SECTOR if part != "TINY64" else SECTOR
     return b"\xff" * at + sector + b"\xff" * (PARTS[part].size - at - len(sector))
 
@@ -55,7 +63,7 @@ OLD, NEW = b"\x5a\x00\xff\xa5" * 4, bytes(range(16)) + b"\xff" * 500 + b"\x77"
 
 
 def protect():
-    """--wp-range on a chip with QE and CMP set."""
+    """Returns the job --wp-range on a chip with QE and CMP set."""
     blank, status = chip_with("W25Q64FV", b""), b"\x24\x42"
     plan = reference.identify("W25Q64FV") + reference.write_status(b"\x1c\x02")
     words = ("--wp-range", "0,0x800000", "--journal", "j")
@@ -64,14 +72,14 @@ def protect():
 
 
 def restore_range():
-    """--restore of such a range."""
+    """Returns the job --restore that undoes the job of `protect`."""
     work = protect()
     plan = reference.identify("W25Q64FV") + reference.write_status(work.status)
     return work._replace(words=RESTORE, plan=plan, status=work.new_status, new_status=work.status)
 
 
 def unlock():
-    """-w --unlock of one region of one sector, on a chip that is protected as a whole."""
+    """Returns the job -w --unlock of a region of one sector, on a chip that is protected as a whole."""
     old, new, status = chip_with("W25Q64FV", OLD), chip_with("W25Q64FV", NEW), b"\x1c\x02"
     steps, read = reference.change(old, new, [NUMBER], False), [reference.read_sector(NUMBER)]
     plan = reference.identify("W25Q64FV") + read + reference.write_status(b"\0\x02") + steps \
@@ -82,7 +90,7 @@ def unlock():
 
 
 def blank():
-    """-w of a blank region on a sector with one bit that isn't set."""
+    """Returns the job -w of a blank region on a sector in which only one bit is clear."""
     old, new, status = chip_with("W25Q64FV", b"\xff\xfb"), chip_with("W25Q64FV", b""), b"\0\x02"
     plan = reference.session("W25Q64FV", old, new, [NUMBER])
     plan = reference.whole_run("W25Q64FV", plan)
@@ -91,7 +99,7 @@ def blank():
 
 
 def restore():
-    """--restore of a session that changed a sector and the protected range."""
+    """Returns the job --restore of a journal with one sector, on a chip whose protected range was changed, too."""
     work = unlock()
     first, status = b"\x1c\x02", b"\x24\x42"
     steps = reference.rewriting(work.before, [NUMBER])
@@ -102,7 +110,7 @@ def restore():
 
 
 def restore_tiny():
-    """--restore of one sector of a chip that only its SFDP describes. The other sectors are compared."""
+    """Returns the job --restore of one sector of TINY64, which only its SFDP describes. It reads the other sectors."""
     old, new = chip_with("TINY64", OLD), chip_with("TINY64", NEW)
     plan = reference.whole_restore("TINY64", reference.restore("TINY64", old, [1]), [1])
     return Work("TINY64", RESTORE_TINY, new, old, b"\0\0", b"\0\0", plan,
@@ -113,12 +121,12 @@ WORKS = {f"bits_{it.__name__}": it for it in (protect, restore_range, unlock, bl
 
 
 def wire(work):
-    """Returns the transactions over the wire of a job."""
+    """Returns the transactions of a job that the programmer receives."""
     return reference.carried(work.plan, work.before)
 
 
 def sweeps(name):
-    """Returns the sweeps of a job. `bits_JOB_05` are only those of the replies to 05h."""
+    """Returns the sweeps of a job. The name `bits_JOB_05` stands for the sweeps of the opcode 05h only."""
     job = next(it for it in sorted(WORKS, key=len, reverse=True) if name.startswith(it))
     only = name[len(job) + 1 :]
     work = WORKS[job]()
@@ -129,14 +137,17 @@ def sweeps(name):
 
 
 def tries(program, names):
-    """Returns the functions that try the sweeps of these names, and the runs without a fault."""
+    """Returns functions that run the jobs of these names without a fault, and functions that try their sweeps."""
     found = [partial(try_right, program, it) for it in names]
     return found + [partial(try_sweep, program, it) for name in names for it in sweeps(name)]
 
 
 def faults(work, sweep):
-    """Returns the faults of a sweep, each as the traits of the programmer. With a STRIDE of 9 these are each third one
-    (a reply has few bits), and for another transaction other ones."""
+    """Returns the faults of a sweep: each is the name of a field of `Traits`, and the fault.
+
+    With a STRIDE of 9, only every third fault is returned, since a reply has few bits. Which ones depends on the
+    transaction.
+    """
     bits = range(8 * sweep.replies)
     if sweep.opcode == READ_DATA:
         differing = {8 * at + bit for at in range(SECTOR) for bit in range(8)
@@ -161,7 +172,7 @@ def bench_of(program, folder, work, scale=0.0):
 
 
 def try_right(program, name):
-    """Tries a job without a fault, whose transactions must be those that the sweep expects."""
+    """Runs a job without a fault, and checks its frames. Returns nothing, or the lines of a failure."""
     job = next(it for it in sorted(WORKS, key=len, reverse=True) if name.startswith(it))
     work = WORKS[job]()
     with tempfile.TemporaryDirectory() as folder:
@@ -180,7 +191,7 @@ def try_right(program, name):
 
 
 def try_sweep(program, sweep):
-    """Tries the faults of a sweep, and returns nothing, or the lines that say which did harm."""
+    """Tries the faults of a sweep. Returns nothing, or lines that say which faults did harm."""
     work = WORKS[sweep.work]()
     lines = []
     with tempfile.TemporaryDirectory() as folder:
@@ -200,7 +211,7 @@ def try_sweep(program, sweep):
 
 
 def begin(bench, work, traits):
-    """Sets the chip up as before the job, and runs it with these faults."""
+    """Sets the chip and the journal to their state before the job, and runs the job with these faults."""
     bench.chip.wait()
     bench.chip.data[:], bench.chip.status[:], bench.chip.wel = work.before, work.status, False
     bench.remove_journal()
@@ -210,7 +221,7 @@ def begin(bench, work, traits):
 
 
 def run(bench, words, traits):
-    """Runs the program with these faults of the wire. Afterwards the chip is ready."""
+    """Runs the program with these faults of the wire, and waits until the chip is ready."""
     bench.server.traits.wrong_bits = dict(traits.get("wrong_bits", {}))
     bench.server.traits.misses = dict(traits.get("misses", {}))
     got = bench.run(*words)
@@ -219,7 +230,10 @@ def run(bench, words, traits):
 
 
 def try_fault(bench, work, traits):
-    """Runs a job with a fault, and checks what it leaves, and that a restore leads back."""
+    """Runs a job with a fault, and checks its result, the chip and the journal.
+
+    If the run failed and the chip was changed, a restore must succeed and leave the expected bytes.
+    """
     got = begin(bench, work, traits)
     chip = bench.chip
     check("one-time bits", chip.status[1] & ONCE, work.status[1] & ONCE)

@@ -1,6 +1,6 @@
 """Cases of restores on a chip whose board changed QE, the reserved bit or LB1 to LB3 after the journal was made.
 
-The restore writes the sectors and the protection bits back, keeps these bits, and names them.
+The restore writes the saved sectors and the protection bits back, doesn't write these bits, and prints their names.
 """
 import hashlib
 
@@ -10,12 +10,12 @@ from faults import DIFFER
 from locks import READ
 from wire import check_unchanged
 
-# A chip with known block protection.
+# The chip of these cases and its size. The program knows its block protection.
 PART, LARGE = "W25Q32FV", 1 << 22
 SECTOR = 4096
 UNIQUE = bytes.fromhex("d1d2d3d4d5d6d7d8")
-# The status of the journal, that of the chip before the restore, that after it, and the exit status. A QE that is set
-# and wasn't is no fault. Each other bit that stays is one.
+# Each entry has the status bytes in the journal, those of the chip before and after the restore, and the exit status.
+# The exit status is 0 only if no kept bit differs except a QE that is set on the chip and clear in the journal.
 CHANGED = ((b"\0\0", b"\0\x02", b"\0\x02", 0), (b"\0\x02", b"\0\0", b"\0\0", 1),
            (b"\0\0", b"\0\x04", b"\0\x04", 1), (b"\0\0", b"\0\x08", b"\0\x08", 1),
            (b"\0\x08", b"\0\x0a", b"\0\x0a", 0), (b"\0\x08", b"\0\x3a", b"\0\x3a", 1),
@@ -25,7 +25,7 @@ SAVED = [0, 5]
 
 
 def images():
-    """Returns what the journal saved, and what the chip holds before the restore."""
+    """Returns the original bytes, of which the journal saves two sectors, and the chip's bytes before the restore."""
     old = bytes(range(256)) * 16 + b"\xff" * (LARGE - SECTOR)
     return old, b"\xff" * LARGE
 
@@ -45,9 +45,9 @@ def of_format_1(journal):
 
 
 def restores_a_changed_board(start):
-    """The bytes and the protection bits come back, the bits of the board stay, and a line names those that differ.
+    """A restore writes the bytes and the protection bits back, keeps the board's bits, and names those that differ.
 
-    The exit status is 1, and the last line says so, unless QE is the only one of these bits, and is set.
+    The exit status is 1, and a last line says why, unless the only bit that differs is a QE that is set on the chip.
     """
     for saved, found, after, status in CHANGED:
         for words in ("-N",), ("-N", "--quick"):
@@ -63,7 +63,7 @@ def restores_a_changed_board(start):
 
 
 def compares_the_rest_of_a_changed_board(start):
-    """Without -N, the other sectors are read once before the restore, and compared after it."""
+    """Without -N, a restore reads the sectors that the journal doesn't save, before and after it writes the others."""
     bench, old, now = bench_with(start, b"\0\0", b"\0\x02")
     got = bench.run("--restore", "j")
     check("the restore", [got.status, got.err], [0, [reference.kept_bits(0, 2)]])
@@ -73,7 +73,7 @@ def compares_the_rest_of_a_changed_board(start):
 
 
 def fails_after_the_comparison(start):
-    """Without -N, too, a bit that stays is exit status 1, after the comparison and the note on the other sectors."""
+    """Checks that a restore without -N, after QE was cleared, compares the unsaved sectors and ends with status 1."""
     bench, old, now = bench_with(start, b"\0\x02", b"\0\0")
     got = bench.run("--restore", "j")
     check("the restore", [got.status, got.err], [
@@ -83,7 +83,7 @@ def fails_after_the_comparison(start):
 
 
 def sends_a_second_identification(start):
-    """After the check, the status is read, the chip is identified again, and the restore runs as always."""
+    """The restore identifies the chip, reads the status, identifies the chip again, and then writes the sectors."""
     bench, old, now = bench_with(start, b"\0\0", b"\0\x02")
     check("exit status", bench.run("--restore", "j", "-N").status, 0)
     first = reference.identify(PART)
@@ -91,9 +91,9 @@ def sends_a_second_identification(start):
 
 
 def refuses_other_bits(start):
-    """SRP0, SRP1, or a bit of LB1 to LB3 that the chip lacks: error 17, and nothing is modified.
+    """If SRP0 or SRP1 differs, or LB1 to LB3 are set only in the journal, a restore ends with error 17.
 
-    So is a journal without a unique ID, since it may be another board's, except for a chip that was replaced.
+    A journal of format 1 has no unique ID and may be another board's, so there a QE that differs is error 17, too.
     """
     for saved, found, advice in (
             (b"\0\0", b"\x80\x02", reference.CLEAR_SRP0), (b"\x80\0", b"\0\x02", reference.SET_SRP0),
@@ -113,7 +113,7 @@ def refuses_other_bits(start):
 
 
 def refuses_another_board(start):
-    """A chip with another unique ID is refused with error 20, whatever its status bits are."""
+    """A restore on a chip with another unique ID ends with error 20, even if QE differs, too."""
     bench, old, now = bench_with(start, b"\0\0", b"\0\x02", unique=bytes(8))
     got = bench.run("--restore", "j", "-N")
     check("the error", [got.status, got.err[0]], [1, "Error 20: another unit than the journal's."])
@@ -121,7 +121,7 @@ def refuses_another_board(start):
 
 
 def believes_no_wrong_status(start):
-    """If two reads of the status differ, the run ends with error 12, and nothing is modified."""
+    """If one read of status 2 returns a wrong bit, the restore ends with error 12, and nothing is modified."""
     for first in range(2, 7):
         bench, old, now = bench_with(start, b"\0\0", b"\0\x02")
         carry, reads = bench.chip.transfer, []
@@ -143,7 +143,7 @@ def believes_no_wrong_status(start):
 
 
 def restores_a_replaced_changed_chip(start):
-    """A backup goes to another chip, which keeps its own QE and its own lock bits."""
+    """A restore with --replaced-chip writes a backup to another chip, which keeps its own QE and LB1."""
     old, now = images()
     bench = start(PART, data=now, status=b"\0\x08", unique=bytes(8))
     bench.remembers = False
@@ -154,7 +154,7 @@ def restores_a_replaced_changed_chip(start):
 
 
 def restores_after_interruptions(start):
-    """A restore that was killed at any of its transactions can be repeated."""
+    """A restore that loses its programmer at one of its transactions (each fifth is tried) can be repeated."""
     bench, old, now = bench_with(start, b"\x04\0", b"\0\x02")
     check("the restore", bench.run("--restore", "j", "-N").status, 0)
     count = len(bench.server.log)

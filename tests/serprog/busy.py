@@ -1,7 +1,7 @@
-"""Kills and lost replies while the chip is busy, on a chip with the durations of the datasheet.
+"""Cases of runs that are killed, or lose a reply, while the chip is busy for as long as a real chip.
 
-The operation goes on in the chip while no program runs. The restore that follows must wait until the chip is ready. It
-must then restore each byte and status bit, and send nothing that a busy chip ignores.
+The chip continues its operation while no program runs. The restore that follows must wait until the chip is ready, then
+restore each byte and status bit, and send nothing that a busy chip ignores.
 """
 import contextlib
 import itertools
@@ -12,27 +12,27 @@ from typing import NamedTuple
 
 import reference
 from bench import Bench, Differs, check
-from chip import PARTS, READ_DATA, SECTOR, WAKE
+from chip import PARTS, SECTOR
 from losses import FEW, MANY, STOPPED, chip_images
 
-# How long the operation lasts in which a run is stopped, in seconds. If it has ended before the restore begins, because
-# the machine is slow, the loss is tried again with the next duration.
+# The durations in seconds of the operation in which a run is stopped. If the chip is ready before the restore begins
+# (on a slow machine), the loss is tried again with the next duration.
 DURATIONS = (0.5, 4, 30)
 POLL = b"\x05"
 ALL = range(16)
-# A block of 64 KiB and one more sector of a W25Q64FV.
+# The sectors that `unlocking` changes: a block of 64 KiB and one more sector of a W25Q64FV.
 BLOCK = (*range(16, 32), 48)
 LAYOUT = b"010000:01ffff block\n030000:030fff sector\n"
 
 
 class TooFast(Exception):
-    """The chip was ready too early for the loss."""
+    """The chip was ready before the run was stopped, or before its restore began, so the loss must be tried again."""
 
 
 class Session(NamedTuple):
-    """A session that changes a chip: its arguments, the sectors that it changes, and the chip before and after it.
+    """A session: its chip and arguments, the sectors that it saves, and the chip's bytes and status before and after.
 
-    It makes `count` operations (erases, programs and status writes), and its restore makes `back`.
+    The session carries out `count` operations (erases, programs and status writes), and its restore carries out `back`.
     """
 
     part: str
@@ -47,10 +47,10 @@ class Session(NamedTuple):
 
 
 class Loss(NamedTuple):
-    """An event in a run of a session, or of its restore: at an operation, and at a poll after it.
+    """An event (`kill` or `lose`) in a session, or in its restore, at an operation and a poll after this operation.
 
-    Poll 0 is the command of the operation, and operation 0 the start of the run. `first` is the operation in whose poll
-    the session was killed before the restore, or 0 if it ended.
+    Poll 0 is the command of the operation. Operation 0 is the start of the run. If `first` isn't 0, the session was
+    killed at the first poll after this operation, and the event occurs in its restore.
     """
 
     event: str
@@ -62,7 +62,7 @@ class Loss(NamedTuple):
 
 
 def operations(plan):
-    """Returns the number of operations of a plan."""
+    """Returns the number of operations in a plan. Each of them begins with 06h."""
     return sum(out == b"\x06" for out, _ in plan)
 
 
@@ -75,7 +75,7 @@ def small(changed):
 
 
 def erasing():
-    """Returns an erase of TINY64 by one chip erase."""
+    """Returns a session that erases TINY64 by one chip erase."""
     old, _ = chip_images(tuple(ALL[1:]))
     old = b"\0" + old[1:]
     new = b"\xff" * len(old)
@@ -84,9 +84,9 @@ def erasing():
 
 
 def unlocking():
-    """Returns a session on a protected W25Q64FV: it erases a block, and erases and programs one more sector.
+    """Returns a session on a protected W25Q64FV that erases a block, and erases and programs one more sector.
 
-    It begins and ends with a status write, and so does its restore.
+    The session begins and ends with a status write, and so does its restore.
     """
     old = bytearray(b"\xff" * PARTS["W25Q64FV"].size)
     chance = random.Random("unlocking")
@@ -104,7 +104,7 @@ def unlocking():
 
 
 def protecting():
-    """Returns a change of the protected range of a W25Q64FV, which is one status write."""
+    """Returns a session that changes the protected range of a W25Q64FV by one status write."""
     old = b"\xff" * PARTS["W25Q64FV"].size
     return Session("W25Q64FV", ("--wp-range", "0,0x800000"), (), old, old, b"\x24\x42", b"\x1c\x02", 1, 1)
 
@@ -114,7 +114,7 @@ SESSIONS = {"few": lambda: small(FEW), "block": lambda: small(MANY), "chip": era
 
 
 def losses():
-    """Returns the losses of the gate."""
+    """Returns the losses that run.py tries."""
     few, unlock = small(FEW), unlocking()
     found = []
     for event in "kill", "lose":
@@ -124,13 +124,13 @@ def losses():
         found += [Loss(event, "unlock", at) for at in (1, 2, 3, unlock.count)]
         found += [Loss(event, "few", at, 0, True) for at in (1, few.back)]
         found += [Loss(event, "unlock", at, 0, True) for at in (1, unlock.back)]
-        # A restore that is stopped while it waits for the operation of the session.
+        # The restore is stopped while it waits for an operation of the killed session.
         found += [Loss(event, "few", 0, 5, True, 2), Loss(event, "unlock", 0, 5, True, 1)]
     return found
 
 
 def try_loss(program, loss):
-    """Tries one loss, and returns nothing, or the lines that say what was wrong."""
+    """Tries one loss. Returns nothing, or the lines that describe a failure."""
     benches = []
     with tempfile.TemporaryDirectory() as folder, contextlib.ExitStack() as ends:
 
@@ -147,7 +147,7 @@ def try_loss(program, loss):
 
 
 def one_loss(start, loss):
-    """Tries one loss, with longer operations if the chip was ready too early."""
+    """Tries one loss, and tries it again with a longer operation if the chip was ready too early."""
     session = SESSIONS[loss.session]()
     for seconds in DURATIONS:
         bench = start(session.part, data=session.old, status=session.status, unique=bytes(range(8)), scale=1.0)
@@ -162,7 +162,10 @@ def one_loss(start, loss):
 
 
 def lose(bench, session, loss, seconds):
-    """Runs the session and the restores of a loss, whose operation lasts for these seconds."""
+    """Runs the session and the restores of a loss, and checks the chip.
+
+    The operation in which a run is stopped lasts for `seconds`.
+    """
     change, restore = (*session.words, "--journal", "j"), ("--restore", "j")
     if not loss.is_restore:
         stop(bench, change, loss.event, (loss.operation, loss.poll), seconds)
@@ -176,7 +179,7 @@ def lose(bench, session, loss, seconds):
     journal = reference.journal(session.part, session.old, session.saved, session.status, bytes(range(8)))
     bench.check_file("j", journal)
     got = bench.run(*restore)
-    # A session that saves no sector has no sums of sectors.
+    # A session that saves no sector writes no file j.sectors, and the restore prints a line about that.
     unknown = [] if session.saved else [reference.unknown_sectors("j", reference.UNWRITTEN)]
     check("the restore", (got.err, got.out[:1], got.status), (unknown, [reference.found(session.part)], 0))
     check("transactions that the busy chip ignored", bench.chip.ignored, 0)
@@ -187,7 +190,10 @@ def lose(bench, session, loss, seconds):
 
 
 def stop(bench, words, event, at, seconds):
-    """Runs the program, stops it at an operation that lasts for these seconds, and plugs the programmer in again."""
+    """Runs the program, and stops it by the event at an operation that lasts for `seconds`.
+
+    If the event isn't `kill`, the programmer is gone, so this function connects a new one.
+    """
     bench.chip.slow = {at[0]: seconds}
     got = bench.run(*words, events={at: event})
     check("transactions that the busy chip ignored", bench.chip.ignored, 0)
@@ -202,10 +208,14 @@ def stop(bench, words, event, at, seconds):
 
 
 def check_waiting(bench):
-    """Checks that the chip was busy when the job began. The first poll may be the rest of what was sent before."""
+    """Raises `TooFast` unless the job began with two polls or more that showed BUSY.
+
+    One of these polls may be left from the run before, so a single one isn't enough.
+    """
     waits = 0
-    # A busy chip replies FFh to the trial reads of data, so its status is read in both ways, too.
-    before = itertools.dropwhile(lambda it: it[0][0] in (WAKE, READ_DATA) or len(it[1]) == reference.FEW, bench.server.log)
+    # Skips what precedes the job: ABh, the trial reads, and a read of the ID and of status 1. A busy chip replies FFh to
+    # reads of data, so the last two trial reads read status 1.
+    before = itertools.dropwhile(lambda it: it[0] != POLL or len(it[1]) != reference.STATUS_TWICE[1], bench.server.log)
     for out, reply in before:
         if out != POLL or not reply[0] & 1:
             break
@@ -215,7 +225,7 @@ def check_waiting(bench):
 
 
 def restores_a_busy_chip(start):
-    """A restore waits for an operation of a session that was killed, or whose reply was lost."""
+    """A restore waits for the operation of a session or restore that was killed, or whose reply was lost."""
     for loss in Loss("kill", "few", 2), Loss("lose", "few", 7), Loss("kill", "few", 1, 0, True):
         one_loss(start, loss)
 

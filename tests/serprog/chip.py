@@ -1,8 +1,8 @@
 """Models of SPI NOR chips for the tests of flashnor-serprog, written from the datasheets of W25Q64FV and W25Q128FV.
 
-TINY64 has 64 KiB, an ID that no table contains, SFDP (JESD216) and no block protection. GUARD64 is the same chip with
-block protection, as most chips have it that only SFDP describes. The models leave out what flashnor and flashrom don't
-need: quad and dual reads, suspend, security registers, reset.
+TINY64 has 64 KiB, an ID that isn't in the program's table of chips, SFDP (JESD216) and no block protection. GUARD64 is
+like TINY64, but has another ID, and block protection as most real chips outside that table do. The models leave out
+what flashnor and flashrom don't need: quad and dual reads, suspend, security registers, reset.
 """
 import random
 import time
@@ -13,17 +13,21 @@ BUSY, WEL = 0x01, 0x02
 SRP0, TB, SEC = 0x80, 0x20, 0x40
 SRP1, CMP, ONCE = 0x01, 0x40, 0x38
 ERASES = {0x20: 4096, 0x52: 32768, 0xD8: 65536}
-# The unique ID of a chip for which a case gives no other.
+# The unique ID of a chip if the case gives no other unique ID.
 DEVICE = bytes.fromhex("5ad1c3970b4e8f26")
 READ_ID, READ_SFDP, READ_UNIQUE, READ_DATA = 0x9F, 0x5A, 0x4B, 0x03
 WAKE, POWER_DOWN = 0xAB, 0xB9
 
-# The typical durations of the datasheets (AC characteristics), in seconds. The chip erase depends on the part.
+# The typical durations of the operations by their opcode, in seconds (datasheets, AC characteristics). The duration of
+# a chip erase depends on the chip (`Part.chip_erase`).
 SECONDS = {0x01: 0.010, 0x02: 0.0007, 0x20: 0.045, 0x52: 0.120, 0xD8: 0.150}
 
 
 class Part(NamedTuple):
-    """What never changes of a chip. `has_row`: the program knows its ID. `chip_erase` is in seconds."""
+    """The constant properties of a chip. `has_row` is true if the program's table of chips contains the ID.
+
+    `chip_erase` is the duration of a chip erase in seconds.
+    """
 
     id: bytes
     size: int
@@ -32,8 +36,8 @@ class Part(NamedTuple):
     chip_erase: float
 
 
-# Chips that the program knows by their ID, like W25Q64FV, but that flashnor doesn't emulate. The chip erase takes as
-# long as that of a W25Q of the same size.
+# Chips whose ID is in the table of flashnor-serprog, but that flashnor doesn't emulate. The duration of a chip erase is
+# proportional to the size, as for W25Q64FV and W25Q128FV.
 FURTHER = {
     name: Part(bytes.fromhex(number), size, True, True, chip_erase)
     for name, number, size, chip_erase in (
@@ -42,8 +46,8 @@ FURTHER = {
         ("W25Q32JV-M", "ef7016", 1 << 22, 10.0), ("W25Q64JV-M", "ef7017", 1 << 23, 20.0),
         ("W25Q128JV-M", "ef7018", 1 << 24, 40.0))}
 
-# Other names of chips with the ID of a row (datasheets, Manufacturer and Device Identification). Those with a point and
-# the longest one are flashrom's (1.3.0, `flashrom -L`).
+# Other names of chips with an ID of the table (datasheets, Manufacturer and Device Identification). The names with a
+# dot and the one with slashes are flashrom's (1.3.0, `flashrom -L`).
 NAMES = {
     "W25Q32FV": ("W25Q32BV", "W25Q32CV", "W25Q32DV", "W25Q32JV", "W25Q32JV-Q", "W25Q32.V"),
     "W25Q64FV": ("W25Q64BV", "W25Q64CV", "W25Q64JV", "W25Q64JV-Q", "W25Q64JV-.Q", "W25Q64BV/W25Q64CV/W25Q64FV"),
@@ -62,16 +66,16 @@ PARTS = {
 
 
 def sfdp(size):
-    """Returns SFDP bytes: the header, the header of the basic table, and its double words 1 to 9 (JESD216)."""
+    """Returns SFDP bytes (JESD216): the header, the header of the basic table, and its double words 1 to 9."""
     headers = bytes.fromhex("53464450 000100ff 00000109 100000ff")
     density = (8 * size - 1).to_bytes(4, "little")
     return headers + bytes.fromhex("05200000") + density + bytes(20) + bytes.fromhex("0c200f52 10d80000")
 
 
 def protected_range(status, size):
-    """Returns the protected range of these status bytes as its first byte and the byte after its last.
+    """Returns the protected range for these status bytes: its first address, and the address after its last byte.
 
-    The tables of the datasheets don't define SEC with BP 110: here it protects the whole chip, with either CMP.
+    The tables of the datasheets don't define SEC with BP 110. Here it protects the whole chip, whatever CMP is.
     """
     bp = status[0] >> 2 & 7
     if status[0] & SEC and bp == 6:
@@ -90,11 +94,13 @@ def protected_range(status, size):
 class Chip:
     """A chip with its data and its two status bytes.
 
-    `scale` multiplies the durations of the datasheet, so with 0 the chip is never busy. `slow` has other durations, by
-    the number of the operation. `wp_low` says whether the pin WP# is low, so that SRP0 locks the status. A chip that
-    `is_asleep` is in deep power-down, and ignores each command except ABh. One that `has_four` is in four-byte mode
-    (W25Q256FV datasheet, Address Modes). Transactions that changed nothing although they should have are counted in
-    `ignored`, and so are those that a busy chip ignores, except for reads of data before the first poll of a run.
+    `scale` multiplies the durations of the datasheet; if it is 0, the chip is never busy. `slow` maps the number of an
+    operation to another duration. `wp_low` is true if the pin WP# is low, so that SRP0 locks the status. While
+    `is_asleep`, the chip is in deep power-down, and ignores each command except ABh. While `has_four`, it is in
+    four-byte mode (W25Q256FV datasheet, Address Modes).
+
+    `ignored` counts the commands that should have changed the chip but didn't, and the transactions that a busy chip
+    ignored, except for reads of data or of the ID before the first poll of a job, which asks for two bytes.
     """
 
     def __init__(self, part, data=None, status=b"\0\0", unique=DEVICE, scale=0.0, wp_low=True):
@@ -108,15 +114,15 @@ class Chip:
         self.wel, self.until, self.ignored, self.slow = False, 0.0, 0, {}
         self.is_asleep = self.has_four = False
         self.count_anew()
-        # What the last transaction changes: if it is a program or an erase, the address of its first byte and the bytes
-        # before it; if it is a status write, the status bytes before it.
+        # If the last transaction is a program or an erase, `in_progress` is the address and the former content of the
+        # changed bytes. If it is a status write, `status_in_progress` is the former status bytes.
         self.in_progress = self.status_in_progress = None
-        # Marginal bytes by their address, each with its two values: one read of it has the one, and another the other.
+        # Maps the address of each marginal byte to two values. Each read returns one of them at random.
         self.marginal, self.chance = {}, random.Random(0)
 
     def count_anew(self):
-        """Counts operations (programs, erases and status writes) from 1 again, and the polls after each of them."""
-        self.operations = self.polls = 0
+        """Resets the count of operations (programs, erases, status writes) and that of polls after the last one."""
+        self.operations, self.polls, self.has_begun = 0, 0, False
 
     def is_busy(self):
         if self.until and time.monotonic() >= self.until:
@@ -129,11 +135,11 @@ class Chip:
             time.sleep(max(0.0, self.until - time.monotonic()))
 
     def lose_power(self, fill=0x5A, marginal=None, torn=0):
-        """Interrupts the operation of the last transaction. WEL is clear afterwards, and so is SRP1 without SRP0.
+        """Interrupts the operation of the last transaction. Afterwards WEL is clear, and so is SRP1 unless SRP0 is set.
 
-        The bytes of a program or an erase become `fill`. If `marginal` is given, this number of them becomes marginal
-        instead, and the others are as after the operation. Of a status write only the bits of `torn` were written; its
-        high byte is for status 1.
+        The bytes of an interrupted program or erase become `fill`. If `marginal` is given, this number of changed bytes
+        becomes marginal instead, and the others are as after the operation. An interrupted status write has written
+        only the bits of `torn`, whose high byte is for status 1.
         """
         if self.in_progress:
             start, before = self.in_progress
@@ -153,7 +159,7 @@ class Chip:
         self.wel, self.until, self.in_progress, self.status_in_progress = False, 0.0, None, None
 
     def transfer(self, out, replies):
-        """Carries out one transaction, and returns the bytes received."""
+        """Carries out one transaction, and returns the bytes that the programmer receives."""
         self.in_progress = self.status_in_progress = None
         opcode = out[0] if out else None
         if opcode == WAKE or self.is_asleep:
@@ -161,12 +167,13 @@ class Chip:
             return bytes([0xFF if self.is_asleep else self.part.id[2] - 1]) * replies
         if opcode == 0x05:
             self.polls += 1
+            self.has_begun |= replies == 2
             # The chip repeats its status as long as it is read.
             return bytes(self.status[0] & 0xFC | BUSY * self.is_busy() | WEL * self.wel for _ in range(replies))
         if opcode == 0x35:
             return bytes([self.status[1]]) * replies
         if self.is_busy():
-            self.ignored += opcode != READ_DATA or self.operations + self.polls > 0
+            self.ignored += opcode not in (READ_DATA, READ_ID) or self.operations > 0 or self.has_begun
         elif replies:
             return self.read(opcode, out, replies)
         elif opcode in (0x06, 0x04) and len(out) == 1:
@@ -178,7 +185,7 @@ class Chip:
         return b"\xff" * replies
 
     def read(self, opcode, out, replies):
-        """Returns what a transaction receives that reads an ID, SFDP or data."""
+        """Returns the reply to a transaction that reads an ID, SFDP or data. Other replies are FFh."""
         if opcode == READ_ID:
             found = self.part.id
         elif opcode == READ_UNIQUE and len(out) == 5:
@@ -192,17 +199,17 @@ class Chip:
         return found[:replies].ljust(replies, b"\xff")
 
     def address(self, sent):
-        """Returns the address of these bytes. The chip receives 00h while it replies."""
+        """Returns the address in a transaction. An address byte that wasn't sent is 00h."""
         return int.from_bytes((sent + b"\0")[1 : 4 + self.has_four], "big") % self.size
 
     def read_from(self, out, replies):
-        """Returns what a read of data receives. The bytes sent after the address pass over as many bytes of data."""
+        """Returns the reply to a read of data. Each byte sent after the address skips one byte of data."""
         early = min(replies, max(0, 4 + self.has_four - len(out)))
         skipped = max(0, len(out) - 4 - self.has_four)
         return b"\xff" * early + self.read_data((self.address(out) + skipped) % self.size, replies - early)
 
     def read_data(self, address, length):
-        """Returns data bytes. After the last byte of the chip the first one follows."""
+        """Returns bytes of data. The byte after the last one of the chip is its first one."""
         found = self.data[address : address + length]
         for at, values in self.marginal.items():
             if address <= at < address + len(found):
@@ -227,7 +234,7 @@ class Chip:
         return False
 
     def write_status(self, sent):
-        """Writes the status bytes. If only the first byte is sent, CMP, QE and SRP1 become 0."""
+        """Writes the status bytes, unless they are locked. If only status 1 is sent, CMP, QE and SRP1 become 0."""
         if self.status[1] & SRP1 or (self.status[0] & SRP0 and self.wp_low):
             return False
         second = sent[1] if len(sent) == 2 else 0
@@ -238,7 +245,10 @@ class Chip:
         return True
 
     def program(self, address, sent):
-        """Programs a page: addresses wrap in it, the last byte sent for an address counts, and bits only fall."""
+        """Programs a page. Bits only change from 1 to 0.
+
+        Addresses wrap at the end of the page, and the last byte sent for an address counts.
+        """
         page = address & -PAGE
         wanted = bytearray(b"\xff" * PAGE)
         for offset, byte in enumerate(sent):
@@ -247,7 +257,10 @@ class Chip:
         return self.change(0x02, page, bytes(one & other for one, other in zip(old, wanted)), is_erase=False)
 
     def change(self, opcode, start, new, is_erase=True):
-        """Stores bytes, unless one of them is protected. No byte is marginal after an erase."""
+        """Stores bytes, unless one of their addresses is protected, and returns whether it stored them.
+
+        Bytes that were marginal are no longer marginal after an erase.
+        """
         end = start + len(new)
         if self.part.has_protection:
             first, after = protected_range(self.status, self.size)
@@ -261,7 +274,7 @@ class Chip:
         return True
 
     def begin(self, opcode):
-        """Sets BUSY for the duration of an operation. WEL is clear when it ends."""
+        """Starts an operation: sets BUSY for its duration. When the operation ends, WEL is cleared."""
         self.operations, self.polls = self.operations + 1, 0
         seconds = self.slow.get(self.operations, SECONDS.get(opcode, self.part.chip_erase) * self.scale)
         if seconds:

@@ -1,6 +1,6 @@
-"""Cases of --fmap and --ifd: regions from the FMAP or the Intel flash descriptor on the chip.
+"""Cases of --fmap and --ifd, which take regions from the FMAP or the Intel flash descriptor on the chip.
 
-The image that is written contains neither, so a run that took its regions from there would fail.
+The image that is written contains neither, so a run that took its regions from the image would fail.
 """
 import termios
 
@@ -19,7 +19,10 @@ ENABLE = b"\x06"
 
 
 def reads_regions_of_the_chips_fmap(start):
-    """-r --fmap reads exactly the bytes of an area, wherever the FMAP is on the chip, also into a file of the area."""
+    """-r --fmap reads only the bytes of the named areas, wherever the FMAP is on the chip.
+
+    With -i NAME:FILE it also writes the bytes of the area to FILE.
+    """
     for at in 0, 0x7123, SIZE - 0x200:
         old = with_fmap(random_image("fmap"), at, AREAS)
         bench = start(data=old)
@@ -30,7 +33,10 @@ def reads_regions_of_the_chips_fmap(start):
 
 
 def writes_regions_of_the_chips_descriptor(start):
-    """-w --ifd changes exactly the region of the chip's descriptor, -v --ifd compares it, and a restore undoes it."""
+    """-w --ifd changes only the named region of the chip's descriptor, and a restore undoes the change.
+
+    -v --ifd compares only the named region.
+    """
     old, new = with_descriptor(random_image("old"), ENTRIES), random_image("new")
     bench = start(data=old)
     bench.write("new", new)
@@ -46,7 +52,7 @@ def writes_regions_of_the_chips_descriptor(start):
 
 
 def erases_a_region_of_the_chips_fmap(start):
-    """-E --fmap erases the bytes of the area, and no others, even if the FMAP itself is in the area."""
+    """-E --fmap erases the bytes of the named area and no others, even if the FMAP itself is in the area."""
     old = with_fmap(random_image("erase"), 0x1234, AREAS)
     bench = start(data=old)
     got = bench.run("-E", "--journal", "j", "--fmap", "-i", "RW_A")
@@ -58,7 +64,7 @@ def erases_a_region_of_the_chips_fmap(start):
 
 
 def takes_a_region_from_its_file(start):
-    """-w --fmap -i NAME:FILE writes the bytes of the file; a file of another length is refused, and nothing changes."""
+    """-w --fmap -i NAME:FILE writes the bytes of FILE. If FILE has the wrong length, the run ends with file fault 3."""
     old = with_fmap(random_image("file"), 0x7123, AREAS)
     bench = start(data=old)
     bench.write("new", random_image("new"))
@@ -75,7 +81,7 @@ def takes_a_region_from_its_file(start):
 
 
 def reads_only_the_descriptor(start):
-    """For --ifd only the first 4 KiB are read before the job, which reads only its region."""
+    """-r --ifd reads the first 4 KiB of the chip for the descriptor, and then only the named region."""
     old = with_descriptor(random_image("old"), ENTRIES)
     bench = start(data=old)
     bench.expect("-r", "out", "--ifd", "-i", "bios", out=[reference.found("TINY64"), "Read 65536 bytes."])
@@ -86,7 +92,10 @@ def reads_only_the_descriptor(start):
 
 
 def refuses_a_chip_without_a_map(start):
-    """A chip without a valid map is a map fault. Nothing was sent that modifies a chip, and no file was created."""
+    """With --fmap or --ifd, a run on a chip without FMAP or descriptor ends with map fault 1.
+
+    It sends no write enable, and creates no file.
+    """
     bench = start(data=FREE)
     bench.write("new", random_image("new"))
     for words in (("-r", "out"), ("-w", "new", "--journal", "j"), ("-E", "--journal", "j"), ("-v", "new")):
@@ -100,7 +109,7 @@ def refuses_a_chip_without_a_map(start):
 
 
 def refuses_names_that_the_chip_lacks(start):
-    """A name of -i that is no region of the chip's map is layout fault 8, before a file is created."""
+    """If -i names no region of the chip's FMAP, the run ends with layout fault 8, and creates no file."""
     bench = start(data=with_fmap(FREE, 0x100, AREAS))
     got = bench.run("-r", "out", "--fmap", "-i", "RW_B:b")
     names = ", ".join(name.decode() for _, _, name in AREAS)
@@ -111,7 +120,7 @@ def refuses_names_that_the_chip_lacks(start):
 
 
 def looks_for_the_name_first(start):
-    """With -c, a chip of another name is error 3 before its map is read: no data is read but in the trial reads."""
+    """If -c names another chip, a run with --fmap ends with error 3. It reads no data except in the trial reads."""
     bench = start(data=with_fmap(FREE, 0x100, AREAS))
     got = bench.run("-r", "out", "--fmap", "-i", "RO", "-c", "W25Q64FV")
     check("the run", ([it[:8] for it in got.err if it.startswith("Error")], got.status), (["Error 3:"], 1))
@@ -120,11 +129,14 @@ def looks_for_the_name_first(start):
 
 
 def notices_a_wrong_bit_in_the_map(start):
-    """A map that is read with one wrong bit never decides what is written: each block of it is read twice."""
+    """A wrong bit in one read of the FMAP never changes what is written, because the program reads each block twice.
+
+    The run either succeeds with the right area, or leaves the chip unchanged.
+    """
     old, new = with_fmap(random_image("old"), 0x40, AREAS), random_image("new")
     wanted = old[:0x1001] + new[0x1001:0x4000] + old[0x4000:]
     words = ("-w", "new", "--journal", "j", "--fmap", "-i", "RW_A")
-    # The bytes of the area's offset and size, and of its name.
+    # These are bytes in the entry of RW_A: two of its offset, one of its size, and the first one of its name.
     first = 0x40 + 56 + 42
     for byte in (first, first + 1, first + 5, first + 8):
         for number in reads_of(start, old, new, words):
@@ -136,7 +148,7 @@ def notices_a_wrong_bit_in_the_map(start):
 
 
 def reads_of(start, old, new, words):
-    """Returns the numbers of the reads of the first bytes of the chip that precede the first modifying command."""
+    """Returns the numbers of the reads at address 0 before the first write enable, without the trial reads."""
     bench = start(data=old)
     bench.write("new", new)
     bench.run(*words)
@@ -151,7 +163,7 @@ def reads_of(start, old, new, words):
 
 
 def looks_at_the_files_first(start):
-    """A missing image and an existing journal are faults before anything is sent to read the layout."""
+    """If the image is missing (file fault 1) or the journal exists (file fault 4), a run with --fmap sends nothing."""
     bench = start(data=with_fmap(FREE, 0x100, AREAS))
     bench.write("new", random_image("new"))
     bench.write("old", b"")
@@ -164,7 +176,7 @@ def looks_at_the_files_first(start):
 
 
 def uses_no_layout_of_a_port_that_changes_bytes(start):
-    """If 0Dh is probably received as 0Ah, the layout isn't used: the run ends with programmer fault 13."""
+    """If the port changes 0Dh to 0Ah, a run with --fmap ends with programmer fault 13, and creates no file."""
     old = with_fmap(random_image("port"), 0x100, AREAS)
     bench = start(data=old)
     bench.write("new", random_image("new"))
@@ -178,7 +190,7 @@ def uses_no_layout_of_a_port_that_changes_bytes(start):
 
 
 def waits_for_the_programmer_once(start):
-    """The line about a programmer that never replies comes once, and a line precedes the read of the layout."""
+    """At a terminal, a run with --fmap prints `WAITING` once, and a line that it reads the layout from the chip."""
     bench = start(data=with_fmap(random_image("wait"), 0x100, AREAS))
     status, printed, out = terminal.run(bench, "-r", "out", "--fmap", "-i", "RO")
     check("the run", (status, len(out)), (0, 2))
@@ -187,7 +199,7 @@ def waits_for_the_programmer_once(start):
 
 
 def takes_one_map(start):
-    """--fmap and --ifd exclude each other and the layouts in files, and need -i and a job with regions."""
+    """--fmap or --ifd with a second layout, without -i, or without -r, -v, -w or -E ends with usage fault 7."""
     bench = start(data=FREE)
     for words, why in (
             ("-r out --fmap --ifd -i c", "--fmap and --ifd cannot be used together"),

@@ -1,13 +1,14 @@
 #!/usr/bin/env python3
-"""tests/serprog/compare.py PROGRAM [--whole]: flashnor-serprog and flashrom on the same programmer.
+"""tests/serprog/compare.py PROGRAM [--whole]: compares flashnor-serprog with flashrom on a modelled programmer.
 
-Both write the same image to the same chip: a W25Q64FV with the typical durations of its datasheet. 52 of its 2,048
-sectors change, or with --whole all of them. The programmer is at a bare pseudo-terminal; then it needs 1 ms for each
-way there and back; then it also carries only 1 MB/s. Both must leave the same bytes, and read and verify them.
+Both programs write one image to equal chips: a W25Q64FV with the typical durations of its datasheet. 52 of its 2,048
+sectors change, or all sectors with --whole. The programmer is at a bare pseudo-terminal, then at one with 1 ms for each
+round trip, and then at one that also carries only 1 MB/s. (With --whole, only the first of these wires is tried.) Both
+programs must leave the right bytes on the chip, and must read and verify them.
 
-For each wire the seconds, the transactions, the polls (05h), the ways and the bytes of both are printed, and their
-ratios. The exit status is 1 if the bytes of the chip, or of a file, differ. A ratio above the project's goal is marked.
-It is no failure, since it depends on the machine.
+For each wire the script prints the seconds, the transactions, the polls (05h), the round trips (`ways`) and the bytes
+of both programs, and their ratios. The exit status is 1 if bytes of the chip or of a file are wrong. A ratio of the
+seconds above the project's goal is marked, but is no failure, because it depends on the machine.
 """
 import os
 import random
@@ -24,17 +25,18 @@ from server import Server, Traits
 
 PART = "W25Q64FV"
 POLL = b"\x05"
-# Debian installs it in a directory that PATH often lacks.
+# Debian installs flashrom in a directory that often isn't in PATH.
 FLASHROM = shutil.which("flashrom") or shutil.which("flashrom", path="/usr/sbin:/usr/local/sbin")
 FLASHROM_NAME = "W25Q64BV/W25Q64CV/W25Q64FV"
-# Each wire with its traits, and the greatest ratio of the seconds that is the goal.
+# Each wire has a name, traits of the programmer, and the goal: the greatest ratio of flashnor-serprog's seconds to
+# flashrom's.
 WIRES = (("bare pty", {}, 1.0), ("1 ms", {"latency": 0.001}, None),
          ("1 ms and 1 MB/s", {"latency": 0.001, "rate": 1e6}, 0.8))
 GOAL_WHOLE = 0.8
 
 
 class Run(NamedTuple):
-    """What a client needed for a job, and the file that it wrote, if any."""
+    """What a client (flashnor-serprog or flashrom) needed for a job. `ways` is the number of round trips."""
 
     seconds: float
     transactions: int
@@ -44,20 +46,20 @@ class Run(NamedTuple):
 
 
 class Clients:
-    """The command lines of both programs, in a directory with the link `dev`."""
+    """The command lines of both clients, which run in a directory with the link `dev` to the programmer."""
 
     def __init__(self, program, folder):
         self.program, self.folder = program, folder
 
     def words(self, client, job, name):
-        """Returns the command line of a job: -r, -w or -v, with the name of a file."""
+        """Returns the command line of a client for a job (-r, -w or -v) with the name of a file."""
         if client == "flashrom":
             return [FLASHROM, "-p", f"serprog:dev={self.folder}/dev:115200", "-c", FLASHROM_NAME, job, name]
         journal = ["--journal", f"journal.{time.monotonic_ns()}"] if job == "-w" else []
         return [self.program, "-p", f"serprog:dev={self.folder}/dev", job, name, *journal]
 
     def run(self, client, job, name, chip, traits):
-        """Does a job with a new programmer, which must end with status 0."""
+        """Runs a job with a new programmer, and returns what it needed. If the job fails, the script ends."""
         server = Server(self.folder / "dev", chip, Traits(**traits))
         try:
             begun = time.monotonic()
@@ -73,7 +75,7 @@ class Clients:
 
 
 def images(is_whole):
-    """Returns two random images of the chip, which differ in 2,900 bytes of 52 sectors, or in all sectors."""
+    """Returns two random images of the chip. They differ in all sectors, or in 2,900 bytes of each of 52 sectors."""
     chance = random.Random("compare")
     size = PARTS[PART].size
     old = chance.randbytes(size)
@@ -87,13 +89,13 @@ def images(is_whole):
 
 
 def same(what, one, other):
-    """Prints whether these bytes are the same, and returns it."""
+    """Prints whether `one` and `other` have equal bytes, and returns this."""
     print(f"{what}: {'the same bytes' if one == other else 'DIFFERS'}")
     return one == other
 
 
 def compare_wire(clients, old, new, traits):
-    """Has both clients write the image over a wire, and returns what they needed, and whether the bytes are right."""
+    """Writes the image with each client. Returns what each needed, and whether the bytes of both chips are right."""
     runs, is_right = [], True
     for client in "flashnor-serprog", "flashrom":
         chip = Chip(PART, old, scale=1.0)
@@ -104,7 +106,7 @@ def compare_wire(clients, old, new, traits):
 
 
 def compare_reads(clients, new):
-    """Has each client read and verify what is there."""
+    """Reads and verifies the chip with each client, and returns whether the bytes that they read are right."""
     is_right = True
     for client in "flashnor-serprog", "flashrom":
         chip = Chip(PART, new)

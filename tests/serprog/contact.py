@@ -1,9 +1,12 @@
-"""Cases of a chip that loses its contact or its supply, for a while or until the run ends.
+"""In these cases the chip loses its contact or supply during a job, for a while or until the run ends.
 
-A lost chip misses what is sent, and each byte of a reply is FFh or 00h, also if it is read twice. The loss begins at each
-transaction in turn. No run may end with status 0 unless the chip, and the file that it made, are as asked. No sealed
-journal may have bytes that the chip never had, and no one-time bit may be set. If a run changed the chip, its journal
-must restore it. If the chip stays lost, the line below error 12 says so.
+The loss begins at each transaction of the job in turn. A lost chip misses what is sent, and each byte of a reply is
+FFh, or each is 00h. The cases check that:
+
+- A run ends with exit status 0 only if the chip, and the file that the run wrote, are as requested.
+- No sealed journal has bytes that the chip never had, and no one-time bit is set.
+- If a run changed the chip, the journal restores the original chip.
+- If the chip stays lost, the line after error 12 reports it.
 """
 import hashlib
 import time
@@ -18,14 +21,15 @@ from wire import STOPPED
 
 UNIQUE = bits.UNIQUE
 ALL = range(16)
-# The number of transactions at the start of a job, with the identification, for which each length of a loss is tried,
-# with both bytes. At each other transaction one length and one byte are tried, and a loss until the end.
+# If the loss begins at one of the first IDENTIFICATION transactions of a job, `lose` tries each length in LENGTHS with
+# both reply bytes, otherwise one length and one byte. For each byte, `lose` also tries the length END (until the run
+# ends), except for FFh if the first lost reply is that of a poll of the job.
 IDENTIFICATION = 19
 LENGTHS = (1, 2, 3, 5, 9)
 END = 1 << 24
 ADVICE = "h during the run. Check contacts and supply."
-# The line after the cause, by the job, if the change or the restore was completed, and only the comparison after it
-# stopped. It takes the place of the advice.
+# If a change or restore was completed, but the comparison after it stopped, this line follows the line with the cause.
+# The key is the operation.
 COMPLETED = {
     "-w": "The change was made, and its sectors were verified. Only the comparison of the whole chip is missing.",
     "-E": "The change was made, and its sectors were verified. Only the comparison of the whole chip is missing.",
@@ -34,14 +38,17 @@ COMPLETED = {
 
 
 def tiny(words, after, saved=()):
-    """Returns a job on TINY64 whose journal saves these sectors."""
+    """Returns a job on TINY64 that leaves the bytes `after` on the chip. Its journal saves the sectors `saved`."""
     old, _ = chip_images(FEW)
     return bits.Work("TINY64", words, old, after, b"\0\0", b"\0\0", [],
                      reference.journal("TINY64", old, saved, b"\0\0", UNIQUE))
 
 
 def records(journal):
-    """Returns the header of a journal before its size, and its sectors by their numbers; nothing if it isn't sealed."""
+    """Returns the first 21 bytes of a journal (magic, ID, unique ID, status), and its saved sectors by their numbers.
+
+    Returns `None` and no sectors if the journal isn't sealed.
+    """
     if hashlib.sha256(journal[:-32]).digest() != journal[-32:]:
         return None, {}
     found = {}
@@ -51,7 +58,10 @@ def records(journal):
 
 
 def check_journal(bench, name, work):
-    """Checks that a journal, if it is sealed, has bytes of the chip from before the job only."""
+    """Checks that a sealed journal has the chip's ID, unique ID and status, and only sectors of the original chip.
+
+    A journal that is missing or isn't sealed is not checked.
+    """
     if not bench.path(name).exists():
         return
     header, sectors = records(bench.path(name).read_bytes())
@@ -64,7 +74,7 @@ def check_journal(bench, name, work):
 
 
 def begin(bench, work):
-    """Sets the chip and the files up as before the job."""
+    """Sets the chip and the files to their state before the job."""
     bench.chip.data[:], bench.chip.status[:], bench.chip.wel = work.before, work.status, False
     for name in ("j", "j.sectors", "out"):
         bench.path(name).unlink(missing_ok=True)
@@ -73,7 +83,11 @@ def begin(bench, work):
 
 
 def try_lost(bench, work, lost):
-    """Runs a job with such a loss, checks what it leaves, and returns its result."""
+    """Runs a job with a loss of the chip, checks what the run leaves, and returns its result.
+
+    `lost` has the first and the last transaction that the chip misses, and the byte that is received instead. If `lost`
+    is empty, the chip isn't lost.
+    """
     begin(bench, work)
     bench.server.traits.lost = lost
     got = bench.run(*work.words)
@@ -107,25 +121,28 @@ def try_lost(bench, work, lost):
 
 
 def says_completed(got, work):
-    """Returns whether a run says that its job was completed, and that only the comparison after it stopped."""
+    """Returns whether the run reported that its change or restore was completed, and only the comparison is missing."""
     return got.err[2:] == [COMPLETED.get(work.words[0])]
 
 
 def check_cause(got, work, at, seal, byte):
-    """Checks the lines of a run whose chip was lost from the transaction `at` on."""
+    """Checks what a run printed whose chip was lost from transaction `at` until the end.
+
+    `seal` is the number of transactions before the first modifying command.
+    """
     cause = f"{LOST}{PARTS[work.part].id.hex().upper()}h to {3 * f'{byte:02X}'}{ADVICE}"
     if not says_completed(got, work):
         if work.words[0] == "--restore":
             cause += " " + RESTORE
         elif work.words[0] in ("-w", "-E", "--wp-range"):
             cause += " " + (UNCHANGED if at <= seal else RESTORE)
-            # The chip of this job is protected at the start.
+            # A job with --unlock lifts the protection with its first modifying command.
             cause += " Until then it may be unprotected." * ("--unlock" in work.words and at > seal)
     check("the cause", (got.err[:2], got.out), ([STOPPED, cause], []))
 
 
 def lose(start, work):
-    """Tries the losses in a job."""
+    """Runs a job repeatedly, with a loss of the chip that begins at each transaction in turn, and checks each run."""
     bench = start(work.part, data=work.before, status=work.status, unique=UNIQUE)
     bench.remembers = False
     bench.write("layout", bits.LAYOUT)
@@ -133,12 +150,13 @@ def lose(start, work):
     first = bench.first()
     check("the run without a loss", try_lost(bench, work, ()).status, 0)
     log = list(bench.server.log)
-    # The first modifying command is a write enable.
+    # This is the number of transactions before the first modifying command.
     seal = next((at for at, (out, _) in enumerate(log) if out[0] in reference.CHANGING), END)
-    # With a STRIDE of 9 the numbers 6, 15 and so on detect all mistakes of self.py.
-    for at in (it for it in range(2, len(log) + 1) if it % STRIDE == 6 % STRIDE):
+    # With the STRIDE of 9 that self.py sets, losses begin at transactions 8, 17 and so on, which are enough to detect
+    # all mistakes in self.py.
+    for at in (it for it in range(2, len(log) + 1) if it % STRIDE == 8 % STRIDE):
         is_first = first <= at < first + IDENTIFICATION
-        # A poll that receives FFh shows BUSY. contacts.py has these losses, each of which takes 1.5 s of pauses.
+        # If polls receive FFh, the program waits as for a busy chip, for 1.5 s. contacts.py tests these losses.
         is_poll = at >= first and next(out for out, reply in log[at - 1 :] if reply) == b"\x05"
         for byte in (0xFF, 0x00) if is_first else ((0xFF, 0x00)[at % 2],):
             for length in LENGTHS if is_first else (LENGTHS[at // 2 % len(LENGTHS)],):
@@ -148,15 +166,17 @@ def lose(start, work):
             got = try_lost(bench, work, (at, END, byte))
             if at < first and byte == 0xFF:
                 check("a chip that is lost before the job", (got.err, got.status), (reference.NO_CHIP, 1))
-            # The first ID follows the first poll. If the chip is lost before, nothing is compared with it.
+            # Transaction `first + 1` reads the job's first ID. Only a loss that begins later is reported as a change of
+            # the ID.
             if at > first + 1:
                 check_cause(got, work, at, seal, byte)
 
 
 def finds_no_contact(start):
-    """Without contact every reply is FFh. That is error 1 before a file is created, after ten reads of ID and status.
+    """Checks that a run without contact, in which every reply byte is FFh, ends with error 1 and creates no file.
 
-    Then FFh and FFh FFh are sent, which end QPI mode and continuous reads, and the ID is read once more.
+    The program must read the ID and status 1 ten times, send FFh and FFh FFh, which end QPI mode and continuous reads,
+    and read the ID once more.
     """
     old, new = chip_images(FEW)
     for words, absent in (((), ()), (("-r", "out"), ("out",)), (("--backup", "j"), ("j",)), (("--wp-status",), ()),
@@ -172,7 +192,10 @@ def finds_no_contact(start):
 
 
 def waits_for_a_late_contact(start):
-    """A chip that answers before the last time is found. One that is busy isn't missing, however long that takes."""
+    """Checks that a chip is found if its contact returns before the program reads the ID for the last time.
+
+    A busy chip is found, too, even if it is busy for three seconds.
+    """
     for last in 1, 2, 3, 4, 19, 20, 21, 23:
         bench = start()
         bench.server.traits.lost = (1, last, 0xFF)
@@ -188,7 +211,10 @@ def waits_for_a_late_contact(start):
 
 
 def waits_for_a_late_status(start):
-    """A chip that has SFDP is waited for, even if its status 1 is FFh for longer than 1.5 seconds. Another one isn't."""
+    """Checks that a chip with SFDP is found even if it replies only FFh to reads of status 1 for four seconds.
+
+    A chip without SFDP is refused with error 2 after ten reads of the ID and of status 1.
+    """
     bench = start()
     transfer, until, unknown = bench.chip.transfer, time.monotonic() + 4, [b"\x05", b"\xab"]
     bench.chip.transfer = lambda out, replies: (
@@ -202,44 +228,44 @@ def waits_for_a_late_status(start):
 
 
 def loses_a_write(start):
-    """-w of a chip of 64 KiB, with the comparison of the whole chip."""
+    """Tries losses of the chip during -w on a chip of 64 KiB, and during the comparison of the whole chip."""
     lose(start, tiny(("-w", "new", "--journal", "j"), chip_images(FEW)[1], FEW))
 
 
 def loses_an_erase(start):
-    """-E of such a chip."""
+    """Tries losses of the chip during -E on a chip of 64 KiB, and during the comparison of the whole chip."""
     old, _ = chip_images(FEW)
     blank = b"\xff" * len(old)
     lose(start, tiny(("-E", "--journal", "j"), blank, reference.touched(old, blank)))
 
 
 def loses_a_read(start):
-    """-r of such a chip."""
+    """Tries losses of the chip during -r of a chip of 64 KiB."""
     lose(start, tiny(("-r", "out"), chip_images(FEW)[0]))
 
 
 def loses_a_backup(start):
-    """--backup of such a chip."""
+    """Tries losses of the chip during --backup of a chip of 64 KiB."""
     lose(start, tiny(("--backup", "out"), chip_images(FEW)[0], ALL))
 
 
 def loses_a_restore(start):
-    """--restore of a chip of 64 KiB, with the comparison of what its journal doesn't save."""
+    """Tries losses of the chip during --restore on a chip of 64 KiB, and during its comparison of unsaved sectors."""
     lose(start, bits.restore_tiny())
 
 
 def loses_a_change_of_range(start):
-    """--wp-range of a W25Q64FV with QE and CMP set."""
+    """Tries losses of the chip during --wp-range on a W25Q64FV with QE and CMP set."""
     lose(start, bits.protect())
 
 
 def loses_a_restore_of_the_range(start):
-    """--restore of such a range."""
+    """Tries losses of the chip during --restore from a journal of --wp-range, on a W25Q64FV with QE set."""
     lose(start, bits.restore_range())
 
 
 def loses_an_unlock(start):
-    """-w --unlock of one sector of a W25Q64FV that is protected as a whole."""
+    """Tries losses of the chip during -w --unlock of one sector of a W25Q64FV that is protected as a whole."""
     lose(start, bits.unlock())
 
 

@@ -1,7 +1,8 @@
-"""Cases of a clip that slips while the program waits for the chip.
+"""Cases of a clip that slips off the chip while the program waits for the chip.
 
-Each reply is FFh then, which looks like BUSY. After 256 polls with only FFh the program reads the ID, and the run ends
-if the ID is FFFFFFh. A chip that is really busy shows its other status bits, and is waited for.
+Each received byte is then FFh, which looks like BUSY. After 256 polls that return only FFh, the program reads the ID,
+and the run ends if the ID is FFFFFFh. If a chip is really busy, its other status bits show that, and the program
+continues to wait.
 """
 import time
 
@@ -13,7 +14,7 @@ from losses import FEW, chip_images
 from wire import STOPPED
 
 END = 1 << 24
-# The longest time from the first FFh to the end of the run, in seconds.
+# The longest time in seconds of a run that loses its chip.
 LONGEST = 10
 CAUSE = "Cause: the chip has no contact or no supply any more: its status and its ID are FFh in all bits. Check " \
     f"contacts and supply. {RESTORE}"
@@ -21,7 +22,7 @@ POLL, ID = b"\x05", b"\x9f"
 
 
 def polls_of(bench):
-    """Returns the numbers of the polls after the first erase, the first program and the last program of a run."""
+    """Returns the numbers of the first polls after the first erase, the first program and the last program."""
     log = [out for out, _ in bench.server.log]
     erase = next(at for at, out in enumerate(log) if out[0] in (0x20, 0x52, 0xD8))
     programs = [at for at, out in enumerate(log) if out[0] == 0x02]
@@ -29,7 +30,10 @@ def polls_of(bench):
 
 
 def slip(bench, words, at, old):
-    """Runs a job whose chip is lost from this transaction on. Its journal must restore the chip."""
+    """Runs a job that loses its chip at the transaction `at`, and checks that it ends with error 12.
+
+    The job must send 256 polls and one read of the ID to the lost chip. A restore from the journal must then succeed.
+    """
     bench.server.traits.lost = (at, END, 0xFF)
     began = time.monotonic()
     bench.expect(*words, err=[STOPPED, CAUSE])
@@ -42,7 +46,7 @@ def slip(bench, words, at, old):
 
 
 def slips_during_a_session(start):
-    """The clip slips after an erase or a program of a session."""
+    """If the clip slips after an erase or a program, the session ends with error 12, and a restore succeeds."""
     old, new = chip_images(FEW)
     bench = start(data=old)
     bench.write("new", new)
@@ -55,7 +59,7 @@ def slips_during_a_session(start):
 
 
 def slips_during_a_restore(start):
-    """The clip slips after an erase or a program of a restore."""
+    """If the clip slips after an erase or a program, the restore ends with error 12, and a second restore succeeds."""
     old, new = chip_images(FEW)
     bench = start(data=new)
     bench.write("j", reference.journal("TINY64", old, FEW))
@@ -66,7 +70,10 @@ def slips_during_a_restore(start):
 
 
 def slips_in_a_split_program(start):
-    """The clip slips between the parts of a program, which the program splits for a programmer with small limits."""
+    """If the clip slips between two parts of a page program, the session ends with error 12, and a restore succeeds.
+
+    The program splits page programs because this programmer sends at most 64 bytes in a transaction.
+    """
     old, new = chip_images(FEW)
     bench = start(data=old, longest_write=64)
     bench.write("new", new)
@@ -79,7 +86,7 @@ def slips_in_a_split_program(start):
 
 
 def waits_for_a_busy_chip(start):
-    """A chip that is busy for longer than 256 polls isn't lost, and its ID isn't read meanwhile."""
+    """A session waits for a chip that is busy for four seconds, which is longer than 256 polls, and succeeds."""
     old, new = chip_images(FEW)
     bench = start(data=old)
     bench.chip.slow = {1: 4.0}
@@ -89,9 +96,9 @@ def waits_for_a_busy_chip(start):
 
 
 def waits_if_all_bits_are_set(start):
-    """A chip whose status 1 is FCh shows FFh while it is busy, and replies no ID. It is waited for."""
+    """A session waits for a busy chip whose status 1 is FCh, although it replies only FFh to polls and to 9Fh."""
     old, new = chip_with("W25Q64FV", OLD), chip_with("W25Q64FV", NEW)
-    # With BP 111 and CMP nothing is protected.
+    # With BP 111 and CMP set, nothing is protected.
     bench = start("W25Q64FV", data=old, status=b"\xfc\x40")
     bench.remembers = False
     bench.chip.slow = {1: 4.0}

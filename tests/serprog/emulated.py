@@ -1,11 +1,12 @@
 #!/usr/bin/env python3
-"""tests/serprog/emulated.py PROGRAM [KILLS]: the program at a modelled programmer whose chip is QEMU's w25q64.
+"""tests/serprog/emulated.py PROGRAM [KILLS]: tests the program on QEMU's chip w25q64 at a modelled programmer.
 
-The program reads, writes, verifies and restores that chip. Then it is killed, or loses a reply, at random transactions
-of a session, of a restore, or of both, and a restore follows. Each time QEMU's chip must hold the expected bytes, and
-so must the file of the chip after QEMU has ended. This is no part of the gate, since it needs QEMU.
+The program reads, writes, verifies and restores this chip. Then it is killed, or loses a reply, at random transactions
+of a session, of a restore, or of both, and another restore follows. After each session and restore that wasn't stopped,
+QEMU's chip must hold the expected bytes. After QEMU has ended, the file of its chip must hold the original bytes. `make
+compare` runs this script; the merge gate doesn't, because the script needs QEMU.
 
-QEMU's chip is never busy, and lacks status 2, the unique ID and SFDP (scripts/compare/qemu.py).
+QEMU's chip is never busy, and has no status 2, unique ID or SFDP (see scripts/compare/qemu.py).
 """
 import os
 import random
@@ -25,16 +26,16 @@ from server import Server
 
 WRITE = ("-w", "new", "--journal", "j")
 RESTORE = ("--restore", "j")
-# How the session and the first restore of a pair are stopped, if at all.
+# The events that stop the session and its first restore. An empty text is no event.
 PAIRS = (("kill", ""), ("lose", ""), ("", "kill"), ("", "lose"), ("kill", "kill"), ("lose", "lose"))
 
 
 class Differs(Exception):
-    """What was wrong."""
+    """A check that failed, with a text that says what was wrong."""
 
 
 class Emulated:
-    """QEMU's chip, with what the server needs of a chip."""
+    """QEMU's chip, with the fields and methods that `Server` uses."""
 
     operations = polls = 0
 
@@ -42,19 +43,19 @@ class Emulated:
         self.transfer = chip.exchange
 
     def count_anew(self):
-        """Does nothing, since events of these runs are given by transactions."""
+        """Does nothing, because the events of these runs have numbers of transactions, not of operations."""
 
 
 class Bench:
-    """A directory with the program, and QEMU with its chip."""
+    """A directory in which the program runs, and QEMU's chip."""
 
     def __init__(self, program, folder, chip):
         self.program, self.folder, self.chip = program, folder, chip
 
     def run(self, words, event="", at=0):
-        """Runs the program, with an event at a transaction, and returns the exit status and the transactions.
+        """Runs the program, with an event at the transaction `at` if given. Returns the sent bytes of each transaction.
 
-        The event must occur.
+        Raises `Differs` if the event doesn't occur, or if the exit status isn't the one expected after this event.
         """
         server = Server(self.folder / "dev", Emulated(self.chip))
         server.begin({at: event} if event else {})
@@ -78,15 +79,17 @@ class Bench:
             raise Differs(f"{when}: 0x{at:06x} is {held[at]:02x}, not {data[at]:02x}")
 
     def check_journal(self, old, new):
-        """Checks that the journal saves the sectors that differ, and no others."""
+        """Checks that the journal saves exactly the sectors that differ between `old` and `new`."""
         wanted = reference.journal(PART, old, reference.touched(old, new))
         if (self.folder / "j").read_bytes() != wanted:
             raise Differs("the journal differs from the one that the format states")
 
 
 def run_without_stops(bench, old, new):
-    """Reads, writes, verifies and restores. Returns the numbers of the transactions of session and restore that may
-    be stopped: those from the first modifying command on."""
+    """Reads, writes, verifies and restores the chip. Returns two ranges of transactions, for `run_with_stops`.
+
+    The session and the restore may be stopped at these transactions, which begin with the first modifying command.
+    """
     bench.run(("-r", "out"))
     if (bench.folder / "out").read_bytes() != old:
         raise Differs("-r read other bytes")
@@ -101,13 +104,16 @@ def run_without_stops(bench, old, new):
 
 
 def run_with_stops(bench, old, new, chance, numbers, count):
-    """Stops sessions and restores. Returns how many chips a stop left changed."""
+    """Stops sessions and restores, `count` times in all, and restores the chip after each stop.
+
+    Returns how often the chip differed from the original before the last restore.
+    """
     changed = 0
     for number in range(count):
         session, restore = PAIRS[number % len(PAIRS)]
         for name in "j", "j.sectors":
             (bench.folder / name).unlink(missing_ok=True)
-        # A session whose restore is stopped too is stopped late: an early stop leaves little to restore.
+        # If the restore is stopped, too, the session is stopped late, because an early stop leaves little to restore.
         bench.run(WRITE, session, chance.choice(numbers[0][-len(numbers[0]) // 4 :] if restore else numbers[0]))
         bench.check_journal(old, new)
         if restore:
@@ -119,7 +125,7 @@ def run_with_stops(bench, old, new, chance, numbers, count):
 
 
 def compare(program, folder, count):
-    """Runs all, and returns the line that is printed at the end."""
+    """Runs all tests on QEMU's chip, and returns the line that `main` prints."""
     old, new = images(False)
     for name, content in ("old", old), ("new", new), ("qemu", old):
         (folder / name).write_bytes(content)

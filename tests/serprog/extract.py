@@ -1,4 +1,4 @@
-"""Cases of the image in a backup: --extract-image, -v of a backup, and --restore with --replaced-chip."""
+"""Cases of options that use the image in a backup: --extract-image, -v with a backup, and --replaced-chip."""
 import hashlib
 
 import reference
@@ -18,14 +18,17 @@ REPLACES = "The backup replaces all that this chip holds, whatever the chip's un
 
 
 def old_format(part, data, status=b"\0\0"):
-    """Returns the journal of a whole chip in format 1, which has no unique ID."""
+    """Returns a journal in format 1, which has no unique ID, that saves the whole chip."""
     journal = reference.journal(part, data, range(len(data) // SECTOR), status)
     body = b"NORUNDO1" + journal[8:11] + journal[19:-32]
     return body + hashlib.sha256(body).digest()
 
 
 def extracts_the_image(start):
-    """--extract-image writes the chip's bytes from a backup of either format, and prints the description."""
+    """--extract-image writes the chip's bytes from a backup of either format to a file.
+
+    --check-journal, which it needs, prints the description of the backup before.
+    """
     old, _ = images("extracts_the_image")
     bench = start(data=old, unique=UNIQUE)
     check("the backup", bench.run("--backup", "whole").status, 0)
@@ -49,7 +52,10 @@ def extracts_the_image(start):
 
 
 def refuses_part_of_a_chip(start):
-    """A journal that lacks a sector, wherever it is, or is damaged, has no image, and no file is changed."""
+    """--extract-image from a partial journal ends with backup fault 1, and from a damaged one with error 15.
+
+    No file is created or changed.
+    """
     old, _ = images("refuses_part_of_a_chip")
     bench = start(data=old)
     bench.write("image", b"as before")
@@ -69,7 +75,7 @@ def refuses_part_of_a_chip(start):
 
 
 def keeps_journals(start):
-    """The file of the image may be neither a journal nor a second name of one, and is a usage fault elsewhere."""
+    """--extract-image overwrites no journal, even if a link names it. Without --check-journal it is usage fault 8."""
     old, _ = images("keeps_journals")
     bench = start(data=old)
     whole = reference.journal("TINY64", old, ALL)
@@ -93,7 +99,7 @@ def keeps_journals(start):
 
 
 def verifies_with_a_backup(start):
-    """-v compares the chip with the image in a backup, also in regions, and takes the files of regions."""
+    """-v compares the chip with the image in a backup: all of it, or one region, or a region with its own file."""
     old, new = images("verifies_with_a_backup")
     bench = start(data=old, unique=UNIQUE)
     check("the backup", bench.run("--backup", "whole").status, 0)
@@ -115,7 +121,10 @@ def verifies_with_a_backup(start):
 
 
 def verifies_with_nothing_less(start):
-    """What begins as a journal, and isn't one of a whole chip, is a fault before the programmer is used."""
+    """-v with a partial journal ends with backup fault 1, and with a damaged one with error 15. Nothing is sent.
+
+    A file that doesn't begin as a journal is an image.
+    """
     old, _ = images("verifies_with_nothing_less")
     bench = start(data=old)
     bench.write("j", reference.journal("TINY64", old, NOTHING))
@@ -127,18 +136,21 @@ def verifies_with_nothing_less(start):
         got = bench.run("-v", "j")
         check("the fault", [got.status, got.err[1]], [1, f"Error 15: journal fault {fault}."])
         bench.check_nothing_sent()
-    # One byte less of the header, and it is an image.
+    # This file doesn't begin with NORUNDO, so it is an image.
     image = b"NORUND\0\0" + old[8:]
     bench.write("image", image)
     bench.chip.data[:] = image
     bench.expect("-v", "image", out=[reference.found("TINY64"), "Verified."])
-    # The image of another chip is too long or too short, as any image is.
+    # The image in a backup of another chip has the wrong length, so the run ends with error 4.
     bench.write("large", reference.journal("W25Q64FV", bytes(1 << 23), range(2048)))
     check("the error", bench.run("-v", "large").err[0][:8], "Error 4:")
 
 
 def restores_a_replaced_chip(start):
-    """--replaced-chip restores a whole backup on another device of the same type, with its protection."""
+    """--replaced-chip restores a backup on another device of its type, with its protection bits.
+
+    Without this option the restore ends with error 20, because the unique IDs differ.
+    """
     size = 1 << 23
     old = bytes(range(256)) * 32 + b"\xff" * (size - 16384) + bytes(range(255, -1, -1)) * 32
     for words in ("--quick",), ("--quick", "-N"), ():
@@ -158,7 +170,10 @@ def restores_a_replaced_chip(start):
 
 
 def guards_the_replaced_chip(start):
-    """--replaced-chip needs --restore, a whole backup of this type, and status bits that fit, or nothing is sent."""
+    """--replaced-chip needs --restore and an undamaged backup of the whole chip. Otherwise nothing is sent.
+
+    If the backup's chip type or SRP0 differs, the restore ends with error 16 or 17, and changes nothing.
+    """
     old, new = images("guards_the_replaced_chip")
     bench = start(data=new, unique=OTHER)
     for saved, lines in (NOTHING, PART), ([it for it in ALL if it != 9], [PART[0], PART[1].replace("3 of", "15 of")]):
@@ -183,7 +198,7 @@ def guards_the_replaced_chip(start):
 
 
 def follows_the_page(start):
-    """The page's commands for a replaced chip: a restore on one of the same type, and the image on any other."""
+    """The manual page's commands for a replaced chip restore a backup on it, or write the image of the backup to it."""
     old, new = images("follows_the_page")
     bench = start(data=new, unique=OTHER)
     bench.write("whole.journal", reference.journal("TINY64", old, ALL, unique=UNIQUE))
@@ -199,7 +214,7 @@ def follows_the_page(start):
 
 
 def rescues_without_an_image(start):
-    """Without an image, -v whole.journal also finds what a session did to another sector, and a line restores it."""
+    """With a backup in place of an image, the manual page's commands detect and repair damage to an unsaved sector."""
     old, new = images("rescues_without_an_image")
     bench = start(data=old)
     bench.write("new.bin", new)

@@ -1,6 +1,6 @@
-"""Cases of programmers that can't be used, and of the cause after error 12.
+"""Cases of programmers that can't be used, and of the line with the cause that follows error 12.
 
-A programmer fault is printed before the first transaction: no transaction is sent, and no file is created.
+The programmer faults of these cases occur before the first transaction: no transaction is sent, and no file is created.
 """
 import fcntl
 import os
@@ -16,7 +16,7 @@ from options import images
 STTY = "stty -F DEV raw -echo clocal -hupcl min 0 time 50"
 FIRMWARE = "Disconnect the programmer from power for a second, connect it again, set up the port, and repeat the " \
     f"run; install other firmware only if the same line appears again. To set up the port: {STTY}"
-# The time-out for tests of silence, in tenths of a second.
+# The time-out of the terminal device in cases with a silent programmer, in tenths of a second.
 SOON = 10
 UNPLUG = "Disconnect the programmer from power for a second before the next run: it may wait for the rest of a command, " \
     "which the next run would complete."
@@ -32,7 +32,7 @@ CAUSES = {
 
 
 def refuse(bench, text, keys="", number=None):
-    """Checks that a session is refused with this programmer fault, before anything is sent to the chip."""
+    """Checks that a session and a read end with this programmer fault, send no transaction, and create no file."""
     bench.write("new", b"\xff" * 65536)
     line = bench.device(f"Programmer fault {number}: {text}")
     before = bytes(bench.chip.data)
@@ -46,7 +46,7 @@ def refuse(bench, text, keys="", number=None):
 
 
 def needs_a_device(start):
-    """A device that is missing is programmer fault 1."""
+    """A run whose device is missing ends with programmer fault 1."""
     bench = start()
     bench.path("dev").unlink()
     refuse(bench, "DEV cannot be opened: there is no such file. Check its name, and that the programmer is connected.",
@@ -55,7 +55,7 @@ def needs_a_device(start):
 
 
 def needs_a_character_device(start):
-    """A regular file, a directory and a FIFO are programmer fault 2, and the file stays as it is."""
+    """If the device is a file, a directory or a FIFO, the run ends with programmer fault 2. A file stays unchanged."""
     bench = start()
     text = "DEV is not a character device. Name the serial port of the programmer."
     dev = bench.path("dev")
@@ -73,7 +73,7 @@ def needs_a_character_device(start):
 
 
 def locks_the_device(start):
-    """A device that another process has locked is programmer fault 3, and nothing is sent."""
+    """If another process has locked the device, the run ends with programmer fault 3, and sends nothing."""
     bench = start()
     with open(bench.path("dev"), "rb", buffering=0) as other:
         fcntl.flock(other, fcntl.LOCK_EX)
@@ -83,7 +83,7 @@ def locks_the_device(start):
 
 
 def opens_only_its_device(start):
-    """A run opens the device that dev= names, and no other: a second programmer receives no byte, even if one fails."""
+    """A run opens only the device that dev= names. A second programmer receives no byte, even if the first fails."""
     old, new = images("opens_only_its_device")
     wire = session_wire(old, new)
     last = max(at for at, (out, _) in enumerate(wire, 1) if out[0] in reference.CHANGING)
@@ -99,7 +99,7 @@ def opens_only_its_device(start):
 
 
 def sends_nothing_before_its_job(start):
-    """Between the handshake and the job's first frame, a run sends only the frame of ABh and the trial reads."""
+    """Between the handshake and the job, a run sends only ABh, the trial reads, and reads of the ID and of status 1."""
     old, new = images("sends_nothing_before_its_job")
     bench = start(data=old)
     bench.write("new", new)
@@ -112,7 +112,7 @@ def sends_nothing_before_its_job(start):
 
 
 def holds_its_lock(start):
-    """The device is locked against others while a run uses it."""
+    """A run has its device locked during each transaction."""
     bench = start(data=b"\0" * 65536, events={})
     got = []
 
@@ -132,7 +132,7 @@ def holds_its_lock(start):
 
 
 def needs_an_answer(start):
-    """A programmer that never replies is programmer fault 4. It receives one NOP, and nothing more."""
+    """If the programmer never replies, the run sends one NOP and ends with programmer fault 4."""
     bench = start(is_silent=True, timeout=SOON)
     refuse(bench, "the programmer is silent. Check its cable. It may wait for the rest of a command of an interrupted "
            "run, and each run may complete a part of this command: before the next run, disconnect the programmer from "
@@ -141,7 +141,7 @@ def needs_an_answer(start):
 
 
 def says_why_it_waits(start):
-    """At a port that isn't set up, the program waits for a silent programmer. A line before that says what to do."""
+    """At a port without a time-out, a run prints `WAITING`, sends one NOP, and waits until the programmer replies."""
     bench = start(is_silent=True, is_set_up=False)
     bench.write("new", b"\xff" * 65536)
     bench.expect_to_wait("-w", "new", "--journal", "j")
@@ -150,7 +150,7 @@ def says_why_it_waits(start):
 
 
 def needs_its_step(start):
-    """A device that sends text without end is programmer fault 5."""
+    """If the device sends text without end, the run ends with programmer fault 5."""
     bench = start(babbles=True)
     bench.write("new", b"\xff" * 65536)
     got = bench.run("-w", "new", "--journal", "j")
@@ -162,7 +162,10 @@ def needs_its_step(start):
 
 
 def needs_right_replies(start):
-    """A reply that is neither ACK nor NAK is programmer fault 5, and NAK to a command of the map is fault 11."""
+    """If a reply is neither ACK nor NAK, the run ends with programmer fault 5.
+
+    If the programmer replies NAK to a command of its command map, the run ends with programmer fault 11.
+    """
     advice = f"Disconnect the programmer from power, connect it again, and set up the port: {STTY}"
     for opcode in 0x01, 0x02, 0x08, 0x12, 0x15:
         refuse(start(replies={opcode: b"!"}), "the programmer answered 21h, which is neither ACK nor NAK. " + advice,
@@ -171,9 +174,13 @@ def needs_right_replies(start):
 
 
 def needs_a_port(start):
-    """A device that fails, as one that is unplugged does, is programmer fault 10 with the system's text."""
+    """If the device fails during the handshake, as an unplugged one does, the run ends with programmer fault 10.
+
+    The line contains the system's message.
+    """
     begins = "Programmer fault 10: the port failed: "
-    # If the device fails before the program reads, on a busy machine, the read returns no bytes and no error: fault 4.
+    # On a busy machine the device may fail before the program reads. The read then returns no bytes and no error, which
+    # is programmer fault 4, so the run is tried again.
     for _ in range(5):
         bench = start(replies={0x02: None})
         got = bench.run("-r", "out")
@@ -186,14 +193,14 @@ def needs_a_port(start):
 
 
 def needs_version_1(start):
-    """Another version of the protocol is programmer fault 6."""
+    """If the programmer speaks another version of serprog than 1, the run ends with programmer fault 6."""
     for version in 0, 2, 257:
         refuse(start(version=version), f"the programmer speaks version {version} of serprog, and only version 1 is "
                f"known. {FIRMWARE}", number=6)
 
 
 def needs_commands(start):
-    """A programmer without O_SPIOP is programmer fault 7; also without the command that spispeed= or cs= needs."""
+    """If the programmer has no O_SPIOP, or no command for spispeed= or cs=, the run ends with programmer fault 7."""
     for opcode, keys, advice in ((0x13, "", FIRMWARE), (0x14, ",spispeed=1000", "Leave spispeed= out."),
                                  (0x16, ",cs=1", "Leave cs= out.")):
         bench = start(lacks=(opcode,))
@@ -202,20 +209,20 @@ def needs_commands(start):
 
 
 def has_the_chip_select(start):
-    """If the programmer refuses the number of cs=, that is programmer fault 11."""
+    """If the programmer refuses the number in cs=, the run ends with programmer fault 11."""
     bench = start(selects=2)
     refuse(bench, "the programmer refused command 16h. Give cs= the number of another chip select.", ",cs=2", number=11)
 
 
 def needs_spi(start):
-    """A programmer for parallel chips is programmer fault 8; also one for several buses that can't select SPI."""
+    """If the programmer has no SPI bus, or several buses but no S_BUSTYPE, the run ends with programmer fault 8."""
     for traits in {"buses": 0x01}, {"buses": 0x0B, "lacks": (0x12,)}:
         refuse(start(**traits), f"the programmer cannot be set to SPI: its types of bus are {traits['buses']:02X}h. "
                f"{FIRMWARE}", number=8)
 
 
 def needs_wide_limits(start):
-    """Limits that are too small for one byte of a page, or for a unique ID, are programmer fault 9."""
+    """If the programmer's limits exclude a page program or the unique ID, the run ends with programmer fault 9."""
     for traits, text in (
         ({"longest_write": 4}, "the programmer sends at most 4 bytes in a transaction, too few for a page program"),
         *(({"longest_read": most}, f"the programmer reads at most {most} bytes in a transaction, and a unique ID has 8")
@@ -227,7 +234,7 @@ def needs_wide_limits(start):
 
 
 def reports_causes(start):
-    """A line after error 12 has the cause, and says what to do. If the chip may be changed, that is to restore."""
+    """After error 12 a line has the cause and advice. If the chip may have changed, the advice is to restore it."""
     old, new = images("reports_causes")
     wire = session_wire(old, new)
     seal = wire.index(reference.WRITE_ENABLE)
@@ -238,10 +245,10 @@ def reports_causes(start):
             bench.write("new", new)
             got = bench.run("-w", "new", "--journal", "j", events={at: event})
             after = RESTORE if at > seal else UNCHANGED
-            # At the first of these transactions the journal doesn't exist yet. At the second one it is sealed.
+            # At `started + 2` the journal doesn't exist yet. At `seal` it is sealed, and the chip isn't changed yet.
             used = [reference.used_name()] * (at == seal)
             bench.compare(got, [], ["Error 12: stopped.", f"Cause: {text}. {UNPLUG} {after}", *used])
-            # A page program after a write enable is on its way already.
+            # A long page program is sent together with its write enable, so the programmer carries it out, too.
             batch = at + (wire[at - 1] == reference.WRITE_ENABLE and reference.joins(wire[at][0]))
             bench.check_carried(batch - (event == "nak"))
         got = bench.run("-r", "out", events={started + 8: event})
@@ -249,7 +256,7 @@ def reports_causes(start):
 
 
 def reports_the_port(start):
-    """A programmer that is unplugged is error 12, with the system's text as the cause."""
+    """If the programmer is unplugged, a session ends with error 12, and the cause contains the system's message."""
     old, new = images("reports_the_port")
     bench = start(data=old)
     bench.write("new", new)
@@ -262,7 +269,7 @@ def reports_the_port(start):
 
 
 def says_once_what_to_do(start):
-    """If only the comparison after a change or a restore stopped, the cause has no advice to restore."""
+    """If a run stops in the comparison after its change or restore, the line with the cause advises no restore."""
     old, new = images("says_once_what_to_do")
     wire = session_wire(old, new)
     bench = start(data=old)
@@ -281,7 +288,7 @@ def says_once_what_to_do(start):
 
 
 def takes_no_kill(start):
-    """The programmer that is started as a program refuses the event `kill`: it knows no process to kill."""
+    """server.py, started as a program, refuses the event `kill`, because it doesn't know which process to kill."""
     bench = start()
     words = [sys.executable, str(Path(__file__).with_name("server.py")), str(bench.path("own")), "--event", "3=kill"]
     try:
@@ -292,7 +299,7 @@ def takes_no_kill(start):
 
 
 def reads_twice(start):
-    """Two reads that differ stop a session before anything is changed, and before a wrong byte is in the journal."""
+    """If two reads of the same bytes differ, a session ends with error 12, creates no journal, and changes nothing."""
     old, new = images("reads_twice")
     bench = start(data=old)
     bench.write("new", new)
@@ -306,7 +313,7 @@ def reads_twice(start):
         bench.check_absent(f"j{first}")
     bench.write("same", old)
     wire = reference.carried(reference.probe("TINY64"), old)
-    # The second block, after the first one and the ID.
+    # The wrong bit is in the second block of data. Before it come the first block and a read of the ID.
     bench.server.traits.wrong_bits = {len(wire) + 3: (0, 4)}
     check("a wrong bit", bench.run("-v", "same").err[-1], DIFFER)
 

@@ -1,4 +1,4 @@
-"""Cases of --check-journal, which describes a journal without a programmer. The lines are those of the manual page."""
+"""Cases of --check-journal, which describes a journal without a programmer, as the manual page says."""
 import hashlib
 
 import reference
@@ -15,7 +15,7 @@ NONE = ["error: the file is no journal, or is damaged", "Is this the right file?
 
 
 def describe(bench, *words):
-    """Runs --check-journal without -p, and returns what it printed."""
+    """Runs --check-journal without -p, checks that nothing is sent, and returns the result."""
     bench.server.begin({})
     got = bench.finish(bench.start_words([str(bench.program), "--check-journal", *words]))
     bench.check_nothing_sent()
@@ -23,7 +23,10 @@ def describe(bench, *words):
 
 
 def describes_a_journal(start):
-    """A sealed journal is described: chip, unit, saved sectors, status bits, and the command that restores it."""
+    """For a sealed journal, --check-journal prints the chip, its unique ID, the saved sectors and the status bits.
+
+    The last line is the command that restores the chip, with the name of the journal quoted for a shell if needed.
+    """
     old, new = images("describes_a_journal")
     bench = start(data=old, unique=bytes(8))
     bench.write("new", new)
@@ -40,7 +43,7 @@ def describes_a_journal(start):
 
 
 def describes_status_and_unit(start):
-    """The unique ID is printed, each bit that is set has its name, and a chip of the table has its name."""
+    """--check-journal prints the unique ID, the names of the status bits that are set, and the name of the chip."""
     large = bytes(1 << 23)
     bench = start("W25Q64FV")
     for status, bits in ((b"\x1c\x02", "1c 02 BP0 BP1 BP2 QE"), (b"\xe0\x79", "e0 79 TB SEC SRP0 SRP1 LB1 LB2 LB3 CMP"),
@@ -53,7 +56,7 @@ def describes_status_and_unit(start):
 
 
 def describes_old_and_empty_journals(start):
-    """A journal of format 1 has no unique ID, and a journal may save no sector."""
+    """--check-journal describes a journal of format 1, which has no unique ID, and which saves no sector."""
     bench = start()
     header = b"NORUNDO1\xfe\x10\x10" + b"\0\0" + SIZE.to_bytes(4, "little") + b"\xff" * 4
     bench.write("j", header + hashlib.sha256(header).digest())
@@ -64,7 +67,7 @@ def describes_old_and_empty_journals(start):
 
 
 def warns_of_blank_sectors(start):
-    """If more than half of the saved sectors hold only FFh, a warning says what that may mean."""
+    """If more than half of the saved sectors hold only FFh, --check-journal prints a warning with their number."""
     bench = start()
     data = bytearray(SIZE)
     data[3 * SECTOR :] = b"\xff" * (SIZE - 3 * SECTOR)
@@ -78,7 +81,7 @@ def warns_of_blank_sectors(start):
 
 
 def explains_invalid_journals(start):
-    """A journal that isn't sealed or is damaged is error 15, and then a line says what to do; nothing is changed."""
+    """If the journal is unsealed or damaged, --check-journal ends with error 15 and advice, and changes no file."""
     bench = start()
     whole = reference.journal("TINY64", bytes(SIZE), (1, 2))
     cut = "error: the journal was never sealed, or was cut off later"
@@ -91,7 +94,7 @@ def explains_invalid_journals(start):
         bench.write("j", content)
         bench.compare(describe(bench, "j"), [], [why[0], f"Error 15: journal fault {fault}.", why[1]])
         bench.check_file("j", content)
-    # A file that is shorter than a journal and doesn't begin as one says nothing about a session.
+    # If a file is shorter than any journal, the advice is that for an unsealed journal only if the file begins as one.
     for content, why in (b"NORUNDO", [cut, NEVER]), (b"hello", NONE), (b"norundo", NONE), (b"\0" * 7, NONE):
         bench.write("j", content)
         bench.compare(describe(bench, "j"), [], [why[0], "Error 15: journal fault 1.", why[1]])
@@ -102,7 +105,7 @@ def explains_invalid_journals(start):
 
 
 def needs_no_programmer(start):
-    """--check-journal ignores -p, and is no second operation; options that it can't have are usage faults."""
+    """--check-journal ignores -p. A run with a second operation, --journal or --quick ends with a usage fault."""
     bench = start()
     bench.write("j", reference.journal("TINY64", bytes(SIZE), (1,)))
     lines = describe(bench, "j").out

@@ -1,6 +1,6 @@
 """Cases of --wp-enable and --wp-disable, which set and clear SRP0 (bit 7 of status 1).
 
-The chip is a W25Q64FV, whose block protection is known. Its WP# pin is high, except where a case says so.
+The chip is a W25Q64FV, whose block protection the program knows. Its WP# pin is high unless a case says otherwise.
 """
 import reference
 from bench import check
@@ -12,7 +12,7 @@ PART = "W25Q64FV"
 FOUND = "Found W25Q64FV (ef4017), 8388608 bytes."
 SET, CLEAR = reference.LOCK_MEANING[True], reference.LOCK_MEANING[False]
 AGAIN = " Then repeat the run: until it succeeds, SRP0 may have either value."
-# What is sent to read the status, after the identification and after the status write.
+# The transactions that read the status, once after the identification and once after the status write.
 READ = [reference.POLL, reference.READ_STATUS_2]
 
 
@@ -21,24 +21,24 @@ def text(status):
 
 
 def changed(before, after, meaning):
-    """Returns the lines of a run that changed SRP0."""
+    """Returns the lines that a run prints if it changed SRP0."""
     return [FOUND, f"Status before: {text(before)}", f"Status now: {text(after)}", *meaning]
 
 
 def kept(status, meaning):
-    """Returns the lines of a run that found SRP0 as wanted."""
+    """Returns the lines that a run prints if SRP0 had the wanted value already."""
     return [FOUND, f"Status (unchanged): {text(status)}", *meaning]
 
 
 def bench_with(start, status, wp_low=False, **chosen):
-    """Returns a bench whose chip has these status bytes."""
+    """Returns a bench whose chip has these status bytes and this level of WP#."""
     bench = start(PART, status=status, **chosen)
     bench.chip.wp_low = wp_low
     return bench
 
 
 def changes_srp0(start):
-    """Both options change SRP0 and no other bit, by one status write, and read the status back. No file is made."""
+    """Both options change only SRP0, by one status write, and then read the status back. They create no file."""
     for rest in b"\0\0", b"\x04\0", b"\x58\x7a", b"\x7c\x42":
         clear, is_set = rest, bytes([rest[0] | 0x80, rest[1]])
         bench = bench_with(start, clear)
@@ -56,7 +56,10 @@ def changes_srp0(start):
 
 
 def locks_the_protection(start):
-    """--wp-enable locks the status while WP# is low: the chip then ignores --wp-disable, which is chip fault 3."""
+    """With WP# low and SRP0 set, --wp-disable ends with chip fault 3, and --wp-range with error 9.
+
+    With WP# high, --wp-disable works again.
+    """
     bench = bench_with(start, b"\x04\0", wp_low=True)
     bench.expect("--wp-enable", out=changed(b"\x04\0", b"\x84\0", SET))
     for _ in range(2):
@@ -64,12 +67,16 @@ def locks_the_protection(start):
         check("status bytes", bytes(bench.chip.status), b"\x84\0")
     bench.expect("--wp-range", "0,0", "--journal", "j", err=reference.locked(b"\x84\0"))
     bench.chip.wp_low = False
-    # A status write that the chip ignored leaves WEL (bit 1) set.
+    # The ignored status write left WEL (bit 1) set.
     bench.expect("--wp-disable", out=changed(b"\x86\0", b"\x04\0", CLEAR))
 
 
 def reports_a_missed_write(start):
-    """A status write that the chip missed is chip fault 3. A run that the programmer ends may leave either value."""
+    """If the chip misses the status write, --wp-enable ends with chip fault 3.
+
+    If the programmer stops the run, a line advises to repeat the run only if the status write may have been carried
+    out.
+    """
     bench = bench_with(start, b"\x04\x02")
     bench.expect("--wp-enable", out=changed(b"\x04\x02", b"\x84\x02", SET))
     number = numbers_of(bench, 0x01)[0]
@@ -85,7 +92,10 @@ def reports_a_missed_write(start):
 
 
 def refuses_to_lock(start):
-    """SRP1 is error 9, a chip without known block protection error 6, another name error 3. No write is sent."""
+    """If SRP1 is set, both options end with error 9, and on a chip without known block protection with error 6.
+
+    If -c names another chip, they end with error 3. They send no status write.
+    """
     for status in b"\0\x01", b"\x80\x01":
         bench = bench_with(start, status)
         for option in "--wp-enable", "--wp-disable":
@@ -100,7 +110,7 @@ def refuses_to_lock(start):
 
 
 def takes_one_lock(start):
-    """Both options are operations: a second one is usage fault 4, and they take no journal, regions, -n or --unlock."""
+    """A run of either option with a second operation, --journal, -l, -n or --unlock ends with a usage fault."""
     bench = start(PART)
     bench.write("image", b"")
     for fault, words, why in (
@@ -118,7 +128,7 @@ def takes_one_lock(start):
 
 
 def logs_the_status_write(start):
-    """-V and the log show the status write of both options, and the line before it."""
+    """-V shows the status write of --wp-disable. The log has a line before the change, and ends as the output does."""
     bench = bench_with(start, b"\x84\0")
     got = bench.run("--wp-disable", "-V", "-o", "log")
     check("standard output", got.out, changed(b"\x84\0", b"\x04\0", CLEAR))
@@ -130,7 +140,10 @@ def logs_the_status_write(start):
 
 
 def changes_a_locked_chip(start):
-    """A chip with SRP0 and protected sectors is unlocked, changed, restored and locked again, and is as at first."""
+    """A chip with SRP0 and protected sectors can be unlocked, changed, restored and locked again.
+
+    The chip then holds its original bytes and status.
+    """
     first, status = images("changes_a_locked_chip"), b"\x9c\x02"
     old, new = (data + b"\xff" * (LARGE - len(data)) for data in first)
     bench = bench_with(start, status, data=old)
@@ -143,7 +156,7 @@ def changes_a_locked_chip(start):
     check("the change", bench.run(*words, "--journal", "j").status, 0)
     bench.check_chip(new, b"\x1c\x02")
     bench.expect("--wp-enable", out=changed(b"\x1c\x02", status, SET))
-    # The journal has SRP0 clear.
+    # SRP0 is clear in the journal, and set on the chip.
     bench.expect("--restore", "j", "-N", err=[
         "Error 17: status differs from the journal's.",
         "Status in the journal: 1c 02 BP0 BP1 BP2 QE. Status of the chip: 9c 02 BP0 BP1 BP2 SRP0 QE."
@@ -156,9 +169,10 @@ def changes_a_locked_chip(start):
 
 
 def says_which_lock_differs(start):
-    """The line after error 17 says what to do if only SRP0 differs, or only SRP1, which a power cycle clears.
+    """If only SRP0 differs, a line after error 17 says how to set or clear SRP0.
 
-    In all other cases it says that an image can be written.
+    If only the chip has SRP1 set, the line says how to clear SRP1. In the other cases it advises to write an image. BP0
+    and QE don't change the advice.
     """
     data = b"\xff" * LARGE
     for saved, found, its, advice in (

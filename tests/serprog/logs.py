@@ -1,4 +1,4 @@
-"""Cases of the log of a run (-o): which lines its file has, and which files are refused."""
+"""Cases of -o, which logs a run to a file: the lines of the log, and the files that are refused."""
 import fcntl
 import os
 import re
@@ -13,7 +13,7 @@ TIMED = re.compile(r"\d+\.\d{3} (.*)")
 TAKEN = reference.FILE_HINTS[5]
 INCOMPLETE = f"The log is incomplete, but the job went on. {reference.CAUSES['full']}"
 SEALED = reference.sealed("j")
-# The first line of a log, and the bytes with which an existing file must begin if it is to be overwritten.
+# `FIRST` is the first line of a log. An existing file is overwritten only if it is empty or begins with `BEGIN`.
 BEGIN = "Log of flashnor-serprog"
 FIRST = f"{BEGIN} 1.0"
 EXPECTED = "The change takes T."
@@ -21,7 +21,7 @@ TOOK = "The change took M:SS."
 
 
 def lines_of(bench, name="log"):
-    """Returns the lines of a log after its first. A log has no control characters except the ends of lines."""
+    """Returns the lines of a log after its first line. Checks that all its bytes are printable or newlines."""
     text = bench.path(name).read_bytes()
     check("bytes of the log that aren't printable", re.sub(rb"[ -~\n]", b"", text), b"")
     check("the end of the log", text[-1:], b"\n")
@@ -31,13 +31,16 @@ def lines_of(bench, name="log"):
 
 
 def split(lines):
-    """Returns the lines of -V without their times, and the other lines."""
+    """Returns two lists: the lines of -V without their times, and the other lines."""
     timed = [found[1] for found in map(TIMED.fullmatch, lines) if found]
     return timed, [it for it in lines if not TIMED.fullmatch(it)]
 
 
 def logs_a_run(start):
-    """The log has what is printed, the plain lines of the progress and the lines of -V; the screen has no more."""
+    """The log contains what is printed, the plain lines of the progress, and the lines of -V.
+
+    Without -V, standard error stays empty.
+    """
     old, new = images("logs_a_run")
     bench = start(data=old)
     bench.write("new", new)
@@ -62,7 +65,7 @@ def logs_a_run(start):
 
 
 def logs_plain_lines(start):
-    """On a terminal the line that is rewritten isn't logged: the log has the plain lines, whatever the screen shows."""
+    """The log contains the plain lines of the progress, whatever --progress shows at the terminal."""
     old, _ = images("logs_plain_lines")
     bench = start(data=old)
     bench.write("image", old)
@@ -77,25 +80,25 @@ def logs_plain_lines(start):
 
 
 def times_in(lines):
-    """Returns the lines that say how long a change takes or took, without times and rates."""
+    """Returns the lines that say how long a change takes or took, in which `untimed` has replaced the times."""
     return [it for it in untimed(lines) if it.startswith("The change ")]
 
 
 def logs_how_long_a_change_takes(start):
-    """The log says how long a change takes and took, however the progress is shown; the screen only on a terminal."""
+    """With each --progress, the log says how long a change will take and took. A terminal shows it only with `auto`."""
     old, new = images("logs_how_long_a_change_takes")
     bench = start(data=old)
     bench.write("new", new)
     for mode in "auto", "plain", "none":
         for words in ("-w", "new", "--journal", f"j{mode}"), ("--restore", f"j{mode}"):
-            # A restore appends to a log.
+            # Removes the log, because a restore appends to an existing log.
             bench.path("log").unlink(missing_ok=True)
             status, printed, _ = run(bench, *words, "--progress", mode, "-o", "log")
             check("status", status, 0)
             check("lines of the log", times_in(lines_of(bench)), [EXPECTED, TOOK])
             check("lines on the screen", times_in(Screen(printed).lines), [EXPECTED, TOOK] if mode == "auto" else [])
-    # Nothing is read before a restore that isn't compared, so no rate is known. A restore that changes nothing takes no
-    # time, and a change that fails has no line that says how long it took.
+    # With -N nothing is read before a restore, so no rate is known. A quick restore that changes nothing logs no times,
+    # and a change that fails logs only the expected time.
     answer = lines_of(bench)[-2:]
     bench.path("log").unlink()
     bench.expect("--restore", "jauto", "-N", "-o", "log", out=answer)
@@ -109,7 +112,7 @@ def logs_how_long_a_change_takes(start):
 
 
 def logs_faults(start):
-    """The log has the lines of a fault and its hint, also if the programmer can't be used."""
+    """The log ends with the printed lines of a fault and its advice, even if the programmer can't be opened."""
     old, new = images("logs_faults")
     bench = start(data=old)
     bench.write("new", new)
@@ -128,7 +131,7 @@ def logs_faults(start):
 
 
 def logs_until_a_kill(start):
-    """A killed run leaves the lines of each transaction that it had sent."""
+    """The log of a killed run contains a line for each transaction that the run had sent."""
     old, new = images("logs_until_a_kill")
     bench = start(data=old)
     bench.write("new", new)
@@ -142,7 +145,7 @@ def logs_until_a_kill(start):
 
 
 def needs_a_file_of_its_own(start):
-    """A log that is the device, a file of the job, or one to which the program prints is file fault 5."""
+    """If the log is the device, a file of the job, or the file of standard error, the run ends with file fault 5."""
     old, new = images("needs_a_file_of_its_own")
     bench = start(data=old)
     bench.write("new", new)
@@ -173,7 +176,7 @@ def needs_a_file_of_its_own(start):
 
 
 def overwrites_only_logs(start):
-    """A file for the log that has bytes and is no log is file fault 4, and stays as it is. An empty file is used."""
+    """If the file for the log is neither empty nor a log, the run ends with file fault 4, and keeps the file."""
     old, new = images("overwrites_only_logs")
     bench = start(data=old)
     bench.write("new", new)
@@ -201,7 +204,7 @@ def overwrites_only_logs(start):
 
 
 def waits_for_no_other_run(start):
-    """A log that another run writes is file fault 5, and stays as it is."""
+    """If another process has locked the log, the run ends with file fault 5, and the log stays as it is."""
     bench = start()
     with open(bench.path("log"), "wb") as log:
         log.write(FIRST.encode() + b"\nanother run\n")
@@ -213,7 +216,7 @@ def waits_for_no_other_run(start):
 
 
 def goes_on_without_its_log(start):
-    """If the log can't be written, the job is done, and the run ends with file fault 2."""
+    """If the log can't be written, the run completes its job, and then ends with file fault 2."""
     old, new = images("goes_on_without_its_log")
     bench = start(data=old)
     bench.write("new", new)
@@ -227,7 +230,7 @@ def goes_on_without_its_log(start):
 
 
 def logs_only_jobs(start):
-    """A description of a journal, the help and the version aren't logged, and a usage fault creates no log."""
+    """--check-journal, the help, the version, and a run with a usage fault create no log."""
     old, _ = images("logs_only_jobs")
     bench = start(data=old)
     bench.write("j", reference.journal("TINY64", old, [1]))
@@ -242,7 +245,7 @@ def logs_only_jobs(start):
 
 
 def logs_what_could_not_be_printed(start):
-    """If standard output can't be written, the log still has the answer and the fault."""
+    """If standard output can't be written, the log still contains the result and the fault."""
     old, _ = images("logs_what_could_not_be_printed")
     bench = start(data=old)
     status, err = bench.run_unprinted("--flash-size", "-o", "log")

@@ -1,7 +1,7 @@
-"""Kills, lost replies and cut frames, at each transaction of a session and of its restores, on a chip of 64 KiB.
+"""Kills, lost replies, cut frames and losses of power in a session and in its restores, on a chip of 64 KiB.
 
-After each of them a restore must end, and the chip must have each byte of the original, unless the session's journal
-was never sealed: then the chip must be unchanged.
+After each of them a restore must succeed, and the chip must hold each byte of the original. If the session's journal
+was never sealed, the chip must be unchanged instead.
 """
 import tempfile
 from typing import NamedTuple
@@ -11,15 +11,18 @@ from bench import Bench, Differs, check
 from chip import SECTOR, Chip
 from options import images
 
-# The sectors that a session changes. In sector 1 bits only change from 1 to 0. The others are erased, 8 to 15 by one
-# erase.
+# The sectors that a session changes, in two variants. Sector 1 needs no erase, since its bits only change from 1 to 0.
+# The others are erased, the sectors 8 to 15 of `MANY` by one erase.
 FEW = (1, 2, 12, 13, 14, 15)
 MANY = (1, 2, *range(8, 16))
 STOPPED = "Error 12: stopped."
 
 
 class Loss(NamedTuple):
-    """An event at a transaction of the session, and one at a transaction of the first restore. 0 is none."""
+    """An event at the transaction `session` of a session, and at the transaction `restore` of its first restore.
+
+    If one of the numbers is 0, that run has no event.
+    """
 
     event: str
     session: int
@@ -28,7 +31,7 @@ class Loss(NamedTuple):
 
 
 def chip_images(changed):
-    """Returns the original and the target. They have few bytes in the changed sectors, so that runs are short."""
+    """Returns the original and the target. Their changed sectors are mostly blank, so that runs are short."""
     old, _ = map(bytearray, images("losses"))
     for number in changed:
         old[number * SECTOR : (number + 1) * SECTOR] = b"\xff" * SECTOR
@@ -43,15 +46,15 @@ def chip_images(changed):
 
 
 def session_wire(old, new):
-    """Returns the transactions over the wire of a run with a session."""
+    """Returns the transactions that the programmer receives in a run with a session."""
     plan = reference.whole_run("TINY64", reference.session("TINY64", old, new), True)
     return reference.carried(plan, old, chip=Chip("TINY64", old), image=new)
 
 
 def losses():
-    """Returns the losses: at each transaction of a session, and at each of a restore after a session that ended.
+    """Returns the losses: at each transaction of a session, of a restore after a session without a loss, and of both.
 
-    Those before the job, which wake the chip and try it, belong to neither. A kill is also tried at these.
+    Only kills are tried at the transactions before the job. The losses of `rare_losses` are returned, too.
     """
     old, new = chip_images(FEW)
     wire = session_wire(old, new)
@@ -59,14 +62,14 @@ def losses():
     begins = ("kill", 1), ("lose", len(reference.before_job(old)) + 1)
     found = [Loss(event, at) for event, begin in begins for at in range(begin, len(wire) + 1)]
     found += [Loss(event, 0, at) for event, begin in begins for at in range(begin, len(back) + 1)]
-    # A session that is stopped in the middle, and its restore too.
+    # The session is stopped after its journal was sealed, and its first restore is stopped, too.
     middle = range(sealed_after(wire) + 10, len(wire) + 1)
     found += [Loss(event, at, at // 2) for event in ("kill", "lose") for at in middle]
     return found + rare_losses()
 
 
 def rare_losses():
-    """Returns losses of power in an operation, and frames that are cut in it. The programmer is plugged in again."""
+    """Returns losses of power at each erase and program, and cuts of its frame after 1, 7, 8 or 10 bytes."""
     wire = session_wire(*chip_images(MANY))
     changing = [at for at, (out, _) in enumerate(wire, 1) if out[0] in (0x02, 0x20, 0x52, 0xD8, 0xC7)]
     found = [Loss("power", at, 0, MANY) for at in changing]
@@ -82,7 +85,7 @@ def sealed_after(wire):
 
 
 def try_loss(program, loss):
-    """Tries one loss, and returns nothing, or the lines that say what was wrong."""
+    """Tries one loss. Returns nothing, or the lines that describe a failure."""
     with tempfile.TemporaryDirectory() as folder:
         old, new = chip_images(loss.changed)
         bench = Bench(program, folder, "TINY64", old)
@@ -110,7 +113,7 @@ def one_loss(bench, loss, old, new):
             bench.check_absent("j")
             return
         if loss.event == "lose":
-            # The run ended by itself, and removed the journal that it had created.
+            # The run ended with error 12, and removed the unsealed journal that it had created.
             bench.check_absent("j")
             return
         begun = bench.path("j").read_bytes()
@@ -128,7 +131,10 @@ def one_loss(bench, loss, old, new):
 
 
 def stop(bench, words, event, at):
-    """Runs the program with an event at a transaction, which must occur, and plugs the programmer in again."""
+    """Runs the program with an event at the transaction `at`, and checks that it occurred.
+
+    If the event isn't `kill`, the programmer is gone, so this function connects a new one.
+    """
     got = bench.run(*words, events={at: event})
     if event == "kill":
         if not bench.server.killed:

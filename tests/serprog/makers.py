@@ -1,9 +1,12 @@
-"""Cases of chips of other makers, for which 35h (read status 2) may mean something else.
+"""Cases of chips for which 35h may mean something else than read status 2.
 
-35h enters QPI mode on Macronix MX25L12835F, ISSI IS25LP128 and Micron MT25QL128 (from memory of their datasheets). Such
-a chip then ignores each command, until its power is off. So 35h may be sent only to a chip that has a row, to one whose
-SFDP says that 35h reads status 2 (JESD216B, double word 15, quad enable requirements 101b and 110b), and by a restore
-from a journal whose session read a status 2 other than 00h.
+35h enters QPI mode on Macronix MX25L12835F, ISSI IS25LP128 and Micron MT25QL128 (from memory of their datasheets). Each
+of them then ignores all commands of the program until its power is off. The program may therefore send 35h only in
+these cases:
+
+- The program's table of chips contains the chip's ID.
+- The chip's SFDP says that 35h reads status 2 (JESD216B, double word 15, quad enable requirements 101b and 110b).
+- A restore uses a journal with a status 2 other than 00h, which shows that its session sent 35h to this chip.
 """
 import reference
 from bench import check
@@ -11,16 +14,16 @@ from chip import PARTS, SECTOR, Chip, sfdp
 from losses import FEW, chip_images
 
 SECOND = b"\x35"
-# The quad enable requirements (bits 22 to 20 of double word 15) of the chips that enter QPI mode: QE is bit 6 of status
-# 1 (010b), or there is none (000b). `None` is a table without this double word.
+# Quad enable requirements (bits 22 to 20 of double word 15) that don't say that 35h reads status 2. With 010b QE is bit
+# 6 of status 1, and with 000b there is no QE. `None` stands for a table without this double word.
 OTHERS = (None, 0b010, 0b000, 0b001, 0b100, 0b111)
 NAMING = (0b101, 0b110)
 
 
 def table(size, requirements):
-    """Returns SFDP bytes. With quad enable requirements, the first table has 16 double words (JESD216B).
+    """Returns SFDP bytes. If `requirements` are given, the basic table has 16 double words (JESD216B), else nine.
 
-    Without them it has nine. What follows looks like requirements 101b, but belongs to another table of the maker.
+    The bytes after a table of nine double words look like the requirements 101b, but don't belong to this table.
     """
     found = bytearray(sfdp(size).ljust(16 + 64, b"\0"))
     found[16 + 58] = 0b101 << 4
@@ -31,7 +34,10 @@ def table(size, requirements):
 
 
 class MakersChip(Chip):
-    """TINY64, with an SFDP table of its own. If `enters_qpi`, it ignores each command after 35h, or until FFh."""
+    """TINY64 with another SFDP table. If `enters_qpi`, the chip ignores all commands after 35h.
+
+    If `leaves_by_ff`, FFh makes the chip receive commands again.
+    """
 
     def __init__(self, requirements, enters_qpi=True, leaves_by_ff=False, **chosen):
         super().__init__("TINY64", **chosen)
@@ -53,7 +59,7 @@ class MakersChip(Chip):
 
 
 def connect(start, requirements, **chosen):
-    """Returns a bench with such a chip, and with the image `new` of `chip_images`."""
+    """Returns a bench with a `MakersChip` and the file `new`, and the two images of `chip_images`."""
     old, new = chip_images(FEW)
     bench = start()
     bench.chip = MakersChip(requirements, data=old, **chosen)
@@ -68,7 +74,10 @@ def asked(bench):
 
 
 def never_enters_qpi(start):
-    """No job sends 35h to a chip whose SFDP doesn't name it. All jobs work."""
+    """No job sends 35h to a chip whose SFDP doesn't say that 35h reads status 2.
+
+    All jobs work, except --wp-status, --wp-list, --wp-enable and --wp-disable, which end with exit status 1.
+    """
     for requirements in OTHERS:
         bench, old, new = connect(start, requirements)
         found = reference.found("TINY64")
@@ -88,7 +97,7 @@ def never_enters_qpi(start):
 
 
 def comes_back_from_qpi(start):
-    """A chip in QPI mode that leaves it by FFh is backed up, written and restored, also after a kill."""
+    """A chip that is in QPI mode before each run, and leaves it by FFh, can be backed up, written and restored."""
     bench, old, new = connect(start, None, leaves_by_ff=True)
 
     def run(words, status, events=None):
@@ -111,9 +120,9 @@ def comes_back_from_qpi(start):
 
 
 def takes_no_level_for_a_unique_id(start):
-    """A chip ignores 4Bh, and the line keeps the last level that was driven. Then the journal has no unique ID.
+    """If a chip ignores 4Bh, and its line keeps the last level, a session records no unique ID (00h).
 
-    A restore accepts the journal, whatever level the line has then.
+    A restore from this journal succeeds.
     """
     old, new = chip_images(FEW)
     bench = start(data=old, unique=bytes(range(8)))
@@ -138,7 +147,10 @@ def takes_no_level_for_a_unique_id(start):
 
 
 def changes_no_lock(start):
-    """A change of SRP0 or of the protected range is refused before anything is written: 01h has two bytes there."""
+    """On a chip outside the program's table, --wp-enable, --wp-disable and --wp-range end with error 6.
+
+    They send neither 06h nor 01h.
+    """
     bench, old, _ = connect(start, 0b010)
     for words in ("--wp-enable",), ("--wp-disable",), ("--wp-range", "0,0x1000", "--journal", "k"):
         bench.expect(*words, err=reference.NO_PROTECTION)
@@ -147,7 +159,10 @@ def changes_no_lock(start):
 
 
 def reads_named_status_2(start):
-    """A chip whose SFDP names 35h is asked. Its status 2 is in the journal, and a restore compares it."""
+    """If a chip's SFDP says that 35h reads status 2, a session sends 35h, and its journal contains status 2.
+
+    A restore from this journal succeeds.
+    """
     for requirements in NAMING:
         bench, old, new = connect(start, requirements, enters_qpi=False, status=b"\0\2")
         check("the session", bench.run("-w", "new", "--journal", "j").status, 0)
@@ -158,7 +173,10 @@ def reads_named_status_2(start):
 
 
 def restores_older_journals(start):
-    """A journal with a status 2 shows that its session sent 35h, so its restore does. Another chip isn't asked."""
+    """A restore from a journal with a status 2 other than 00h works, although the chip's SFDP doesn't mention 35h.
+
+    If the journal is another chip's, the restore sends no 35h.
+    """
     old, new = chip_images(FEW)
     for requirements in None, 0b010:
         bench, _, _ = connect(start, requirements, enters_qpi=False, status=b"\0\2")
@@ -174,7 +192,7 @@ def restores_older_journals(start):
 
 
 def asks_each_row(start):
-    """Each chip with a row is asked for status 2."""
+    """--wp-status sends 35h to each chip whose ID is in the program's table, and prints status 2."""
     for part in (name for name, it in PARTS.items() if it.has_row):
         bench = start(part, status=b"\0\x40")
         got = bench.run("--wp-status")

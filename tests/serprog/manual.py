@@ -1,7 +1,7 @@
-"""Cases of the manual page flashnor-serprog(8) and of HARDWARE: bash runs their examples and blocks of commands.
+"""Cases that run the examples and command blocks of flashnor-serprog(8) and of docs/HARDWARE.md with bash.
 
-In a command, the port of the page becomes that of the modelled programmer. A file that the page shows by `cat` has the
-content that the page shows.
+In each command, the port of the modelled programmer replaces the port of the page. If a page shows a file by `cat`, the
+file is created with the content that the page shows.
 """
 import os
 import re
@@ -24,20 +24,20 @@ SETTING = f"serprog:dev={PORT},spispeed=1000000"
 
 
 def blocks():
-    """Returns the blocks of the manual page, without its formatting."""
+    """Returns the blocks of commands and examples of the manual page as plain text."""
     text = (TOP / "man/flashnor-serprog.8").read_text(encoding="utf-8")
     return pages.examples_of(text)
 
 
 def block_with(part):
-    """Returns the only block of commands, without output, that contains this text."""
+    """Returns the only block of commands (without their output) that contains the text `part`."""
     found = [it for it in blocks() if not it.startswith("$ ") and part in it]
     check(f"blocks with '{part}'", len(found), 1)
     return found[0]
 
 
 def run_in_shell(bench, commands, variables=None):
-    """Runs these commands by bash in the directory of the programmer, and returns the lines of both streams."""
+    """Runs commands by bash in the directory of the bench, and returns the lines of both output streams."""
     programs = bench.path("programs")
     if not programs.exists():
         programs.mkdir()
@@ -64,8 +64,10 @@ def steps_of(lines):
 
 
 def play(bench, steps, least):
-    """Runs the commands, of which there must be `least` or more, and checks that each prints the lines of its step. The
-    chip's first byte is 00h at first."""
+    """Runs the commands of the steps, and checks that each prints the lines of its step.
+
+    There must be `least` steps or more.
+    """
     variables = {}
     for command, lines in steps:
         if setting := re.fullmatch(r"(\w+)=(\S+)", command):
@@ -77,7 +79,7 @@ def play(bench, steps, least):
 
 
 def plays_the_examples(start):
-    """Each command of the examples prints what the page shows, on the chip and the image that the page describes."""
+    """Each command of the examples prints the lines that the page shows, on the chip that the page describes."""
     old = b"\0" + b"\xff" * (LARGE - 1)
     examples = [line for block in blocks() if block.startswith("$ ") for line in block.splitlines()]
     session = pages.of_markdown((TOP / "docs/HARDWARE.md").read_text(encoding="utf-8"))
@@ -90,7 +92,10 @@ def plays_the_examples(start):
 
 
 def makes_the_first_write(start):
-    """The first write of a board, as the page gives it, saves the chip twice and writes. Without a backup it stops."""
+    """The page's commands for the first write of a board back the chip up, read it, and write it.
+
+    If whole.journal exists, they stop with file fault 4, and nothing is written.
+    """
     old, new = images("makes_the_first_write")
     for is_there in False, True:
         bench = start(data=old)
@@ -113,7 +118,7 @@ def makes_the_first_write(start):
 
 
 def rescues_in_four_lines(start):
-    """After a kill at any point of a session, the four lines of RECOVERY restore the chip, or it wasn't changed."""
+    """After a kill at one of six points of a session, the four lines of RECOVERY leave the original bytes."""
     old, new = images("rescues_in_four_lines")
     wire = session_wire(old, new)
     sealed = sealed_after(wire) + 1
@@ -133,7 +138,7 @@ def rescues_in_four_lines(start):
 
 
 def restores_after_chip_fault_4(start):
-    """The block of chip fault 4 restores the session's journal, which ends with chip fault 5, and then the backup."""
+    """The page's block for chip fault 4 restores from the session's journal (chip fault 5), and then from a backup."""
     old, new = images("restores_after_chip_fault_4")
     bench = start(data=old)
     bench.write("new.bin", new)
@@ -146,7 +151,10 @@ def restores_after_chip_fault_4(start):
 
 
 def compares_journals(start):
-    """The first two lines for a journal are those for the board's backup, and differ for a chip with another unique ID."""
+    """--check-journal prints equal first two lines for a session's journal and a backup if their unique IDs are equal.
+
+    The lines differ if the backup is of a chip with another unique ID.
+    """
     old, new = images("compares_journals")
     for unique, is_this in (bytes(range(8)), True), (bytes(8), False):
         bench = start(data=old, unique=bytes(range(8)))

@@ -1,6 +1,6 @@
-"""Cases of --fmap-file and --ifd-file: regions from the FMAP or the flash descriptor of an image in a file.
+"""Cases of --fmap-file and --ifd-file, which take regions from the FMAP or the flash descriptor of an image file.
 
-The formats are those of flashmap's fmap.h, and of the descriptors in the SPI programming guides of Intel's chipsets.
+The formats are those of flashmap's fmap.h, and of the SPI programming guides of Intel's chipsets.
 """
 import random
 import struct
@@ -13,7 +13,7 @@ MISSING = "error: there is no {} in the file"
 
 
 def fmap(areas, size=SIZE):
-    """Returns an FMAP with these areas: offset, size and name of each."""
+    """Returns an FMAP with these areas. Each area is an offset, a size and a name."""
     found = struct.pack("<8sBBQI32sH", b"__FMAP__", 1, 1, 0, size, b"FLASH", len(areas))
     return found + b"".join(struct.pack("<II32sH", *area, 0) for area in areas)
 
@@ -26,7 +26,10 @@ def with_fmap(data, at, areas):
 
 
 def with_descriptor(data, entries):
-    """Returns the image with a flash descriptor that has these regions: base and limit of each, in units of 4 KiB."""
+    """Returns the image with a flash descriptor in its first 4 KiB.
+
+    `entries` are the base and the limit of each region, in units of 4 KiB.
+    """
     data = bytearray(data)
     data[:0x1000] = b"\xff" * 0x1000
     data[0x10:0x1C] = bytes.fromhex("5aa5f00f 03000400 08021045")
@@ -40,7 +43,7 @@ def random_image(seed):
 
 
 def reads_regions_of_an_fmap(start):
-    """-r reads exactly the bytes of an area of the FMAP, wherever that is in the image."""
+    """-r with --fmap-file and -i reads only the bytes of the named areas."""
     old = with_fmap(random_image("fmap"), 0x7123, [(0, 0x1000, b"RO"), (0x1001, 0x2FFF, b"RW_A"), (0x4000, 1, b"ID")])
     bench = start(data=old)
     bench.write("before", old)
@@ -51,7 +54,10 @@ def reads_regions_of_an_fmap(start):
 
 
 def writes_regions_of_a_descriptor(start):
-    """-w changes exactly the region of the flash descriptor; base and limit count 4 KiB, and both belong to it."""
+    """-w with --ifd-file and -i changes only the named regions of the descriptor.
+
+    Base and limit are numbers of 4 KiB units, and a region contains both units.
+    """
     old = with_descriptor(random_image("old"), [(0, 0), (8, 15), (1, 7)])
     new = random_image("new")
     bench = start(data=old)
@@ -67,7 +73,7 @@ def writes_regions_of_a_descriptor(start):
 
 
 def refuses_wrong_maps(start):
-    """An image without a valid map is a map fault, in words and with the file's name, before anything is sent."""
+    """If the image has no valid map, the run ends with a map fault and the name of the file, and sends nothing."""
     bench = start(data=FREE)
     whole = with_fmap(FREE, 0x100, [(0, SIZE, b"ALL")])
     table, descriptor = "FMAP", "flash descriptor"
@@ -93,7 +99,10 @@ def refuses_wrong_maps(start):
 
 
 def names_the_regions_that_exist(start):
-    """If a name is no region, the names of the layout follow, until they have 200 bytes; the others are counted."""
+    """After layout fault 8, a line lists the names of the layout's regions.
+
+    The list ends after the name with which it has at least 200 bytes. The line then gives the number of other regions.
+    """
     bench = start(data=FREE)
     many = [b"REGION_%02d" % it for it in range(64)]
     shown = ", ".join(it.decode() for it in many[: -(-200 // len("REGION_00, "))])
@@ -113,7 +122,7 @@ def names_the_regions_that_exist(start):
 
 
 def takes_one_layout(start):
-    """Exactly one of -l, --fmap-file and --ifd-file goes with -i; anything else is usage fault 7."""
+    """Two layouts, a layout without -i or an operation, or -i without a layout end the run with usage fault 7."""
     bench = start(data=FREE)
     for words, why in (
             ("-r out -l a --fmap-file b -i c", "-l and --fmap-file cannot be used together"),
@@ -128,7 +137,7 @@ def takes_one_layout(start):
 
 
 def keeps_the_image_apart(start):
-    """The image with the map is a file of the run like a layout: it can't be the output or the journal."""
+    """If the image with the map is also the output of -r, the run ends with file fault 5. The image stays unchanged."""
     old = with_fmap(random_image("apart"), 0, [(0, SIZE, b"ALL")])
     bench = start(data=old)
     bench.write("before", old)

@@ -1,6 +1,7 @@
-"""Cases of models.py itself: what a chip makes of transactions that no program should send. No program is run.
+"""Cases of models.py itself: how its chips respond to transactions, also to some that no program should send.
 
-The expected bytes are those of the datasheets' sections on the commands, and of JESD216 for the SFDP.
+The program under test isn't run. The expected bytes come from the command sections of the datasheets and, for SFDP,
+from JESD216.
 """
 import sfdp
 from bench import check
@@ -21,7 +22,7 @@ def send(chip, *transactions):
 
 
 def settle(chip):
-    """Polls until the chip is ready, and returns how often it showed BUSY, and the last status."""
+    """Polls until the chip is ready, at most 100 times. Returns how many polls showed BUSY, and the last status."""
     for count in range(100):
         status = chip.transfer(POLL, 1)[0]
         if not status & 1:
@@ -30,7 +31,7 @@ def settle(chip):
 
 
 def wraps_a_page(start):
-    """A program goes on at the start of its page, only clears bits, and needs its own write enable."""
+    """A page program wraps at the end of its page, only clears bits, and needs its own write enable."""
     chip = erased("GD25Q64C")
     send(chip, b"\x02\0\0\xfe\1\2\3")
     check("without WEL", bytes(chip.data[:0x200]), b"\xff" * 0x200)
@@ -47,7 +48,10 @@ def wraps_a_page(start):
 
 
 def reads_before_and_after_a_header(start):
-    """A reply that is read too early is the floating line, and one that is read late lacks its first bytes."""
+    """If a read sends too few header bytes, its reply begins with the level of the floating line.
+
+    If a read sends too many bytes, the first bytes of the reply are skipped.
+    """
     chip = erased("GD25Q64C", floating=0)
     check("too early", chip.transfer(b"\x5a\0\0", 4), b"\0\0SF")
     check("late", chip.transfer(b"\x5a\0\0\0\0\0\0", 2), b"DP")
@@ -59,7 +63,10 @@ def reads_before_and_after_a_header(start):
 
 
 def stays_in_qpi(start):
-    """35h enters QPI on the chips that say so. Only power-up leaves it, or FFh where it is known and a line is high."""
+    """35h enters QPI mode on some chips. A power-up ends this mode.
+
+    FFh ends it, too, if the chip knows FFh and the floating line is high.
+    """
     for name in "MX25L12835F", "IS25LP128", "MT25QL128":
         chip = erased(name)
         chip.transfer(b"\x35", 1)
@@ -77,10 +84,14 @@ def stays_in_qpi(start):
 
 
 def reads_on(start):
-    """In a continuous read every transaction is an address. FFh ends one with four lines, and FFh FFh one with two."""
+    """In a continuous read, a chip takes each transaction for an address.
+
+    FFh ends a continuous read with four lines, and FFh FFh one with two lines.
+    """
     for lines, at, shown in (2, 0x2AAAAA, b"\xc3"), (4, 0x6EEEEE, b"\xf9"):
         chip = erased("W25Q64FV")
-        # The second line has bits 7, 5, 3 and 1 of a byte, or bits 5 and 1. Before the data it floats.
+        # The line to the programmer has bits 7, 5, 3 and 1 of a byte with two lines, and bits 5 and 1 with four. It
+        # floats before the data.
         chip.data[at : at + 2] = b"\xa5\x0f"
         chip.lines = lines
         check(f"the reply on one of {lines} lines", chip.transfer(b"\0\0"[: 4 // lines], 1), shown)
@@ -95,7 +106,7 @@ def reads_on(start):
 
 
 def erases_by_region(start):
-    """4 KiB erases of S25FL128S reach its small sectors. D8h of SST26VF064B erases 8, 32 or 64 KiB."""
+    """S25FL128S accepts 4 KiB erases only in its small sectors. D8h erases 8, 32 or 64 KiB of SST26VF064B."""
     for name, reached, ignored in ("S25FL128S", 0x1F000, 0x20000), ("S25FL128S-top", 0xFE0000, 0xFDF000):
         chip = Model(ALL[name], bytes(1 << 24))
         for at in reached, ignored:
@@ -112,7 +123,10 @@ def erases_by_region(start):
 
 
 def writes_registers(start):
-    """One status byte clears the second register, or leaves it, or is all that the chip takes."""
+    """A status write with one byte clears status 2 or keeps it, as the datasheet of the chip says.
+
+    A chip ignores a status write with more bytes than it accepts.
+    """
     for name, sent, wanted in (("W25Q64FV", b"\x01\x00", b"\0\0"), ("W25Q64JV", b"\x01\x00", b"\0\2"),
                                ("W25Q64JV", b"\x01\x1c\xff", b"\x1c\x7b"), ("GD25Q64C", b"\x01\x1c\0", b"\0\2"),
                                ("MX25L12873G", b"\x01\0", b"\x40\2"), ("W25Q64FV", b"\x01\0\0\0", b"\0\2")):
@@ -129,7 +143,7 @@ def writes_registers(start):
 
 
 def protects_ranges(start):
-    """The protected ranges of the datasheets' tables. A refused erase of S25FL128S leaves it busy until 30h."""
+    """The protected ranges are those of the datasheets' tables. After a refused erase, S25FL128S is busy until 30h."""
     for name, status, wanted in (
             ("W25Q64FV", b"\x04\0\0", (0x7E0000, 0x800000)), ("W25Q64FV", b"\x24\0\0", (0, 0x20000)),
             ("W25Q64FV", b"\x44\0\0", (0x7FF000, 0x800000)), ("W25Q64FV", b"\x24\x40\0", (0x20000, 0x800000)),
@@ -147,7 +161,7 @@ def protects_ranges(start):
 
 
 def has_sfdp_of_the_standard(start):
-    """The fields of the tables are where JESD216 has them."""
+    """The fields of the SFDP tables are at the positions that JESD216 defines."""
     words = [int.from_bytes(ALL["MX25L12873G"].sfdp[0x30 + 4 * at :][:4], "little") for at in range(16)]
     check("double words 1, 2, 8 and 9", (hex(words[0]), words[1], hex(words[7]), hex(words[8])),
           ("0xfff120e5", (1 << 27) - 1, "0x520f200c", "0xff00d810"))

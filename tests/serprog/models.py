@@ -1,22 +1,22 @@
-"""A model of a SPI NOR chip that reads a description: which opcodes the chip knows, and what each of them does.
+"""A model of a SPI NOR chip, and the type of its description: which opcodes a chip knows, and what each of them does.
 
-The rules are those of JESD216 and of the datasheets that a description names, not those of docs/SPECIFICATION.md. The
-bytes sent and received are the clocks between two edges of CS#. While a reply is received, the chip gets 00h, so a
-program that also receives bytes programs zeros. A transaction that the chip ignores leaves the line to the programmer
-floating. It is recorded in `ignored`, except for a read.
+The rules come from JESD216 and from the datasheets that a description names, not from docs/SPECIFICATION.md. A
+transaction is the bytes sent, and then received, while CS# is low. The chip gets 00h while the programmer receives, so
+a page program that also receives bytes programs zeros. If the chip ignores a transaction, the line to the programmer
+floats, and the transaction is appended to `ignored`, except if it is a read.
 """
 import random
 from typing import NamedTuple
 
 BUSY, WEL = 0x01, 0x02
-# How many samples of status 1 show BUSY after a status write, a program, and an erase.
+# How many reads of status 1 show BUSY after a status write, a program and an erase.
 SAMPLES = {"write": 3, "program": 2, "erase": 5}
 
 
 def by_parts(registers, size):
-    """Returns the protected range by SEC, TB and BP2 to BP0 of status 1, and CMP of status 2 (Winbond and others).
+    """Returns the protected range for SEC, TB and BP2 to BP0 of status 1, and CMP of status 2 (Winbond and others).
 
-    The smallest range without SEC is a 64th of the chip, but at least 64 KiB (W25Q16JV: a 32nd).
+    Without SEC, the smallest range is a 64th of the chip, but at least 64 KiB (a 32nd of W25Q16JV).
     """
     sec, tb, bp = registers[0] >> 6 & 1, registers[0] >> 5 & 1, registers[0] >> 2 & 7
     length = [0, 1, 2, 4, 8, 8, 8, 0][bp] * 4096 if sec else min(size, max(size // 64, 65536) * (1 << bp >> 1))
@@ -29,10 +29,10 @@ def by_parts(registers, size):
 
 
 def by_blocks(bits, top_bit=None, register=0):
-    """Returns a function for the range of 2^(BP-1) blocks of 64 KiB (Macronix, Micron, ISSI, Eon).
+    """Returns a function that returns the protected range: 2^(BP-1) blocks of 64 KiB (Macronix, Micron, ISSI, Eon).
 
     `bits` are the positions of BP0, BP1 and so on in status 1. The range is at the end of the chip, or at its start if
-    the bit `top_bit` of a register is set.
+    the bit `top_bit` of the register `register` is set.
     """
     def protected(registers, size):
         bp = sum((registers[0] >> at & 1) << place for place, at in enumerate(bits))
@@ -43,23 +43,27 @@ def by_blocks(bits, top_bit=None, register=0):
 
 
 def by_sixty_fourths(registers, size):
-    """Returns the range of BP2 to BP0, and TBPROT in bit 5 of the configuration register (S25FL128S)."""
+    """Returns the protected range for BP2 to BP0, and TBPROT in bit 5 of the configuration register (S25FL128S)."""
     length = size * [0, 1, 2, 4, 8, 16, 32, 64][registers[0] >> 2 & 7] // 64
     return (0, length) if registers[1] & 0x20 else (size - length, size)
 
 
 def with_own_locks(registers, size):
-    """Returns the range if the bit 2 of status 3 (WPS of Winbond) says that each block has its own lock."""
+    """Returns the whole chip if bit 2 of status 3 is set, else the range of `by_parts`.
+
+    The bit (WPS of Winbond) says that each block has its own lock, and here all blocks are then locked.
+    """
     return (0, size) if registers[2] & 0x04 else by_parts(registers, size)
 
 
 class Description(NamedTuple):
-    """What the datasheet says of a chip. `sources` are its sections.
+    """The facts about a chip from its datasheet. `sources` names the sections.
 
-    An opcode's action has the name of a method of `Model`, without `do_`, and its arguments. The registers are status
-    1, status 2 or the configuration register, and status 3: their values from the factory, which of their bits a status
-    write changes, and which of these it can only set. The bits `errors` of status 1 are set by a refused program and a
-    refused erase, and then the chip stays busy. `idle` are the opcodes that a busy chip carries out, too.
+    `opcodes` maps an opcode to its action: the name of a method of `Model` without `do_`, and its last arguments. The
+    three registers are status 1, status 2 or the configuration register, and status 3. `registers` are their values
+    from the factory, `writable` the bits that a status write changes, and `once` the bits that it can only set. A
+    refused program sets the bits `errors[0]` of status 1, and a refused erase `errors[1]`; if there are any, the chip
+    then stays busy. `idle` are the opcodes that a busy chip carries out, too.
     """
 
     name: str
@@ -72,13 +76,14 @@ class Description(NamedTuple):
     registers: tuple = (0, 0, 0)
     writable: tuple = (0xFC, 0, 0)
     once: tuple = (0, 0, 0)
-    # What follows the ID. `None`: the ID again.
+    # The bytes after the ID in the reply to 9Fh. `None` means that the ID is repeated.
     after_id: bytes = None
     unique: bytes = b""
     protected: object = by_parts
     has_srp1: bool = False
     errors: tuple = (0, 0)
-    # The bits of status 1 that show BUSY, and those of the registers that are set after each power-up.
+    # The bits of status 1 that are set while the chip is busy, and the bits of each register that are set after
+    # power-up.
     busy: int = BUSY
     power_up: tuple = (0, 0, 0)
     leaves_qpi: tuple = ()
@@ -86,7 +91,7 @@ class Description(NamedTuple):
 
 
 class Model:
-    """A chip by its description, with its data. `floating` is the level of a line that nobody drives, as a byte."""
+    """A chip with a description `it` and its data. `floating` (FFh or 00h) is received if nothing drives the line."""
 
     def __init__(self, it, data, registers=None, floating=0xFF, wp_low=False):
         if len(data) != it.size:
@@ -95,20 +100,20 @@ class Model:
         self.size = it.size
         self.status = bytearray(registers or it.registers)
         self.wel = self.is_asleep = self.is_in_qpi = self.is_armed = self.has_four = self.is_stuck = False
-        # The number of lines of a continuous read, 2 or 4, or 0.
+        # The number of lines of a continuous read (2 or 4), or 0 if none is in progress.
         self.lines = 0
-        # The samples of status 1 that show BUSY, and what is in progress until then: the address and the bytes before a
-        # program or an erase, or the registers before a status write.
+        # `left` is the number of reads of status 1 that still show BUSY. Until then, `changing` is the address and the
+        # former bytes of a program or an erase, and `writing` the registers before a status write.
         self.left, self.changing, self.writing, self.is_erase = 0, None, None, False
         self.ignored, self.chance = [], random.Random(it.name)
         self.count_anew()
 
     def count_anew(self):
-        """Counts operations from 1 again, and the polls after each of them."""
+        """Resets the number of operations, and that of the polls after the last one."""
         self.operations = self.polls = 0
 
     def lose_power(self):
-        """Interrupts what is in progress, and sets all volatile bits to their values after power-up."""
+        """Interrupts the operation in progress, and sets all volatile bits to their values after power-up."""
         self.tear()
         if self.it.has_srp1 and not self.status[0] & 0x80:
             self.status[1] &= ~1
@@ -118,7 +123,10 @@ class Model:
         self.lines = 0
 
     def tear(self):
-        """Interrupts the operation: an erase leaves any bytes, a program or a status write some of its bits."""
+        """Interrupts the operation in progress.
+
+        An erase leaves random bytes. A program or a status write has changed only some of its bits.
+        """
         if self.left and self.changing:
             start, before = self.changing
             after = self.data[start : start + len(before)]
@@ -135,7 +143,7 @@ class Model:
         return self.left > 0 or self.is_stuck
 
     def transfer(self, out, replies):
-        """Carries out one transaction, and returns the bytes received."""
+        """Carries out one transaction, and returns the bytes that the programmer receives."""
         if out[:1] == b"\x05":
             self.polls += 1
         if self.is_in_qpi:
@@ -156,9 +164,10 @@ class Model:
         return bytes([self.floating]) * replies
 
     def in_qpi(self, out, replies):
-        """Takes four lines in each clock, as QPI does: WP# and HOLD# are high, one floats, and one has the bit sent.
+        """Receives a transaction in QPI mode, in which each clock carries four bits.
 
-        So the first two bits sent are the low bits of the two digits of an opcode.
+        WP# and HOLD# are high, the line to the programmer floats, and the fourth line has the bit sent. The first two
+        bits sent are therefore the low bits of the two digits of the opcode. An opcode of `leaves_qpi` ends the mode.
         """
         digits = [0xC | (self.floating & 1) << 1 | out[0] >> at & 1 for at in (7, 6)]
         if digits[0] << 4 | digits[1] in self.it.leaves_qpi:
@@ -166,10 +175,11 @@ class Model:
         return self.ignore(out, replies)
 
     def in_continuous_read(self, out, replies):
-        """Takes an address and mode bits, and returns data, all on two or four lines (W25Q64FV: BBh, EBh).
+        """Receives an address and mode bits, and returns data, all on two or four lines (W25Q64FV: BBh, EBh).
 
-        The first line has the bits sent (0 while the programmer receives), the second one floats until data follows,
-        and WP# and HOLD# are high. If mode bits 5 and 4 aren't 1 and 0, the next transaction begins with an opcode.
+        The first line has the bits sent (0 while the programmer receives). The second line floats until the data
+        begins. WP# and HOLD# are high. If mode bits 5 and 4 aren't 1 and 0, the continuous read ends with this
+        transaction.
         """
         lines, floats = self.lines, self.floating & 1
         sent = [byte >> at & 1 for byte in out + bytes(replies) for at in range(7, -1, -1)]
@@ -187,12 +197,15 @@ class Model:
         return bytes(sum(bit << 7 - at for at, bit in enumerate(shown[it : it + 8])) for it in range(0, len(shown), 8))
 
     def stream(self, out, replies, header, byte_at):
-        """Returns what is received if bytes follow a header of this length. `byte_at` returns a number of them."""
+        """Returns the reply to a transaction whose data begins after a header of this length. Before, the line floats.
+
+        `byte_at(at, count)` returns `count` bytes of the data, from the position `at` on.
+        """
         early = min(replies, max(0, header - len(out)))
         return bytes([self.floating]) * early + byte_at(max(0, len(out) - header), replies - early)
 
     def address(self, sent):
-        """Returns the address of a transaction, of three or four bytes; the chip takes no higher bits than it needs."""
+        """Returns the address in a transaction: three bytes, or four in four-byte mode, modulo the chip's size."""
         return int.from_bytes(sent[1 : 5 if self.has_four else 4], "big") % self.size
 
     def do_id(self, out, replies, header=1):
@@ -202,7 +215,7 @@ class Model:
             count, bytes([self.floating])))
 
     def do_status(self, out, replies, register):
-        """Returns samples of a register. Each sample of status 1 is one poll of the operation in progress."""
+        """Returns a register, which is read again for each byte. Each read of status 1 shortens the busy time."""
         found = bytearray()
         for _ in range(len(out) - 1 + replies):
             value = self.status[register]
@@ -227,7 +240,7 @@ class Model:
         return self.stream(out, replies, 5, lambda at, count: self.it.sfdp[start + at :][:count].ljust(count, b"\xff"))
 
     def do_unique(self, out, replies, header=5, addressed=False):
-        """Returns the unique ID, or the one-time area, after the dummy bytes. Then it follows again."""
+        """Returns the unique ID, or the one-time area from the sent address on. The bytes repeat at the end."""
         start = int.from_bytes((out + bytes(replies))[1:4], "big") if addressed else 0
         found = self.it.unique
         return self.stream(out, replies, header, lambda at, count: bytes(
@@ -238,7 +251,7 @@ class Model:
         return self.stream(out, replies, 4, lambda at, count: bytes([number]) * count)
 
     def alone(self, out, replies):
-        """Returns whether the opcode was the whole transaction. Otherwise the chip ignores it."""
+        """Returns whether the transaction is only an opcode. If it isn't, the chip ignores the transaction."""
         if len(out) == 1 and not replies:
             return True
         self.ignore(out, 0)
@@ -254,7 +267,7 @@ class Model:
         return bytes([self.floating]) * replies
 
     def do_qpi(self, out, replies):
-        """Enters QPI at the eighth clock. The rest of the transaction is lost."""
+        """Enters QPI mode after the opcode. The chip ignores the rest of the transaction."""
         self.is_in_qpi = True
         return bytes([self.floating]) * replies
 
@@ -273,14 +286,14 @@ class Model:
         return bytes([self.floating]) * replies
 
     def do_clear(self, out, replies):
-        """Clears the error bits of an operation that was refused (30h of S25FL128S)."""
+        """Clears WEL and the error bits of a refused operation, which ends the busy state (30h of S25FL128S)."""
         if self.alone(out, replies):
             self.status[0] &= ~(self.it.errors[0] | self.it.errors[1])
             self.is_stuck = self.wel = False
         return bytes([self.floating]) * replies
 
     def do_write(self, out, replies, registers, clears=False):
-        """Writes registers, of which the first may be sent without the others; with `clears` these become 0."""
+        """Writes the sent bytes to the first registers. The other registers become 0 if `clears`, else stay."""
         sent = out[1:] + bytes(replies)
         locked = self.status[0] & 0x80 and self.wp_low or self.it.has_srp1 and self.status[1] & 1
         if not self.wel or locked or not 1 <= len(sent) <= len(registers):
@@ -307,7 +320,7 @@ class Model:
         return bytes([self.floating]) * replies
 
     def do_erase(self, out, replies, length, first=0, after=1 << 32):
-        """Erases a block. An erase of an address that isn't from `first` to before `after` is ignored."""
+        """Erases the block of an address. An erase of an address below `first`, or not below `after`, is ignored."""
         start = self.address(out)
         if not self.wel or len(out) != 4 + self.has_four or replies or not first <= start < after:
             return self.ignore(out, replies)
@@ -315,7 +328,7 @@ class Model:
         return b""
 
     def do_erase_in(self, out, replies, lengths):
-        """Erases the block of an address, whose length depends on the first region that ends after the address."""
+        """Erases the block of an address. `lengths` has the end of each region, and the length of its blocks."""
         address = self.address(out)
         return self.do_erase(out, replies, next(length for after, length in lengths if address < after))
 
@@ -334,7 +347,7 @@ class Model:
         return b""
 
     def change(self, out, start, new, is_erase):
-        """Stores bytes, unless one of them is protected."""
+        """Stores bytes, unless one of their addresses is protected. If one is, sets the chip's error bits."""
         first, after = self.it.protected(self.status, self.size)
         if max(start, first) < min(start + len(new), after):
             self.ignore(out, 0)
@@ -346,16 +359,16 @@ class Model:
         self.begin("erase" if is_erase else "program")
 
     def begin(self, kind):
-        """Sets BUSY for some samples of status 1. WEL is clear when it ends."""
+        """Starts an operation. A number of reads of status 1 show BUSY, and then WEL is cleared."""
         self.operations, self.polls = self.operations + 1, 0
         self.left = SAMPLES[kind]
 
 
-# The actions that change the chip, or what it takes its next bytes for.
+# The actions that change the chip, or what the chip takes the next transactions for.
 CHANGING = ("latch", "write", "program", "erase", "erase_in", "unlock", "chip_erase", "sleep", "qpi", "arm", "reset",
             "four", "clear")
 
 
 def action_of(it, out):
-    """Returns the name of the action that a chip carries out for these bytes, or `None`."""
+    """Returns the name of the action of the transaction `out`, or `None` if the chip doesn't know the opcode."""
     return it.opcodes[out[0]][0] if out and out[0] in it.opcodes else None

@@ -1,14 +1,18 @@
-"""Cases of programmers with small limits, whose programs and reads are split."""
+"""These cases use programmers that limit the bytes of a transaction, so that page programs and reads are split."""
 import reference
 from bench import check
 from losses import FEW, chip_images
 
-# Limits of a transaction's bytes: those that it sends, and those that it receives.
+# A pair has the greatest number of bytes that a transaction may send, and the greatest number that it may receive.
 LIMITS = ((5, 65536), (64, 4096), (256, 256), (259, 259), (260, 64), (64, 8))
 
 
 def check_parts(bench, plan):
-    """Checks that the programs of the last run are parts of those of a plan, each with its write enable and its polls."""
+    """Checks that the page programs of the last run write the bytes of the plan's page programs, in their order.
+
+    Each page program must follow a write enable (06h), must be followed by a poll (05h), and must stay within one page.
+    No transaction may exceed the programmer's limits.
+    """
     wanted = [(int.from_bytes(out[1:4], "big") + at, byte) for out, _ in plan if out[0] == 0x02
               for at, byte in enumerate(out[4:])]
     log = bench.server.log
@@ -26,7 +30,10 @@ def check_parts(bench, plan):
 
 
 def splits_transactions(start):
-    """A programmer with small limits writes and restores a chip. The lines, and the journal, are as with any other."""
+    """Checks that a session and its restore work with each pair of LIMITS.
+
+    The printed lines and the journal must be as with a programmer that has no limits.
+    """
     old, new = chip_images(FEW)
     for longest_write, longest_read in LIMITS:
         bench = start(data=old, longest_write=longest_write, longest_read=longest_read)
@@ -43,7 +50,7 @@ def splits_transactions(start):
 
 
 def splits_on_a_busy_chip(start):
-    """Each part waits until the one before it has ended."""
+    """Checks that no part of a split page program is sent while the chip is still busy with the part before it."""
     old, new = chip_images(FEW)
     bench = start(data=old, scale=1.0, longest_write=8, longest_read=512)
     bench.write("new", new)
@@ -54,7 +61,7 @@ def splits_on_a_busy_chip(start):
 
 
 def restores_parts(start):
-    """A run that was killed, or lost a reply, between the parts of a program can be undone."""
+    """Checks that a restore undoes a session that was killed, or lost a reply, between two parts of a page program."""
     old, new = chip_images(FEW)
     traits = {"longest_write": 7, "longest_read": 4096}
     bench = start(data=old, **traits)

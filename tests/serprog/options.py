@@ -1,7 +1,7 @@
-"""Cases of each option: what is printed, what is sent, and what the chip and the files hold afterwards.
+"""These cases test each option: what the program prints and sends, and what the chip and the files hold afterwards.
 
-Expected lines are those that docs/SPECIFICATION.md states. Numbers of transactions are those of reference.py, or are
-counted by hand: the engine sends TINY64 5 transactions for a probe, 7 for an identification, and 16 for a scan.
+The numbers of transactions are those of reference.py, or are counted by hand: on TINY64 the engine sends 5 transactions
+for a probe, 7 for an identification, and 16 for a scan.
 """
 import random
 
@@ -16,7 +16,10 @@ LAYOUT = b"0:fff first\n8000:ffff upper\n1001:1001 byte\n"
 
 
 def images(seed, numbers=(1, 2, 7, 15)):
-    """Returns two images of TINY64 that differ in these sectors; in the first of them only bits fall."""
+    """Returns two images of TINY64 that differ in these sectors.
+
+    Sector 1 of the first image is blank, so a change of this sector needs no erase. Any other change needs one.
+    """
     chance = random.Random(seed)
     old = bytearray(chance.randbytes(SIZE))
     old[SECTOR : 2 * SECTOR] = b"\xff" * SECTOR
@@ -28,7 +31,7 @@ def images(seed, numbers=(1, 2, 7, 15)):
 
 
 def identifies(start):
-    """Without an operation each chip is identified, by the table or by its SFDP."""
+    """Checks that a run without an operation identifies TINY64 by its SFDP, and the other two chips by their IDs."""
     for part in "TINY64", "W25Q64FV", "W25Q128FV":
         bench = start(part)
         bench.expect(out=[reference.found(part)])
@@ -36,7 +39,10 @@ def identifies(start):
 
 
 def identifies_further_chips(start):
-    """The further chips are identified by their ID, and -c takes their names. A name of another chip is error 3."""
+    """Checks that the program identifies each chip in FURTHER by its ID, and that -c accepts the name of this chip.
+
+    A run with -c and the name of another chip ends with error 3.
+    """
     for part in FURTHER:
         bench = start(part)
         bench.expect("-c", part, out=[reference.found(part)])
@@ -47,10 +53,10 @@ def identifies_further_chips(start):
 
 
 def sets_the_clock(start):
-    """spispeed= sets the clock by S_SPI_FREQ before the first transaction. Without it the clock isn't set.
+    """Checks that spispeed= sets the clock with S_SPI_FREQ before the first transaction, and that nothing else sets it.
 
-    A number with leading zeros is decimal, unlike in flashrom, which takes it for an octal one. As in flashrom, k and M
-    multiply it by 1,000 and 1,000,000. A line says if the programmer sets a higher clock.
+    A number with leading zeros is decimal. (flashrom reads it as octal.) As in flashrom, k and M multiply the number by
+    1,000 and 1,000,000. If the programmer sets a higher clock, the program prints a line about it.
     """
     bench = start()
     for speed, hertz in (
@@ -71,7 +77,7 @@ def sets_the_clock(start):
 
 
 def selects_a_chip(start):
-    """cs= selects one of the chips of a programmer by S_SPI_CS, before the first transaction."""
+    """Checks that cs= selects one of the programmer's chips with S_SPI_CS."""
     bench = start(selects=3)
     bench.expect(keys=",cs=2", out=[reference.found("TINY64")])
     check("S_SPI_CS", [it for it in bench.server.commands if it[0] == 0x16], [(0x16, b"\x02")])
@@ -81,7 +87,10 @@ def selects_a_chip(start):
 
 
 def keeps_to_the_protocol(start):
-    """Only NOP, SYNCNOP and Q_IFACE are sent before Q_CMDMAP, then only commands that the map has; SPI is selected."""
+    """Checks that the program sends only NOP, SYNCNOP and Q_IFACE before Q_CMDMAP, and later only commands in the map.
+
+    The program must also select SPI with S_BUSTYPE, and turn the programmer's pins on once with S_PIN_STATE.
+    """
     bench = start(lacks=(0x03, 0x04), buses=0x0F)
     bench.expect(out=[reference.found("TINY64")])
     opcodes = [it[0] for it in bench.server.commands]
@@ -94,7 +103,7 @@ def keeps_to_the_protocol(start):
 
 
 def names_the_chip(start):
-    """-c takes each name of the chip that is there, in upper or lower case, and another one is error 3."""
+    """Checks that -c accepts each name of the chip, in upper or lower case, and that any other name is error 3."""
     for part in "W25Q64FV", "W25Q128FV", *FURTHER:
         bench = start(part)
         for name in part, part.lower(), part.replace("Q", "q"), part[:5] + part[5:].lower():
@@ -122,7 +131,7 @@ def names_the_chip(start):
 
 
 def reads(start):
-    """-r writes all bytes of the chip into a file."""
+    """Checks that -r writes all bytes of the chip into a file."""
     old, _ = images("reads")
     bench = start(data=old)
     bench.expect("-r", "out", out=[reference.found("TINY64"), "Read 65536 bytes."])
@@ -131,7 +140,10 @@ def reads(start):
 
 
 def reads_regions(start):
-    """-r with -l and -i reads only the sectors of the regions, and the file has FFh elsewhere."""
+    """Checks that -r with -l and -i reads only the sectors of the included regions.
+
+    All other bytes of the file are FFh.
+    """
     old, _ = images("reads_regions")
     bench = start(data=old)
     bench.write("layout", LAYOUT)
@@ -142,7 +154,10 @@ def reads_regions(start):
 
 
 def reads_inside(start):
-    """No read reaches past the end of the chip, nor is longer than the programmer allows."""
+    """Checks that no read extends past the end of the chip, and that none is longer than the programmer allows.
+
+    A limit of 0 means that the programmer has none.
+    """
     size, old = 1 << 23, random.Random("reads_inside").randbytes(1 << 23)
     for longest, sectors in (65536, 40), (65536, 3), (5000, 9), (9000, 9), (20000, 21), (0, 33):
         bench = start("W25Q64FV", data=old, longest_read=longest)
@@ -158,13 +173,13 @@ def reads_inside(start):
 
 
 def verifies(start):
-    """-v compares, and error 14 has the first address that differs."""
+    """Checks that -v compares the chip with an image, and that error 14 has the first address at which they differ."""
     old, new = images("verifies")
     bench = start(data=old)
     bench.write("same", old)
     bench.write("other", old[:0x1234] + bytes([old[0x1234] ^ 1]) + new[0x1235:])
     bench.expect("-v", "same", out=[reference.found("TINY64"), "Verified."])
-    # What equals the image is read once.
+    # The program reads sectors that equal the image only once. Its five reads have 1, 2, 4, 8 and 1 sectors.
     plan = reference.probe("TINY64") + [reference.read_sector(it) for it in range(16)]
     bench.check_frames(plan)
     check("reads", sum(out[0] == 0x03 for out, _ in bench.server.log[bench.first() - 1 :]), 5)
@@ -173,7 +188,7 @@ def verifies(start):
 
 
 def verifies_regions(start):
-    """-v with -l and -i compares only the regions."""
+    """Checks that -v with -l and -i compares only the included regions."""
     bench = start(data=FREE)
     bench.write("layout", LAYOUT)
     bench.write("image", b"\xff" * 0x1000 + b"\0" * 0x7000 + FREE[0x8000:])
@@ -182,7 +197,10 @@ def verifies_regions(start):
 
 
 def writes(start):
-    """-w writes an image, with the journal of the original chip; what is sent is what the specification states."""
+    """Checks that -w writes an image with exactly the specified transactions.
+
+    The journal saves the sectors that change.
+    """
     for numbers in ((1, 2, 7, 15), range(16), (0,), range(8, 16)):
         old, new = images(f"writes {numbers}", numbers)
         bench = start(data=old)
@@ -195,7 +213,7 @@ def writes(start):
 
 
 def writes_without_verification(start):
-    """-n leaves out the last reads, and a line says so."""
+    """Checks that -n omits the reads that verify the changed sectors, and that a line reports this."""
     old, new = images("writes_without_verification")
     bench = start(data=old)
     bench.write("new", new)
@@ -207,7 +225,10 @@ def writes_without_verification(start):
 
 
 def leaves_out_the_comparison(start):
-    """-N leaves out the comparison after -w and -E, and not the last reads of the session. -n leaves out both."""
+    """Checks that -N omits only the comparison of the whole chip after -w and -E.
+
+    With -n and -N the reads that verify the changed sectors are omitted, too.
+    """
     old, new = images("leaves_out_the_comparison")
     last = ["Nothing was verified (-n)."]
     for words, verifies, lines in (("-N",), True, []), (("--noverify-all",), True, []), (("-n", "-N"), False, last):
@@ -222,7 +243,10 @@ def leaves_out_the_comparison(start):
 
 
 def refuses_needless_options(start):
-    """-N needs -w, -E or --restore, and --quick needs --restore: usage fault 8, and nothing is sent."""
+    """Checks that an option which its operation doesn't allow is usage fault 8, and that nothing is sent.
+
+    -N needs -w, -E or --restore, -n needs -w or -E, and --quick needs --restore.
+    """
     bench = start()
     bench.write("new", FREE)
     change = "--wp-range", "0,0", "--journal", "j"
@@ -235,7 +259,10 @@ def refuses_needless_options(start):
 
 
 def restores_quickly(start):
-    """--restore --quick reads the saved sectors, and erases and programs only those that differ."""
+    """Checks that --restore --quick reads the saved sectors, and rewrites only those that differ from the journal.
+
+    Before each restore, the sectors in `equal` have their saved bytes.
+    """
     old, new = images("restores_quickly")
     bench = start(data=old)
     bench.write("new", new)
@@ -257,7 +284,7 @@ def restores_quickly(start):
 
 
 def writes_regions(start):
-    """-w with -l and -i changes only the regions; other bytes of their sectors stay."""
+    """Checks that -w with -l and -i changes only the included regions, and keeps the other bytes of their sectors."""
     old, _ = images("writes_regions")
     image = bytes(byte ^ 0x55 for byte in old)
     new = old[:0x1001] + image[0x1001:0x1002] + old[0x1002:]
@@ -273,7 +300,10 @@ def writes_regions(start):
 
 
 def random_images(chance):
-    """Returns two random images of TINY64: sectors that stay, lose bits, gain bits, are erased or are replaced."""
+    """Returns two random images of TINY64.
+
+    In each sector, a random range of bytes keeps its bytes, loses bits, gains bits, becomes blank, or is replaced.
+    """
     old = bytearray(chance.randbytes(SIZE))
     for number in chance.sample(range(16), 6):
         old[number * SECTOR : (number + 1) * SECTOR] = b"\xff" * SECTOR
@@ -289,7 +319,10 @@ def random_images(chance):
 
 
 def writes_at_random(start):
-    """-w of random images sends what the specification states, and its journal restores the original chip."""
+    """Checks that -w of random images sends exactly the specified transactions.
+
+    The journal restores the original chip.
+    """
     chance = random.Random("writes_at_random")
     for _ in range(6):
         old, new = random_images(chance)
@@ -308,7 +341,7 @@ def writes_at_random(start):
 
 
 def writes_large_chips(start):
-    """-w on the chips of the table uses erases of 4, 32 and 64 KiB, and the addresses of the whole chip."""
+    """Checks -w on W25Q64FV and W25Q128FV with erases of 32 and 64 KiB, and a change of the chip's last byte."""
     for part in "W25Q64FV", "W25Q128FV":
         size = 1 << 23 if part == "W25Q64FV" else 1 << 24
         old = bytearray(b"\xff" * size)
@@ -325,7 +358,7 @@ def writes_large_chips(start):
 
 
 def changes_nothing(start):
-    """A chip that holds the image already is only read, and its journal saves no sector."""
+    """Checks that -w only reads a chip that already holds the image, and that the journal then saves no sector."""
     old, _ = images("changes_nothing")
     bench = start(data=old)
     bench.write("new", old)
@@ -336,7 +369,7 @@ def changes_nothing(start):
 
 
 def erases(start):
-    """-E erases the chip, by one chip erase if each sector needs it."""
+    """Checks that -E sends one chip erase (C7h) if each sector needs an erase."""
     old = bytes(SIZE)
     bench = start(data=old)
     bench.expect("-E", "--journal", "j", out=[
@@ -347,7 +380,7 @@ def erases(start):
 
 
 def erases_regions(start):
-    """-E with -l and -i erases only the regions, with as few erases as possible."""
+    """Checks that -E with -l and -i erases only the included regions, with as few erases as possible."""
     bench = start(data=bytes(SIZE))
     bench.write("layout", LAYOUT)
     new = b"\xff" * 0x1000 + b"\0" * 0x7000 + b"\xff" * 0x8000
@@ -357,7 +390,7 @@ def erases_regions(start):
     numbers = [0, *range(8, 16)]
     plan = reference.session("TINY64", bytes(SIZE), new, numbers)
     bench.check_frames(reference.whole_run("TINY64", plan, True, True))
-    # The sector that was read last is read again after the erase.
+    # The verification must read this sector again after the erase, although no other data was read in between.
     bench = start(data=bytes(SIZE))
     bench.write("layout", LAYOUT)
     bench.expect("-E", "-l", "layout", "-i", "first", "--journal", "j", out=[
@@ -367,7 +400,7 @@ def erases_regions(start):
 
 
 def prints_the_size(start):
-    """--flash-size prints the size in bytes, and nothing else."""
+    """Checks that --flash-size prints only the size in bytes."""
     for part, size in ("TINY64", "65536"), ("W25Q64FV", "8388608"), ("W25Q128FV", "16777216"):
         bench = start(part)
         bench.expect("--flash-size", out=[size])
@@ -375,7 +408,10 @@ def prints_the_size(start):
 
 
 def shows_protection(start):
-    """--wp-status prints the protected range, and whether it is locked."""
+    """Checks that --wp-status prints the protected range, whether the status is locked, and the status bytes.
+
+    Without known protection bits, the run ends with error 6.
+    """
     bench = start("W25Q64FV")
     for status, protected, mode in (("0440", "0x000000,0x7e0000", "open"), ("8400", "0x7e0000,0x020000", "locked"),
                                     ("5800", "undefined", "open"), ("1c01", "0x000000,0x800000", "locked"),
@@ -390,7 +426,11 @@ def shows_protection(start):
 
 
 def offered_ranges(size):
-    """Returns each range of such a chip that can be protected once, in the order of the least bits that select it."""
+    """Returns the ranges that a chip of this size can protect, each once.
+
+    The ranges are in ascending order of the lowest number that the protection bits form for a range (CMP, SEC, TB, BP2,
+    BP1, BP0, the highest bit first).
+    """
     seen = []
     for bits in range(64):
         if bits & 0x17 != 0x16:
@@ -401,7 +441,7 @@ def offered_ranges(size):
 
 
 def lists_ranges(start):
-    """--wp-list prints each range that can be protected once, in the order of the least bits that select it."""
+    """Checks that --wp-list prints the ranges of `offered_ranges` in their order, or error 6 if no bits are known."""
     for part, size in ("W25Q64FV", 1 << 23), ("W25Q32FV", 1 << 22):
         seen = offered_ranges(size)
         check("ranges", len(seen), 40)
@@ -410,7 +450,10 @@ def lists_ranges(start):
 
 
 def protects(start):
-    """--wp-range protects exactly a range, and its journal restores the protection bits."""
+    """Checks that --wp-range protects exactly the given range, and that its journal restores the protection bits.
+
+    A range that the chip can't protect is error 8, and no journal is created.
+    """
     bench = start("W25Q64FV", status=b"\x04\x40")
     bench.expect("--wp-range", "0,0x800000", "--journal", "j", out=[
         "Found W25Q64FV (ef4017), 8388608 bytes.", "Done: touched 0, erases 0, programs 0, transactions 7.",
@@ -428,7 +471,10 @@ def protects(start):
 
 
 def last_lines(plan):
-    """Returns the last plain lines of the steps of a change with this plan: those whose last number wasn't shown."""
+    """Returns the lines that plain progress prints at the end of a change with this plan.
+
+    Each step ends with a line with the number of its commands, unless its last line already had this number.
+    """
     changes = [out[0] for out, _ in plan[next(at for at, it in enumerate(plan) if it[0][0] in reference.CHANGING) :]]
     counts = (("erase", sum(it in (*ERASES, 0xC7) for it in changes), 16, "erase"),
               ("program", changes.count(0x02), 256, "page"), ("read back", changes.count(0x03), 256, "sector"))
@@ -436,16 +482,17 @@ def last_lines(plan):
 
 
 def counted(step, number, noun):
-    """Returns the plain line of a step with this number of operations."""
+    """Returns the line of plain progress that a step prints after `number` commands."""
     return f"{step}: {number} {noun}{'s' * (number != 1)}"
 
 
 def shows_progress(start):
-    """On a terminal each step has a line, and what a session or restore will change has one before the first change."""
+    """Checks the lines of plain progress: those of each step, and one that counts the planned changes."""
     old, new = images("shows_progress")
     bench = start(data=old)
     bench.write("new", new)
-    # Sector 1 is blank, so it is programmed without an erase, but read again before. The restore must erase it.
+    # Sector 1 is blank. The session reads this sector again and programs it without an erase, but the restore must
+    # erase it.
     journal = 25 + 4 * 4100 + 36
     bench.expect_at_terminal("-w", "new", "--journal", "j", lines=[
         "identify", "scan: sector 1 of 16", f"Sectors to change: 4. Erases: 3. Bytes of journal: {journal}.",
@@ -479,7 +526,10 @@ def shows_progress(start):
 
 
 def shows_long_progress(start):
-    """After the first one, each 256th sector or page and each 16th erase has a line. Status writes are a step, too."""
+    """Checks that a step prints a line of plain progress at its first command and after every 256 more (16 for erases).
+
+    Status writes are a step of their own (protect).
+    """
     old = bytearray(b"\x5a" * (1 << 23))
     bench = start("W25Q64FV", data=bytes(old))
     for number in range(0, 34 * 32, 32):
@@ -498,7 +548,10 @@ def shows_long_progress(start):
 
 
 def shows_what_a_power_loss_means(start):
-    """A line before SEALED says what a loss of power means for SRP1, and for QE if the status is written."""
+    """Checks the lines that say, before the first change, what a loss of power would do to SRP1 and QE.
+
+    A line names SRP1 if SRP1 is set and SRP0 is clear. A line names QE if QE is set and the run will write the status.
+    """
     srp1 = "Keep its power on: a loss of power clears SRP1, and a restore then ends with error 17."
     quad = "Keep its power on: a status write that is cut off may clear QE, and a restore doesn't set it again."
     old, new = images("shows_what_a_power_loss_means")
@@ -521,7 +574,7 @@ def shows_what_a_power_loss_means(start):
         bench.expect_at_terminal("--wp-range", "0,0x800000", "--journal", "k", lines=[
             "identify", "Sectors to change: 0. Erases: 0. Bytes of journal: 61.", *lines, reference.sealed("k"),
             "protect: 1 status write"])
-    # A restore that needs no status write has no line on QE.
+    # A restore prints the line about QE only if it writes the status.
     for status, after, lines in ((b"\0\2", b"\0\2", []), (b"\x1c\2", b"\0\2", [quad]), (b"\x20\2", b"\0\2", [quad]),
                                  (b"\0\2", b"\x1c\2", [quad])):
         bench = start("W25Q64FV", data=large, status=after)
@@ -533,7 +586,10 @@ def shows_what_a_power_loss_means(start):
 
 
 def takes_long_names(start):
-    """Each option with a letter has flashrom's long name, too; both together are usage fault 1."""
+    """Checks that the options with a letter have flashrom's long names, too.
+
+    A command with a letter and its long name ends with usage fault 1.
+    """
     old, new = images("takes_long_names")
     bench = start(data=old)
     bench.write("layout", LAYOUT)
@@ -562,7 +618,7 @@ def takes_long_names(start):
 
 
 def prints_the_version(start):
-    """-R and --version print the program's name and version, and need no -p; the first of them and -h counts."""
+    """Checks that -R and --version print the program's name and version without -p, and ignore later arguments."""
     bench = start()
     for words in ("--version",), ("-R",), ("--version", "-p", "x"), ("-R", "-r"), ("--version", "--help"):
         bench.server.begin({})
@@ -572,7 +628,7 @@ def prints_the_version(start):
 
 
 def prints_the_name(start):
-    """--flash-name prints only the name of the chip, which -c takes."""
+    """Checks that --flash-name prints only the chip's name, and that -c accepts this name."""
     for part, name in ("TINY64", "SFDP"), ("W25Q64FV", "W25Q64FV"), ("W25Q128FV", "W25Q128FV"):
         bench = start(part)
         bench.expect("--flash-name", "-c", name, out=[name])
@@ -584,7 +640,7 @@ def prints_the_name(start):
 
 
 def takes_modes_of_progress(start):
-    """--progress takes one of three words, and any other one is usage fault 5."""
+    """Checks that --progress accepts auto, plain and none, and that any other mode is usage fault 5."""
     bench = start()
     for mode in "auto", "plain", "none":
         got = bench.run("--progress", mode)
@@ -596,7 +652,7 @@ def takes_modes_of_progress(start):
 
 
 def needs_its_output(start):
-    """If a line can't be printed, standard error says so, the exit status is 1, and the job is done nevertheless."""
+    """Checks that a run whose standard output is full does its job, reports file fault 2, and has exit status 1."""
     old, new = images("needs_its_output")
     bench = start(data=old)
     bench.write("new", new)

@@ -1,6 +1,7 @@
-"""Cases of a serial port that isn't raw, and of the command that sets it up.
+"""These cases test serial ports that aren't raw, and the script that makes a port raw before it runs the program.
 
-The flags are those of stty(1) and termios(3). The terminal device of the programmer has them for both directions.
+The port is a pseudo-terminal with the flags of termios(3). Its input flags change bytes that the program receives, and
+its output flags change bytes that the program sends.
 """
 import os
 import shutil
@@ -15,7 +16,7 @@ from losses import FEW, chip_images
 from options import images
 
 SCRIPT = Path(__file__).resolve().parents[2] / "scripts" / "flashnor-serprog.sh"
-# The terminal settings of a program that talks to a person.
+# These input, output and local flags are usual for a terminal at which a person types.
 COOKED = (termios.ICRNL | termios.IXON, termios.OPOST | termios.ONLCR, termios.ICANON | termios.ISIG | termios.ECHO)
 CHANGES_SENT = f"Programmer fault 12: DEV changes bytes that are sent to the programmer. Disconnect the programmer from " \
     f"power for a second, connect it again, and set up the port: {STTY}"
@@ -27,7 +28,7 @@ def changes_received(lost, read_as):
 
 
 def set_flags(bench, received=0, sent=0, local=0, control=0):
-    """Adds flags to the settings of the programmer's port."""
+    """Sets these flags of the port in addition to those that are set: input, output, local and control flags."""
     settings = termios.tcgetattr(bench.server.device)
     for at, flags in enumerate((received, sent, control, local)):
         settings[at] |= flags
@@ -35,7 +36,10 @@ def set_flags(bench, received=0, sent=0, local=0, control=0):
 
 
 def refuses_a_port_that_changes_what_is_sent(start):
-    """A port that changes 0Dh or 0Ah on their way to the programmer is a fault, before the chip is identified."""
+    """Checks that a port that changes 0Dh or 0Ah on the way to the programmer is programmer fault 12.
+
+    The fault must occur at the first transaction, before the chip is identified, and no file may be created.
+    """
     old, new = images("refuses_a_port_that_changes_what_is_sent")
     for flags in termios.ONLCR, termios.OCRNL, termios.ONLCR | termios.OCRNL:
         bench = start(data=old, timeout=SOON)
@@ -52,7 +56,10 @@ def refuses_a_port_that_changes_what_is_sent(start):
 
 
 def notices_a_port_that_changes_what_is_received(start):
-    """If 0Dh is received as 0Ah, or the reverse, a read, a backup and a comparison are reported, and fail."""
+    """Checks that -r, --backup and -v end with programmer fault 13 if the port turns 0Dh into 0Ah, or 0Ah into 0Dh.
+
+    A chip that contains a text without 0Dh is read without a fault.
+    """
     old, _ = images("notices_a_port_that_changes_what_is_received")
     for flag, lost, read_as in (termios.ICRNL, 0x0D, 0x0A), (termios.INLCR, 0x0A, 0x0D):
         bench = start(data=old)
@@ -73,7 +80,10 @@ def notices_a_port_that_changes_what_is_received(start):
 
 
 def changes_nothing_with_wrong_data(start):
-    """A session whose data was changed on its way stops before the chip is changed. A restore is not stopped."""
+    """Checks that a session stops before its first modifying command if the port changes received bytes.
+
+    A restore isn't stopped. It restores the chip, but its verification reports error 14.
+    """
     old, new = chip_images(FEW)
     for flag, lost, read_as in (termios.ICRNL, 0x0D, 0x0A), (termios.INLCR, 0x0A, 0x0D):
         line = changes_received(f"{lost:02X}h", f"{read_as:02X}h")
@@ -95,19 +105,25 @@ def changes_nothing_with_wrong_data(start):
 
 
 def installed(bench):
-    """Installs the script and the program, as `make install` does, and returns the script."""
+    """Installs the script and the program in the bench's directory, as `make install` does.
+
+    Returns the script's path.
+    """
     script, program = bench.path("bin/flashnor-serprog"), bench.path("libexec/flashnor_serprog")
     for it in script, program:
         it.parent.mkdir()
     shutil.copy(SCRIPT, script)
-    # The stand-in has to be run where its modules are.
+    # The installed program runs the tested program in place, because a copy of stand_in.py wouldn't find its modules.
     program.write_text(f'#!/bin/sh\nexec "{bench.program}" "$@"\n')
     program.chmod(0o755)
     return script
 
 
 def run_script(bench, script, words, variables=None):
-    """Runs the script with these arguments, and returns how it ended. A run that takes a minute hangs."""
+    """Runs the script with these arguments, and returns the finished process.
+
+    A run of more than a minute fails the case.
+    """
     bench.server.begin({})
     try:
         return subprocess.run([script, *words], cwd=bench.folder, env={**os.environ, **(variables or {})},
@@ -117,7 +133,7 @@ def run_script(bench, script, words, variables=None):
 
 
 def raw_settings(bench):
-    """Returns whether the port has the settings that the program needs: its flags, and how long a read waits."""
+    """Returns whether the port's flags are those that the program needs, and the port's VMIN and VTIME."""
     found = termios.tcgetattr(bench.server.device)
     flags = found[0] & (COOKED[0] | termios.ISTRIP | termios.INLCR | termios.IGNCR) == 0 and found[1] & termios.OPOST == 0 \
         and found[3] & COOKED[2] == 0 and found[2] & (termios.HUPCL | termios.CLOCAL) == termios.CLOCAL
@@ -125,8 +141,10 @@ def raw_settings(bench):
 
 
 def sets_up_the_port(start):
-    """The command flashnor-serprog makes the port raw, whatever its settings were, and then runs the program. It finds
-    the port in each form of -p that the program accepts, also after flags in the same word."""
+    """Checks that the script flashnor-serprog makes the port raw, whatever its flags were, and then runs the program.
+
+    The script must find the port in each form of -p that the program accepts, even after other letters (-Vp).
+    """
     old, _ = images("sets_up_the_port")
     dev = "serprog:dev={},spispeed=1000000"
     for words in (("-p", dev), ("--programmer", dev), (f"--programmer={dev}",), (f"-p{dev}",), (f"-p={dev}",),
@@ -138,7 +156,7 @@ def sets_up_the_port(start):
         check(f"the run with {words}", (done.stderr if "V" not in words[0] else "", done.returncode), ("", 0))
         bench.check_file("out", old)
         check("raw, and the least bytes and tenths of a second of a read", raw_settings(bench), (True, 0, 50))
-    # These runs end with usage fault 8, since -r takes no -n and no -N.
+    # The program refuses -n and -N with -r (usage fault 8), but the script has set up the port before.
     for words in ("-nNVp", dev), (f"-Np{dev}",):
         bench = start(data=old)
         set_flags(bench, *COOKED)
@@ -148,7 +166,10 @@ def sets_up_the_port(start):
 
 
 def leaves_the_port(start):
-    """FLASHNOR_SERPROG_STTY=no leaves the port as it is. Without a port the program is run, and prints its own fault."""
+    """Checks that the script doesn't set up the port if the environment has FLASHNOR_SERPROG_STTY=no.
+
+    If -p names no terminal device, the script runs the program, which prints its own fault.
+    """
     old, _ = images("leaves_the_port")
     bench = start(data=old)
     script = installed(bench)
@@ -163,7 +184,7 @@ def leaves_the_port(start):
 
 
 def runs_nothing_if_the_port_stays_as_it_is(start):
-    """If stty can read the settings of the port, but not set them, or if there is no stty, nothing is run."""
+    """Checks that the script doesn't run the program if stty fails to set up the port, or if there is no stty."""
     bench = start()
     script, stty = installed(bench), bench.path("own/stty")
     stty.parent.mkdir()
@@ -173,7 +194,7 @@ def runs_nothing_if_the_port_stays_as_it_is(start):
                       {"PATH": f"{stty.parent}:{os.environ['PATH']}"})
     check("the run", (done.stdout, done.stderr, done.returncode), ("", "stty: no\n", 1))
     bench.check_nothing_sent()
-    # Without stty, the commands that the script needs are all that there is.
+    # PATH now has the other commands that the script needs, but no stty.
     stty.unlink()
     for name in "dirname", "readlink":
         (stty.parent / name).symlink_to(shutil.which(name))
@@ -184,7 +205,10 @@ def runs_nothing_if_the_port_stays_as_it_is(start):
 
 
 def finds_each_name_of_a_port(start):
-    """Commas separate the settings: `dev=` within a name is no key. A newline at the end of a name belongs to it."""
+    """Checks that the script finds a port whose name contains `dev=` or ends with a newline.
+
+    Only a comma ends a setting of -p, so `dev=` within a name is no key.
+    """
     old, _ = images("finds_each_name_of_a_port")
     for name in "dev=port", "a dev=", "port\n", "dev=\n":
         bench = start(data=old)
@@ -198,7 +222,10 @@ def finds_each_name_of_a_port(start):
 
 
 def runs_no_program_that_it_finds_by_chance(start):
-    """If the script can't find out where it is, nothing is run, also if the current directory has such a program."""
+    """Checks that the script runs no program if it can't determine its own directory, because `readlink` is missing.
+
+    A program with the name flashnor_serprog in the current directory must not be run.
+    """
     bench = start()
     script, tools = installed(bench), bench.path("own")
     tools.mkdir()

@@ -1,6 +1,7 @@
-"""Cases of printed lines: commands that may be copied, the words of the progress, and what is known of locks.
+"""These cases test printed lines: commands to copy, progress, locked status bits, reasons of the system, and logs.
 
-A command that the program prints is given to each shell that the machine has, and must give back the name of the file.
+A printed command must name the right file in each shell that the machine has. Some cases test which file a failed run
+removes, keeps or overwrites.
 """
 import os
 import re
@@ -24,12 +25,16 @@ LARGE = 1 << 23
 MEANWHILE = Path(__file__).parents[1] / "flashnor/meanwhile.c"
 NAMES = ["x';touch PWN;'", "it's", "'", "a b", "$(touch PWN)", "`touch PWN`", 'a"b', "a\\b", "*", "~", "#a", "!x", "-j",
          "\u00e9"]
-# Names that no command can have: with a newline, an escape sequence, or a C1 control character.
+# The program prints no command with one of these names, because they contain a newline, an escape sequence, a C1
+# control character, or U+202E, which reverses text. The values are the names as they are printed.
 UNPRINTED = {"a\u202eb": "a\\xe2\\x80\\xaeb", "a\nb": "a\\x0ab", "a\x1b[31mb": "a\\x1b[31mb", "a\u0085b": "a\\xc2\\x85b"}
 
 
 def taken_back(bench, command):
-    """Returns the last argument of a command, as each shell takes it, and checks that nothing was run by it."""
+    """Returns the last argument of a command, as the shells parse the command.
+
+    Checks that all SHELLS agree, and that no shell ran the `touch PWN` in a name.
+    """
     found = set()
     for shell in SHELLS:
         script = f"last() {{ shift $(($# - 1)); printf %s \"$1\"; }}\nlast {command}"
@@ -41,7 +46,10 @@ def taken_back(bench, command):
 
 
 def quotes_names(start):
-    """The command of --check-journal gives back the journal's name in each shell. A newline allows no command."""
+    """Checks that each shell takes the journal's name from the restore command that --check-journal prints.
+
+    For a name that can't be copied, a line with the printable form of the name is printed instead of a command.
+    """
     bench = start()
     whole = reference.journal("TINY64", bytes(65536), (1,))
     for name in NAMES:
@@ -57,7 +65,10 @@ def quotes_names(start):
 
 
 def quotes_names_after_error_12(start):
-    """The advice after error 12 gives back the journal's name in each shell."""
+    """Checks that each shell takes the journal's name from the restore command in the line after error 12.
+
+    If the name contains a newline, the line says that the name can't be copied.
+    """
     old, new = images("quotes_names_after_error_12")
     at = next(at for at, (out, _) in enumerate(session_wire(old, new), 1) if out[0] == 0x02)
     for name in NAMES[:3]:
@@ -76,7 +87,7 @@ def quotes_names_after_error_12(start):
 
 
 def quotes_the_device(start):
-    """The command that sets up the port gives back the name of the device."""
+    """Checks that each shell takes the device's name from the stty command that a fault prints."""
     bench = start()
     device = bench.path("it's")
     os.symlink("/dev/null", device)
@@ -87,7 +98,10 @@ def quotes_the_device(start):
 
 
 def counts_what_it_reads_again(start):
-    """A sector that is read again before its first program is read back: it is no sector of the scan, which is done."""
+    """Checks that progress counts the second read of a blank sector as read back, and not as a sector of the scan.
+
+    A session reads a blank sector once more, after the scan, before it programs the sector.
+    """
     old = b"\xff" * LARGE
     bench = start("W25Q64FV", data=old)
     bench.write("new", b"\0" + old[1:])
@@ -99,7 +113,7 @@ def counts_what_it_reads_again(start):
 
 
 def says_how_long_a_change_takes(start):
-    """A change of less than a second has no 0:00. A longer one has its minutes and seconds."""
+    """Checks the estimate before a change: less than a second, or minutes and seconds for a longer change."""
     old = b"\x5a" * LARGE
     for number, text in (1, "The change takes less than a second."), (40, "The change takes about M:SS at the chip's "
                                                                          "typical times and R."):
@@ -116,7 +130,7 @@ def says_how_long_a_change_takes(start):
 
 
 def shows_locks(start):
-    """--wp-status names the bits that lock the status, and --wp-range prints the range that is protected now."""
+    """Checks that --wp-status names SRP0 and SRP1 if they are set, and that --wp-range prints the protected range."""
     bench = start("W25Q64FV")
     for status, last in ((b"\0\0", "0x00 0x00"), (b"\x84\x02", "0x84 0x02, SRP0 is set"),
                          (b"\x1c\x01", "0x1c 0x01, SRP1 is set"), (b"\x80\x01", "0x80 0x01, SRP0 and SRP1 are set")):
@@ -132,7 +146,10 @@ def shows_locks(start):
 
 
 def advises_on_locks(start):
-    """Error 10 doesn't advise --unlock alone if the status is locked. Error 6 names bits that may protect the chip."""
+    """Checks the line after error 10 for each state of SRP0 and SRP1. If one of them is set, --unlock is not enough.
+
+    Error 6 is followed by a line about bits of status 1 that are set and may protect sectors.
+    """
     old = b"\xff" * LARGE
     for status in b"\x04\0", b"\x84\0", b"\x04\x01", b"\x84\x01":
         bench = start("W25Q64FV", data=old, status=status)
@@ -147,7 +164,10 @@ def advises_on_locks(start):
 
 
 def fits_narrow_terminals(start):
-    """The line that is rewritten has at most 39 characters, and less than COLUMNS if the environment says it."""
+    """Checks that the rewritten progress line has at most 39 characters.
+
+    If the environment sets COLUMNS to a positive number, the line also has fewer characters than this number.
+    """
     old, new = images("fits_narrow_terminals")
     for columns, longest in (None, 39), ("200", 39), ("30", 29), ("0", 39), ("x", 39):
         bench = start(data=old, rate=200_000)
@@ -167,7 +187,7 @@ def fits_narrow_terminals(start):
 
 
 def says_a_line_a_minute(start):
-    """A run whose standard error is a file prints nothing for a minute, and then a line with its progress."""
+    """Checks that a run whose standard error is a pipe prints only one line of progress, after a minute."""
     bench = start(rate=1_600, longest_read=4096)
     got = bench.run("-r", "out")
     check("the run", (got.status, got.err), (0, []))
@@ -176,7 +196,10 @@ def says_a_line_a_minute(start):
 
 
 def removes_an_unsealed_journal(start):
-    """A refused session removes the journal that it created, so it may be repeated. A backup keeps its file."""
+    """Checks that a session that stops before its journal is sealed removes this journal.
+
+    A failed backup keeps its file. A journal that is sealed, or that existed before the run, is never removed.
+    """
     old, new = images("removes_an_unsealed_journal")
     wire = session_wire(old, new)
     seal = wire.index(reference.WRITE_ENABLE)
@@ -193,7 +216,7 @@ def removes_an_unsealed_journal(start):
         check("the last line", got.err[-1] == reference.used_name(), at == sealed + 1)
         bench.remove_journal()
         bench.plug()
-    # A file that existed before stays, whatever it is.
+    # A file that existed before the run must stay, whether it is empty, an unsealed journal or no journal.
     for content in b"", b"NORUNDO2", b"other bytes":
         bench.write("j", content)
         bench.expect("-w", "new", "--journal", "j", err=reference.file_fault(4, "j"))
@@ -205,9 +228,10 @@ def removes_an_unsealed_journal(start):
 
 
 def keeps_the_file_of_another_program(start):
-    """A file that another program put in the place of the journal of a refused session is not removed.
+    """Checks that a stopped session keeps a file with which another program replaced the session's unsealed journal.
 
-    So it is with a sealed journal. An empty file, or an incomplete journal, is taken for the session's own.
+    The session removes the file only if it is empty or an unsealed journal of format 2, because it could be the
+    session's own.
     """
     old, new = images("keeps_the_file_of_another_program")
     sealed = reference.journal("TINY64", new, [1])
@@ -216,7 +240,7 @@ def keeps_the_file_of_another_program(start):
         bench = start(data=old)
         bench.write("new", new)
         bench.write("other", content)
-        # The journal's file is there from the second identification on.
+        # The run creates the journal's file before it identifies the chip for the second time.
         at = len(reference.carried(reference.probe("TINY64") * 2, old))
         carry = bench.chip.transfer
 
@@ -238,13 +262,13 @@ def keeps_the_file_of_another_program(start):
         bench.check_chip(old)
 
 
-# What follows file fault 2 for a journal that was lost after it was sealed.
+# This line follows file fault 2 if the journal was removed, replaced or changed after it was sealed.
 LOST = "After this run sealed the journal, another program removed, replaced or changed it: don't restore from a file " \
        "with this name."
 
 
 def at_moment(bench, moment, **chosen):
-    """Lets a command run at this call of the next runs (COMMAND), or lets the call fail (ERROR)."""
+    """Makes the next runs execute COMMAND just before the file call `moment`, or makes this call fail with ERROR."""
     library = bench.path("meanwhile.so")
     subprocess.run(["cc", "-std=c11", "-O1", "-shared", "-fPIC", "-o", library, MEANWHILE], check=True)
     bench.environment = {"LD_PRELOAD": str(library), "MOMENT": moment, **chosen}
@@ -254,7 +278,10 @@ CREATED = "This run has created j: repeat the command with a new journal name."
 
 
 def prints_the_systems_reason(start):
-    """After errors 11 and 19, and file fault 2 of a region, an extracted image or a log, a line has the system's reason."""
+    """Checks that errors 11 and 19 and file fault 2 are followed by the system's reason for the failure.
+
+    File fault 2 is tested for a region's file, an extracted image and a log.
+    """
     if not shutil.which("cc"):
         print("skipped: prints_the_systems_reason, since there is no C compiler (cc)")
         return
@@ -265,14 +292,14 @@ def prints_the_systems_reason(start):
                                  ("fsync j", "ESTALE", "refused")):
         at_moment(bench, moment, ERROR=error)
         lines = ["Error 11: journal not written.", reference.CAUSES[cause]]
-        # A journal that is complete stays, although it may not be on the disk.
+        # The run keeps a complete journal, although it may not be durable, because its sync failed.
         is_complete = moment.startswith("fsync")
         bench.expect("-w", "new", "--journal", "j", err=lines + [CREATED] * is_complete)
         check("is the journal there", bench.path("j").exists(), is_complete)
         bench.path("j").unlink(missing_ok=True)
     at_moment(bench, "write out", ERROR="EDQUOT")
     bench.expect("-r", "out", err=["Error 19: output failed after 0 bytes.", reference.CAUSES["full"]])
-    # The file of a region, that of an extracted image, and the log.
+    # The writes to a region's file, to an extracted image and to the log fail.
     bench.environment = {}
     check("status", bench.run("--backup", "whole").status, 0)
     bench.write("layout", b"0:fff a\n")
@@ -291,7 +318,7 @@ def prints_the_systems_reason(start):
 
 
 def prints_why_names_cannot_be_compared(start):
-    """The line after file fault 1 of a name that can't be looked up has the system's reason."""
+    """Checks that file fault 1 is followed by the system's reason if a name is a loop of links, or is too long."""
     bench = start()
     bench.path("loop").symlink_to("loop")
     for words in ("-v", "loop"), ("-r", "loop"), ("-w", "loop/image", "--journal", "j"), \
@@ -307,7 +334,10 @@ def prints_why_names_cannot_be_compared(start):
 
 
 def notices_a_lost_journal(start):
-    """A journal that is removed, replaced or truncated after it was sealed is file fault 2 at the end of the run."""
+    """Checks that a run ends with file fault 2 if its sealed journal is removed, replaced or truncated.
+
+    The session changes the chip nevertheless.
+    """
     if not shutil.which("cc"):
         print("skipped: notices_a_lost_journal, since there is no C compiler (cc)")
         return
@@ -325,7 +355,7 @@ def notices_a_lost_journal(start):
 
 
 def keeps_the_log_of_a_session(start):
-    """The log of a restore follows the log that is in its file. Any other run begins its log anew."""
+    """Checks that a restore appends its log to the log in the file, and that --flash-size overwrites the log."""
     old, new = images("keeps_the_log_of_a_session")
     bench = start(data=old)
     bench.write("new", new)
@@ -349,7 +379,10 @@ def keeps_the_log_of_a_session(start):
 
 
 def overwrites_no_file_that_appears_late(start):
-    """A file that appears under the log's name while the layout is read from the chip isn't truncated."""
+    """Checks that a run doesn't overwrite a file that appears under the log's name during the run.
+
+    An empty file and an old log are overwritten.
+    """
     bench = start(data=with_fmap(random_image("late"), 0x100, [(0, 65536, b"all")]), rate=60_000)
     for content, is_log in (b"other bytes\n" * 9, False), (b"", True), (b"Log of flashnor-serprog 0.9\n", True):
         bench.path("log").unlink(missing_ok=True)

@@ -1,9 +1,9 @@
-"""Cases of chips found by SFDP: QE in bit 6 of status 1, no erase of 4 KiB everywhere, small pages, and no unique ID.
+"""These cases test chips that are found by their SFDP and have special properties.
 
-QE is in bit 6 of status 1 if the quad enable requirements (JESD216B, double word 15, bits 22 to 20) are 010b. A chip
-erases 4 KiB everywhere only if bits 1 and 0 of double word 1 are 01b (JESD216). Bits 7 to 4 of double word 11 are the
-binary logarithm of the size of a page (JESD216A). A chip that ignores 4Bh leaves the line
-floating, so its unique ID is read as FFh or 00h in all bytes.
+- QE is bit 6 of status 1 if the quad enable requirements (JESD216B, double word 15, bits 22 to 20) are 010b.
+- A chip has 4 KiB erases everywhere only if bits 1 and 0 of double word 1 are 01b (JESD216).
+- Bits 7 to 4 of double word 11 are the binary logarithm of the page size (JESD216A).
+- A chip that ignores 4Bh leaves the data line floating, so its unique ID is read as FFh or 00h in all bytes.
 """
 import reference
 from bench import check
@@ -13,11 +13,11 @@ from makers import connect, table
 
 QE = 0x40
 FULL, NONE = b"\xff" * 8, bytes(8)
-# The lines of a chip that doesn't erase 4 KiB everywhere.
+# The program prints these lines for a chip that doesn't have 4 KiB erases everywhere.
 UNEVEN = ["Error 2: unknown chip, SFDP fault 8.",
           "Its ID is fe1010. Its SFDP doesn't say that it erases sectors of 4 KiB everywhere, so a restore could fail: "
           "change this chip with another tool."]
-# The lines of a chip whose pages have fewer than 256 bytes.
+# The program prints these lines for a chip whose pages have fewer than 256 bytes.
 SMALL = [UNEVEN[0], "Its ID is fe1010. Its SFDP says that its pages have fewer than 256 bytes, so a restore could fail"
          ": change this chip with another tool."]
 MAYBE_QUAD = "Chip fault 1: status 1 of this chip is 40h. Its bit 6 may protect sectors, as on Winbond's chips."
@@ -25,12 +25,15 @@ WRITES = (b"\x01", b"\x02", b"\x06", b"\x20", b"\x52", b"\xd8", b"\xc7")
 
 
 def modifies(bench):
-    """Returns whether a modifying command was sent in the last run."""
+    """Returns whether the last run sent a modifying command."""
     return any(out[:1] in WRITES for out, _ in bench.server.log)
 
 
 def keeps_quad(start):
-    """A chip with QE in bit 6 is backed up, written, erased and restored. QE stays set, and no status write is sent."""
+    """Checks that a chip with QE in bit 6 of status 1 is backed up, written, erased and restored.
+
+    QE stays set, and no status write is sent.
+    """
     bench, old, new = connect(start, 0b010, status=bytes([QE, 0]))
     found = reference.found("TINY64")
     for words in (("--backup", "b"), ("-w", "new", "--journal", "j")):
@@ -46,7 +49,7 @@ def keeps_quad(start):
 
 
 def restores_saved_quad(start):
-    """A journal that has bit 6 set, as older versions wrote it, restores the chip that still has it."""
+    """Checks that a journal with QE (bit 6 of status 1) set, as older versions wrote, restores a chip with QE set."""
     old, new = chip_images(FEW)
     bench, _, _ = connect(start, 0b010, status=bytes([QE, 0]))
     bench.write("j", reference.journal("TINY64", old, FEW, bytes([QE, 0])))
@@ -56,7 +59,10 @@ def restores_saved_quad(start):
 
 
 def refuses_other_bits(start):
-    """Bit 6 is no QE for any other requirements, nor are bits 2 to 5 for these: chip fault 1, before a journal."""
+    """Checks that -w ends with chip fault 1 if a bit of status 1 may protect sectors, and creates no journal.
+
+    Bit 6 may do so unless the quad enable requirements are 010b. Bits 2 to 5 may do so even then.
+    """
     for requirements, status in ((None, QE), (0b000, QE), (0b001, QE), (0b011, QE), (0b100, QE), (0b101, QE),
                                  (0b110, QE), (0b111, QE), (0b010, QE | 0x04), (0b010, 0x20)):
         bench, old, _ = connect(start, requirements, enters_qpi=False, status=bytes([status, 0]))
@@ -71,7 +77,10 @@ def refuses_other_bits(start):
 
 
 def needs_even_sectors(start):
-    """A chip that doesn't erase 4 KiB everywhere is read and compared. It gets no journal and no modifying command."""
+    """Checks that a chip without 4 KiB erases everywhere is only read and compared.
+
+    -w, -E and --backup end with error 2, create no journal and send no modifying command.
+    """
     for bits in 0b11, 0b00, 0b10:
         bench, old, _ = connect(start, None)
         changed = bytearray(table(bench.chip.size, None))
@@ -88,14 +97,20 @@ def needs_even_sectors(start):
 
 
 def with_pages(bench, exponent, words=16):
-    """Gives the chip an SFDP table of this many double words, whose word 11 says that a page has 2^`exponent` bytes."""
+    """Gives the chip an SFDP table of `words` double words. Its double word 11 says that a page has 2^`exponent` bytes.
+
+    If `words` is less than 11, double word 11 follows the table, and doesn't belong to it.
+    """
     changed = bytearray(table(bench.chip.size, 0b000))
     changed[11], changed[16 + 40] = words, exponent << 4 | 2
     bench.chip.table = bytes(changed)
 
 
 def needs_whole_pages(start):
-    """A chip with pages below 256 bytes is read and compared. It gets no journal and no modifying command."""
+    """Checks that a chip with pages of fewer than 256 bytes is only read and compared.
+
+    -w, -E and --backup end with error 2, create no journal and send no modifying command.
+    """
     for exponent, words in *((it, 16) for it in range(8)), (7, 11):
         bench, old, _ = connect(start, 0b000)
         with_pages(bench, exponent, words)
@@ -110,7 +125,7 @@ def needs_whole_pages(start):
 
 
 def takes_whole_pages(start):
-    """A chip with longer pages, or whose table lacks double word 11, is written and restored."""
+    """Checks that a chip is written and restored if its pages have 256 bytes or more, or no double word 11 exists."""
     for exponent, words in (8, 16), (9, 16), (15, 16), (8, 11), (7, 10), (0, 9):
         bench, old, new = connect(start, 0b000)
         with_pages(bench, exponent, words)
@@ -123,7 +138,7 @@ def takes_whole_pages(start):
 
 
 def restores_a_chip_with_small_pages(start):
-    """A restore follows its journal, which an older version may have made."""
+    """Checks that --restore accepts a chip with pages of 128 bytes: an older version may have written the journal."""
     old, new = chip_images(FEW)
     bench, _, _ = connect(start, 0b000)
     with_pages(bench, 7)
@@ -134,7 +149,10 @@ def restores_a_chip_with_small_pages(start):
 
 
 def takes_no_floating_id(start):
-    """A unique ID of FFh or 00h in all bytes is none: the journal has zeros, and restores with either level."""
+    """Checks that a unique ID of FFh or 00h in all bytes counts as no unique ID.
+
+    The journal has zeros instead, and restores the chip whichever of the two values is read later.
+    """
     old, new = chip_images(FEW)
     for before in FULL, NONE:
         for after in FULL, NONE:
@@ -148,7 +166,10 @@ def takes_no_floating_id(start):
 
 
 def restores_a_floating_id(start):
-    """A journal whose unique ID is FFh in all bytes, as older versions wrote it, restores with either level."""
+    """Checks that a journal with a unique ID of only FFh, as older versions wrote, restores a chip without a unique ID.
+
+    A chip with a unique ID isn't restored.
+    """
     old, new = chip_images(FEW)
     for unique, status in ((FULL, 0), (NONE, 0), (b"\xff" * 7 + b"\xfe", 1), (b"\0" * 7 + b"\1", 1)):
         bench = start(data=new, unique=unique)

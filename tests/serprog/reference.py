@@ -1,8 +1,8 @@
-"""What flashnor sends and writes, computed from docs/SPECIFICATION.md for a chip that is never busy.
+"""This module computes what the program must send and write for a chip that is never busy, from docs/SPECIFICATION.md.
 
-A plan is a list of the engine's transactions, each the bytes sent and the number of bytes received. `carried` makes
-those over the wire from it, and `frames` the bytes of the serprog protocol from these. None of this is taken from the
-program.
+A plan is a list of the engine's transactions: pairs of the bytes sent and the number of bytes received. From a plan,
+`carried` computes the transactions on the wire between programmer and chip. From these, `frames` computes the frames of
+the serprog protocol. The module uses no code of the program.
 """
 import hashlib
 
@@ -10,40 +10,43 @@ from chip import CMP, DEVICE, ERASES, PAGE, PARTS, READ_DATA, READ_ID, READ_SFDP
 
 POLL = (b"\x05", 1)
 READ_STATUS_2 = (b"\x35", 1)
-# Over the wire: the command that is sent first in each run, with the 12 bytes and 10 reply bytes that show whether the port
-# changes 0Dh or 0Ah, and what a programmer with lower limits gets; the query of the version that follows the former; a
-# poll with two bytes of the status, and the opcodes whose
-# replies are received twice. After each of these replies, except to the ID itself, `CONFIRM` reads the ID once more, and
-# the same after data and after a status that counts: a chip that is lost does not reply its ID.
+# A run first sends ABh, which wakes the chip. The frame contains 0Dh (13 bytes to send) and 0Ah (10 bytes to receive),
+# which a port that isn't raw may change. If the programmer's limits are too low for this frame, the run sends only ABh.
 WAKES = (bytes([WAKE]) + b"\x10" * 12, 10)
 ONLY_WAKES = (bytes([WAKE]), 0)
-# How a connection finds out whether there is a chip.
+# These two reads, of the ID and of status 1, show whether a chip is connected.
 LOOK = [(b"\x9f", 3), (b"\x05", 1)]
+# The run sends this command after WAKES. The reply is version 1, unless the port changed the frame of WAKES.
 QUERY_VERSION = b"\x01"
+# A poll on the wire receives status 1 twice.
 STATUS_TWICE = (b"\x05", 2)
+# The program sends reads with these opcodes twice, and compares their replies. After a reply, except an ID, CONFIRM
+# reads the ID again, because a lost chip doesn't return its ID. CONFIRM also follows reads of data and the polls that
+# `compared` sends twice.
 TWICE = (READ_ID, READ_SFDP, READ_UNIQUE, 0x35)
 CONFIRM = (bytes([READ_ID]), 3)
-# The bytes of an SFDP table that identify a chip.
+# The program reads this number of bytes of the basic SFDP table, which are nine double words.
 TABLE_LEN = 36
 WRITE_ENABLE = (b"\x06", 0)
 PROTECTION_1 = 0x7C
-# A number of bytes that no transaction needs: a programmer without a limit.
+# This number stands for a programmer without a limit. It is greater than any number of bytes in a transaction.
 UNLIMITED = 1 << 24
-# The trial reads before a job: how many places they try, the distance of two places, and how many bytes a read returns
-# at most, and the one in a frame as long as that of a page program.
+# Before a job, the program makes trial reads at up to PLACES addresses, which are multiples of STEP. A trial read
+# returns at most TRIAL bytes. A read whose frame sends PROGRAM bytes, as a page program does, returns at most FEW
+# bytes.
 PLACES, STEP, TRIAL, FEW, PROGRAM = 8, 0x1110, 32, 4, 260
-# The greatest length of a block that is read ahead, and the opcodes that modify a chip.
+# A block that is read ahead has at most BLOCK bytes. CHANGING has the opcodes of the modifying commands.
 BLOCK = 65536
 CHANGING = (0x06, 0x01, 0x02, *ERASES, 0xC7)
 
-# The line after that of a file fault.
+# This line follows the file fault with this number if the program doesn't know the cause.
 FILE_HINTS = {
     1: "It is missing or can't be read: correct its name or its permissions.",
     2: "It can't be created, written or locked: correct its name or permissions, or free disk space.",
     4: "It exists already, and is never overwritten: choose a new name.",
     5: "It has two roles in this run, or another program uses it: give each role its own file, or wait for that "
        "program."}
-# The line after that of a file fault whose cause is known.
+# This line follows a file fault with this cause.
 CAUSES = {
     "missing": "There is no such file: correct its name.",
     "no directory": "There is no such directory: correct its name.",
@@ -58,33 +61,37 @@ CAUSES = {
     "printed": "This run prints to it: choose another file."}
 IS_JOURNAL = "It is a journal, which is never overwritten: choose a new name."
 IS_NO_LOG = "It exists, and is no log, so it isn't overwritten: choose a new name."
-# The lines of a journal that was not sealed.
+# A restore prints these lines for a journal that isn't sealed.
 UNSEALED = [
     "error: the journal was never sealed, or was cut off later", "Error 15: journal fault 1.",
     "If the terminal showed the progress of that session, but not SEALED, the chip was not changed. Otherwise look for "
     "another copy of the journal, and don't write or erase anything."]
-# The lines after errors.
+# The program prints these lines if no chip replies.
 NO_CHIP = ["Error 1: no chip.", "Check contacts, supply and wiring, and that cs= selects this chip. A chip in QPI mode "
            "looks the same: disconnect it from power."]
+# The program prints these lines if a chip without SFDP replies an ID, but only FFh for status 1.
 NO_STATUS = ["Error 2: unknown chip, SFDP fault 1.", "It replies an ID, but only FFh for status 1, so it isn't SPI NOR "
              "flash (but SPI NAND or DataFlash), or a contact is bad."]
-# The line after error 4 if regions are given.
-# The clock that the programmer set, and that of spispeed=.
+# This line is printed with the clock that the programmer set and the clock in spispeed=.
 HIGHER_CLOCK = "The programmer set its clock to {} Hz, above the {} Hz of spispeed=."
+# This line follows error 4 if the run has regions.
 WHOLE_IMAGE = "Give an image of the whole chip. -i NAME:FILE gives the bytes of a region."
-# What follows the two unique IDs after error 20.
+# This text follows the two unique IDs in the line after error 20.
 OTHER_UNIT = "The journal is another board's, or the chip was replaced: find this board's journal, or see " \
     "--replaced-chip."
-# What follows the line after error 17 if only SRP0 is to be set or cleared, or only SRP1.
+# One of these two texts ends the line after error 17 if only SRP0 differs from the journal.
 SET_SRP0, CLEAR_SRP0 = (f" {do} SRP0 (--wp-{option}), and restore again."
                         for do, option in (("Set", "enable"), ("Clear", "disable")))
+# This text ends the line after error 17 if only SRP1 differs, and a power cycle clears it.
 CLEAR_SRP1 = " A power cycle clears SRP1: disconnect the chip from power, and restore again."
+# This text ends the line after error 17 in other cases, except if bits 2 to 5 differ on a chip found by SFDP.
 WRITE_IMAGE = (" If the journal is this board's, write an image from before the session instead (-w, with a new journal): "
                "-w doesn't compare these bits, and leaves them as they are. See RECOVERY.")
-# The bits of status 2 that a restore keeps as the board set them.
+# A restore keeps these bits of status 2 as they are on the chip, because the board's software may have changed them.
 BOARD_BITS = {0x02: "QE", 0x04: "bit 2 of status 2", 0x08: "LB1", 0x10: "LB2", 0x20: "LB3"}
 NOT_OFFERED = ["Error 8: range not offered.", "--wp-list lists the ranges that this chip can protect."]
-# The line after error 9, and the end of that after error 10, by whether SRP0 and SRP1 are set.
+# LOCKED has the line after error 9, and TO_UNLOCK the end of the line after error 10. A key says whether SRP0 and SRP1
+# are set.
 LOCKED = {
     (True, False): "SRP0 is set. Clear it while WP# is high (--wp-disable).",
     (False, True): "SRP1 is set. Clear it by a power cycle: disconnect the chip from power.",
@@ -95,21 +102,21 @@ TO_UNLOCK = {
                    "--unlock.",
     (False, True): ". SRP1 is set: to lift the protection, disconnect the chip from power, then use --unlock.",
     (True, True): ". SRP0 and SRP1 are set: the protection may be there for good."}
-# The lines after error 6, if no bit of 2 to 6 of status 1 is set.
+# The program prints these lines if bits 2 to 6 of status 1 are clear. If one is set, another line follows error 6.
 NO_PROTECTION = ["Error 6: no protection on this chip.", "This program doesn't know the protection bits of this chip."]
-# The lines that say what SRP0 means, by whether it is set.
+# After --wp-enable (True) and --wp-disable (False) these lines say what the new value of SRP0 means.
 LOCK_MEANING = {
     True: ["SRP0 is set: while WP# is low, the status and the protected range can't be changed.",
            "To clear SRP0, connect WP# to the supply, and use --wp-disable."],
     False: ["SRP0 is clear: the status can be changed. The protected range is as before.",
             "To set SRP0 again, also before a restore from a journal that has it set, use --wp-enable."]}
-# The lines if -c names a chip of the table, and the chip is TINY64.
+# The program prints these lines if -c names W25Q64FV, and the chip is TINY64.
 OTHER_NAME = ["Error 3: another chip than named.", "-c names W25Q64FV. The connected chip has the ID fe1010, and only "
               "its SFDP is known: its name for -c is SFDP."]
 
 
 def locks_of(status):
-    """Returns whether SRP0 and SRP1 are set in these status bytes."""
+    """Returns whether SRP0 is set, and whether SRP1 is set, in these status bytes."""
     return bool(status[0] & 0x80), bool(status[1] & 0x01)
 
 
@@ -119,7 +126,7 @@ def locked(status):
 
 
 def protected(address, status):
-    """Returns the lines of error 10 at this address, without --unlock, for a chip with these status bytes."""
+    """Returns the lines of error 10 at this address for a chip with these status bytes."""
     return [f"Error 10: protected at 0x{address:06x}.",
             f"Include only regions that aren't protected{TO_UNLOCK[locks_of(status)]}"]
 
@@ -131,28 +138,32 @@ def status_line(status):
     return f"Status: 0x{status[0]:02x} 0x{status[1]:02x}{names[locks_of(status)]}"
 
 
-# The bits of status 1 and of status 2, the highest first, without BUSY, WEL and SUS.
+# These are the names of the bits of status 1 and status 2, the highest bit first, without BUSY, WEL and SUS.
 BITS = (((0x80, "SRP0"), (0x40, "SEC"), (0x20, "TB"), (0x10, "BP2"), (0x08, "BP1"), (0x04, "BP0")),
         ((0x40, "CMP"), (0x20, "LB3"), (0x10, "LB2"), (0x08, "LB1"), (0x04, "bit 2 of status 2"), (0x02, "QE"),
          (0x01, "SRP1")))
 
 
-# The programmer faults of the trial reads. DEV is the device.
+# The trial reads cause these two programmer faults. DEV stands for the device's name.
 LONG_FRAMES = "Programmer fault 14: DEV doesn't send a page program as one whole transaction. Install firmware that " \
     "sends 260 bytes in a transaction, or that says how many it sends (Q_WRNMAXLEN)."
 FOUR_BYTES = "Programmer fault 15: DEV has a chip whose overlapping reads differ: it takes four address bytes, or a " \
     "contact is bad. Check contacts, disconnect the chip and its board from all power for ten seconds, and try again. If " \
     "the line appears again, the chip is set to begin in four-byte mode: this program can't use it."
-# The last line of a restore that succeeded, except for bits of the line "Not restored". A QE that is set doesn't count.
+# A restore ends with this line if it printed "Not restored" and restored everything else. The line isn't printed if the
+# only bit that differs is QE, and QE is set on the chip.
 LOST_BITS = "All bytes and protection bits are restored, but not the status bits of the line \"Not restored\" above."
-# The end of chip fault 4 after a restore.
+# This text ends the line of chip fault 4 after a restore.
 REST_DIFFERS = "from what was read before this restore. The journal doesn't save this sector, which a disturbed " \
     "address on the wire has probably erased or programmed. Restore this sector from a backup. Repeating this " \
     "restore won't report it again, because the next run compares with what the sector holds now."
 
 
 def kept_bits(saved, found):
-    """Returns the line of a restore that keeps bits of status 2. `saved` is the journal's status 2, `found` the chip's."""
+    """Returns the line that a restore prints if it keeps bits of status 2 that differ from the journal.
+
+    `saved` is status 2 in the journal, and `found` is the chip's.
+    """
     bits = "".join(f" {name} ({'set' if found & bit else 'clear'})" for bit, name in BOARD_BITS.items()
                    if (saved ^ found) & bit)
     quad = " A board that reads with four lines needs QE: set it with another tool." * (saved & 2 > found & 2)
@@ -160,7 +171,10 @@ def kept_bits(saved, found):
 
 
 def not_stored_status(sent, found):
-    """Returns the beginning of chip fault 3: the status bytes `sent` were written, and `found` read back."""
+    """Returns the beginning of the line of chip fault 3 after a status write.
+
+    `sent` has the status bytes that were written, and `found` those that were read back.
+    """
     names = [name for bits, one, other in zip(BITS, sent, found) for bit, name in bits if (one ^ other) & bit]
     why = f"the chip did not store a status write; these bits differ: {' '.join(names)}. Check WP#, SRP0 and the " \
         "supply."
@@ -171,19 +185,19 @@ def not_stored_status(sent, found):
 
 
 def sealed(name):
-    """Returns the line before the first change of a session whose journal has this name."""
+    """Returns the line that a session prints before its first change. `name` is the name of its journal."""
     return ("SEALED: the chip is changed from here on. If this run is interrupted, disconnect the programmer from power "
             f"before the next run, and restore with the journal {name}.")
 
 
 def unknown_chip(chip_id):
-    """Returns the lines of a chip with this ID that has no SFDP."""
+    """Returns the lines of error 2 for a chip with this ID and without SFDP."""
     return ["Error 2: unknown chip, SFDP fault 1.",
             f"Its ID is {chip_id.hex()}. If another run finds another ID, check contacts, supply and wiring, or lower the "
             "clock (spispeed=)."]
 
 
-# What the line after error 14 says before and after the command that restores the chip.
+# In the line after error 14, these two texts surround the command that restores the chip. The key is the operation.
 DIFFERENCE = {
     "-w": (", and compare the chip with the image (-v). If -v finds another address or none, the journal may be misread, "
            "too: first save the chip (--backup left.journal).", ""),
@@ -194,27 +208,30 @@ DIFFERENCE = {
 
 
 def not_stored(address, operation="-w", journal="j"):
-    """Returns the lines of a change or a restore whose first wrong byte is at this address."""
+    """Returns the lines of error 14 for a change or restore whose first wrong byte is at this address."""
     first, last = DIFFERENCE[operation]
     return [f"Error 14: bytes differ at 0x{address:06x}.",
             f"The chip did not store all bytes, or they were misread: lower the clock (spispeed=){first} Then restore "
             f"the chip with --restore {journal}.{last}"]
 
 
-# The length of a journal without sectors: its header, and the end mark with the digest.
+# A journal without sectors has this length: 25 bytes for the header, and 36 for the end mark and the digest.
 EMPTY = 61
-# Why the file of sums of a session of --wp-range is missing.
+# This text is the reason why no `JOURNAL.sectors` belongs to a journal that saves no sector, as after --wp-range.
 UNWRITTEN = "isn't written by a session that saves no sector"
 
 
 def unknown_sectors(journal, why="is missing"):
-    """Returns the line of a restore that can't know what the session did to the sectors which its journal lacks."""
+    """Returns the last line of a restore without a valid `JOURNAL.sectors`.
+
+    With this file, a restore detects whether the session changed a sector that the journal doesn't save.
+    """
     return (f"{journal}.sectors {why}, so it isn't known whether the session damaged another sector. To find out, "
             "compare the chip with an image (-v), or restore from a backup (--quick).")
 
 
 def sums(part, old, known, unique=DEVICE):
-    """Returns the file beside a journal, which has the sums of these sectors (man/flashnor-serprog.8, FILES)."""
+    """Returns the file `JOURNAL.sectors` with the sums of the sectors in `known` (flashnor-serprog(8), FILES)."""
     found = b"NORSUMS1" + PARTS[part].id + unique
     for number in range(4096):
         found += b"\1" + hashlib.sha256(sector_of(old, number)).digest()[:8] if number in known else bytes(9)
@@ -222,41 +239,48 @@ def sums(part, old, known, unique=DEVICE):
 
 
 def is_partial(whole):
-    """Returns whether these bytes are a journal of format 2 that saves some sectors of its chip, but not all."""
+    """Returns whether these bytes are a journal of format 2 that saves some, but not all sectors of its chip."""
     saved = (len(whole) - EMPTY) // (SECTOR + 4)
     return whole[:8] == b"NORUNDO2" and 0 < saved < int.from_bytes(whole[21:25], "little") // SECTOR
 
 
 def used_name(journal="j"):
-    """Returns the last line of a failed backup, or of a session that failed between its seal and its first change."""
+    """Returns the last line of a failed backup, or of a session that failed between the seal and its first change."""
     return f"This run has created {journal}: repeat the command with a new journal name."
 
 
 def file_fault(number, name, cause=None):
-    """Returns the lines of this file fault. The cause, if the program knows it, is a key of CAUSES."""
+    """Returns the lines of the file fault `number` for this name.
+
+    `cause` is a key of CAUSES, or `None` if the program doesn't know the cause.
+    """
     return [f"File fault {number}: {name}.", CAUSES[cause] if cause else FILE_HINTS[number]]
 
 
 def command(opcode, address=None, dummies=0):
-    """Returns an opcode, with three address bytes if an address is given, and dummy bytes."""
+    """Returns an opcode, three address bytes if an address is given, and the given number of dummy bytes."""
     return bytes([opcode]) + (b"" if address is None else address.to_bytes(3, "big")) + bytes(dummies)
 
 
-# The read of the unique ID.
+# This transaction of a plan reads the unique ID.
 UNIQUE = (command(READ_UNIQUE, 0, 1), 8)
 
 
 class Limited(tuple):
-    """A read of a plan, as (bytes sent, bytes replied). A block that is read ahead for it ends at `limit` at the latest."""
+    """This is a read in a plan: a pair of the bytes sent and the number of bytes received.
+
+    The program may read ahead for this read, but not past the address `limit`.
+    """
     limit = 1 << 24
 
 
 def trials(data, sends=UNLIMITED, reads=UNLIMITED):
-    """Returns the trial reads of a chip with this data, at a programmer that sends and reads at most so many bytes.
+    """Returns the trial reads on a chip with these bytes.
 
-    At each place two reads overlap. The first place whose bytes aren't all equal is the last one. There, a read behind
-    padding makes a frame as long as that of a page program, and a direct read of these bytes follows. If the bytes at
-    all places are equal, status 1 is read in both ways instead.
+    `sends` and `reads` are the limits of the programmer's transactions. At each address two reads overlap. The first
+    address whose bytes aren't all equal is the last one. There, a long read sends padding after its address, so that
+    its frame is as long as that of a page program. A short read then returns these bytes directly. If the bytes at each
+    address are equal, the long and the short read return status 1 instead.
     """
     found, length, few, padding = [], min(TRIAL, reads), min(FEW, reads), min(PROGRAM, sends) - 4
     for address in range(0, PLACES * STEP, STEP):
@@ -267,24 +291,29 @@ def trials(data, sends=UNLIMITED, reads=UNLIMITED):
 
 
 def before_job(data, sends=UNLIMITED, reads=UNLIMITED):
-    """Returns the transactions of a connection before the first one of its job.
+    """Returns the transactions on the wire before the first one of a job.
 
-    The chip is woken, and read in trials. Then its ID and status 1 are read, which shows that it is still there.
+    They wake the chip, make the trial reads, and read the ID and status 1 to find out whether the chip is still
+    connected.
     """
     has_room = sends >= len(WAKES[0]) and reads >= WAKES[1]
     return [WAKES if has_room else ONLY_WAKES] + trials(data, sends, reads) + LOOK
 
 
 def carried(plan, data, reads=BLOCK, sends=UNLIMITED, chip=None, image=None):
-    """Returns the transactions over the wire of a plan, for a programmer with these limits and a chip with this data.
+    """Returns the transactions on the wire of a run with this plan, on a chip with the bytes `data`.
 
-    First those before the job are made. Data is read ahead: a read that goes on where the last block ended reads a block
-    of twice the length, up to the limit, the next multiple of 64 KiB and the limit of the read. A block is forgotten at
-    each other transaction. It is read twice. Before the first modifying command the unique ID is read again, if it was
-    read. If an image is expected, only the sectors that differ from it are read again; `chip` is a model of the chip
-    before the plan, which is changed. Other replies are compared as `compared` says. After each of these reads the ID is
-    read. Status 2 isn't read from a chip that is identified by its SFDP, whose table has nine double words. Before this
-    table the ID is read, too.
+    `reads` and `sends` are the programmer's limits. The transactions begin with those of `before_job`.
+
+    Data is read ahead. A read that begins where the last block ended reads a block of twice the last length, but at
+    most `reads` bytes, and not past the next multiple of 64 KiB or the `limit` of the read. Any other transaction
+    discards the block. A block is read twice. If the run expects an image, only the sectors that differ from the image
+    are read again. `chip` is then a model of the chip before the plan, which this function changes. After each read of
+    data the ID is read.
+
+    Before the first modifying command the unique ID is read again, if the plan reads it. Before the basic SFDP table
+    the ID is read again. Status 2 isn't read from a chip that is found by its SFDP, because the SFDP of the models has
+    only nine double words. All other replies are compared as `compared` describes.
     """
     found, begin, end, step, last = before_job(data, sends, reads), 0, 0, 0, 0
     has_row = all(out[0] != READ_SFDP for out, _ in plan)
@@ -314,16 +343,20 @@ def carried(plan, data, reads=BLOCK, sends=UNLIMITED, chip=None, image=None):
 
 
 def compares_from(wire, first):
-    """Returns the number of the poll with which the program identifies the chip again after a change.
+    """Returns the number of the poll that begins the comparison after a change.
 
-    The change begins at the transaction with the number `first`. Only after that poll the ID is read twice in a row.
+    The change begins at the transaction with the number `first`. The comparison identifies the chip again: a poll, and
+    then two reads of the ID in a row, which occur nowhere between `first` and this poll.
     """
     return next(at for at, (out, _) in enumerate(wire, 1)
                 if at > first and out[0] == wire[at][0][0] == READ_ID) - 1
 
 
 def differing(data, image, begin):
-    """Returns where the sectors of data from the address `begin` on differ from an image; neighbours are joined."""
+    """Returns the address ranges of the sectors in `data` that differ from an image. Adjacent ranges are joined.
+
+    `begin` is the address of the first byte of `data`.
+    """
     found, end = [], begin + len(data)
     for at in range(begin // SECTOR * SECTOR, end, SECTOR):
         start, stop = max(at, begin), min(at + SECTOR, end)
@@ -336,11 +369,13 @@ def differing(data, image, begin):
 
 
 def compared(out, replies, last):
-    """Returns the transactions over the wire of one that reads no data.
+    """Returns the transactions on the wire for one transaction of a plan that reads no data.
 
-    `last` is the opcode of the one before it if that modifies the chip, 0 if no one before it does, or else 05h. The
-    status is received twice in one reply, and in two of them where its bits count: before the first modifying command,
-    and after a status write. Then status 2 is read back, too. The ID is read after each of these replies.
+    `last` is 0 if no modifying command was sent, the opcode of the previous transaction if that is a modifying command,
+    and 05h otherwise. A poll receives status 1 twice in one reply. Before the first modifying command, and after a
+    status write, the poll is sent twice, with a read of the ID after each reply. After a status write, status 2 is then
+    read twice, too. Other reads in TWICE are sent twice. A read of the ID follows each of their replies, except if it
+    is an ID itself.
     """
     if out[0] == POLL[0][0]:
         if last not in (0, 0x01):
@@ -352,7 +387,7 @@ def compared(out, replies, last):
 
 
 def frames(transactions):
-    """Returns the serprog frames of these transactions (O_SPIOP)."""
+    """Returns the serprog frames (O_SPIOP) of these transactions. Q_IFACE follows the frame of WAKES."""
     found = bytearray()
     for out, replies in transactions:
         found += b"\x13" + len(out).to_bytes(3, "little") + replies.to_bytes(3, "little") + out
@@ -361,14 +396,18 @@ def frames(transactions):
 
 
 def joins(out):
-    """Returns whether a command is sent together with its write enable: a page program with at least 32 data bytes."""
+    """Returns whether the program writes this command to the port together with the write enable before it.
+
+    This applies to page programs with at least 32 data bytes.
+    """
     return out[0] == 0x02 and len(out) >= 36
 
 
 def writes(plan, buffer):
-    """Returns the number of bytes of each write to the port for these transactions, with a serial buffer of this size.
+    """Returns the number of bytes of each write to the port for these transactions.
 
-    A write enable is sent together with the command after it, if that joins it and both fit into the buffer.
+    `buffer` is the size of the serial buffer. A write enable waits for the command after it. Both are written together
+    if this command `joins` and both fit into the buffer.
     """
     found, waiting = [], 0
     for out, replies in plan:
@@ -387,7 +426,7 @@ def writes(plan, buffer):
 
 
 def probe(part):
-    """Returns the plan of a probe. A part that the table doesn't have is identified by its SFDP."""
+    """Returns the plan of a probe. A chip whose ID isn't in the table is identified by its SFDP."""
     plan = [POLL, (command(READ_ID), 3)]
     if not PARTS[part].has_row:
         plan += [(command(READ_SFDP, at, 1), length) for at, length in ((0, 8), (8, 8), (16, TABLE_LEN))]
@@ -395,7 +434,7 @@ def probe(part):
 
 
 def identify(part):
-    """Returns the plan of the first step of a session or a restore."""
+    """Returns the plan of the identification, which is the first step of a session or restore."""
     return probe(part) + [READ_STATUS_2, UNIQUE]
 
 
@@ -404,7 +443,7 @@ def read_sector(number):
 
 
 def operation(out):
-    """Returns the plan of an operation of a chip that is never busy."""
+    """Returns the plan of one operation: a write enable, the command, and one poll, because the chip is never busy."""
     return [WRITE_ENABLE, (out, 0), POLL]
 
 
@@ -413,7 +452,7 @@ def write_status(status):
 
 
 def without_protection(status):
-    """Returns status bytes with all protection bits clear."""
+    """Returns the status bytes with all protection bits cleared."""
     return bytes([status[0] & ~PROTECTION_1 & 0xFC, status[1] & ~CMP])
 
 
@@ -422,7 +461,7 @@ def sector_of(data, number):
 
 
 def erases(raised, size):
-    """Returns the plan that erases these sectors, in ascending order."""
+    """Returns the plan that erases these sectors of a chip with `size` bytes, in ascending order."""
     raised, plan = set(raised), []
     if len(raised) == size // SECTOR:
         return operation(b"\xc7")
@@ -439,7 +478,10 @@ def erases(raised, size):
 
 
 def programs(number, old, target):
-    """Returns the plan that programs a sector: for each page one span, from its first to its last difference."""
+    """Returns the plan that programs a sector.
+
+    In each page one span is programmed, from the first to the last difference.
+    """
     plan = []
     for at in range(0, SECTOR, PAGE):
         differ = [at + i for i in range(PAGE) if old[at + i] != target[at + i]]
@@ -450,7 +492,7 @@ def programs(number, old, target):
 
 
 def change(old, target, numbers, verifies=True):
-    """Returns the plan of the steps erase, program and verify, for these sectors of an unprotected chip."""
+    """Returns the plan of a session's steps Erase, Program and Verify, for these sectors of an unprotected chip."""
     touched = [it for it in numbers if sector_of(old, it) != sector_of(target, it)]
     raised = [it for it in touched
               if any(new & ~was for was, new in zip(sector_of(old, it), sector_of(target, it)))]
@@ -472,7 +514,7 @@ def session(part, old, target, numbers=None, verifies=True):
 
 
 def rewriting(old, saved):
-    """Returns the plan that erases and programs these sectors, and verifies them."""
+    """Returns the plan that erases, programs and verifies these sectors."""
     plan = erases(saved, len(old))
     for number in saved:
         plan += programs(number, b"\xff" * SECTOR, sector_of(old, number))
@@ -480,15 +522,18 @@ def rewriting(old, saved):
 
 
 def restore(part, old, saved):
-    """Returns the plan of a restore on an unprotected chip, of a journal that saved these sectors of `old`.
+    """Returns the plan of a restore on an unprotected chip, from a journal that saves these sectors of `old`.
 
-    The sectors are erased and programmed whatever they hold, and aren't read before.
+    The restore erases and programs these sectors without reading them first.
     """
     return identify(part) + rewriting(old, saved)
 
 
 def read_rest(part, saved):
-    """Returns the plan that reads each sector that a journal doesn't save. No block reaches a saved one."""
+    """Returns the plan that reads each sector which the journal doesn't save.
+
+    No read may read ahead into a saved sector.
+    """
     count, plan = PARTS[part].size // SECTOR, []
     for number in sorted({*range(count)} - {*saved}):
         plan.append(Limited(read_sector(number)))
@@ -497,21 +542,25 @@ def read_rest(part, saved):
 
 
 def whole_restore(part, plan, saved):
-    """Returns the plan of --restore without -N, with this restore of a journal that saves these sectors.
+    """Returns the plan of --restore without -N.
 
-    The chip is identified first. The sectors that the journal doesn't save are read before the restore, and after it.
+    `plan` is the restore itself, and `saved` are the sectors in the journal. The program first identifies the chip.
+    Before and after the restore, it reads the sectors that the journal doesn't save.
     """
     rest = read_rest(part, saved)
     return probe(part) + rest + plan + rest
 
 
 def read_out(part, numbers):
-    """Returns the plan of -r. The program probes before it creates the file, and again before it reads."""
+    """Returns the plan of -r.
+
+    The program probes before it creates the file, and once more before it reads the sectors.
+    """
     return probe(part) * 2 + [read_sector(it) for it in numbers]
 
 
 def read_whole(part):
-    """Returns the plan that identifies the chip and reads all of it."""
+    """Returns the plan that probes the chip and reads all of it."""
     return probe(part) + [read_sector(it) for it in range(PARTS[part].size // SECTOR)]
 
 
@@ -521,10 +570,10 @@ def backup(part):
 
 
 def whole_run(part, plan, is_compared=False, has_regions=False):
-    """Returns the plan of -w or -E with this session.
+    """Returns the plan of -w or -E. `plan` is the session.
 
-    The chip is identified before the journal is created. If the change is compared, the whole chip is read after the
-    session and, if the change has regions, also before it.
+    The program probes before it creates the journal. If the whole chip is compared, the program reads it after the
+    session and, if the run has regions, also before.
     """
     return probe(part) + read_whole(part) * (is_compared and has_regions) + plan + read_whole(part) * is_compared
 
@@ -534,7 +583,7 @@ def touched(old, target):
 
 
 def journal(part, old, saved, status=b"\0\0", unique=DEVICE):
-    """Returns a journal of format 2 that saves these sectors of a chip (man/flashnor-journal.5)."""
+    """Returns a journal of format 2 that saves these sectors of a chip (flashnor-journal(5))."""
     found = b"NORUNDO2" + PARTS[part].id + unique + status + len(old).to_bytes(4, "little")
     for number in saved:
         found += number.to_bytes(4, "little") + sector_of(old, number)
@@ -543,18 +592,18 @@ def journal(part, old, saved, status=b"\0\0", unique=DEVICE):
 
 
 def done(plan, old, target):
-    """Returns the line that a session with this plan prints."""
+    """Returns the line "Done: .." that a session with this plan prints."""
     return report(plan, len(touched(old, target)))
 
 
 def report(plan, count):
-    """Returns the line that a session or a restore with this plan prints, if it touches this number of sectors."""
+    """Returns the line "Done: .." of a session or restore with this plan that touches `count` sectors."""
     erased = sum(out[0] in (*ERASES, 0xC7) for out, _ in plan)
     programmed = sum(out[0] == 0x02 for out, _ in plan)
     return f"Done: touched {count}, erases {erased}, programs {programmed}, transactions {len(plan)}."
 
 
 def found(part):
-    """Returns the line that names a chip."""
+    """Returns the line "Found .." for this chip."""
     name = part if PARTS[part].has_row else "SFDP"
     return f"Found {name} ({PARTS[part].id.hex()}), {PARTS[part].size} bytes."

@@ -1,4 +1,4 @@
-"""Cases of --unlock, of --restore, of refusals, and of usage faults. The lines are those of docs/SPECIFICATION.md."""
+"""These cases test --unlock, --restore, refused sessions and restores, usage faults, and the help."""
 
 import reference
 from bench import check
@@ -12,12 +12,12 @@ LAYOUT = b"7ff000:7fffff last\n0:fff first\n"
 
 
 def large_images():
-    """Returns two images of a W25Q64FV: only the last byte differs, and falls."""
+    """Returns two images of a W25Q64FV that differ only in the last byte: FFh in the first and 00h in the second."""
     return b"\xff" * LARGE, b"\xff" * (LARGE - 1) + b"\0"
 
 
 def unlocks(start):
-    """--unlock clears the protection bits, and restores them after the last program."""
+    """Checks that --unlock clears the protection bits before the change, and sets them again after the last program."""
     old, new = large_images()
     bench = start("W25Q64FV", data=old, status=b"\x04\0")
     bench.write("new", new)
@@ -33,7 +33,10 @@ def unlocks(start):
 
 
 def unlocks_further_chips(start):
-    """--unlock changes protected sectors of a further chip, and the restore of its journal does so, too."""
+    """Checks that --unlock changes a protected sector of a W25Q32FV, and that a restore lifts the protection by itself.
+
+    Without --unlock, the session ends with error 10.
+    """
     size = 1 << 22
     old, new = b"\xff" * size, b"\xff" * (size - 1) + b"\0"
     found, last = "Found W25Q32FV (ef4016), 4194304 bytes.", size // SECTOR - 1
@@ -54,7 +57,7 @@ def unlocks_further_chips(start):
 
 
 def refuses_protected(start):
-    """Without --unlock a protected sector is error 10, and nothing is changed."""
+    """Checks that a change of a protected sector without --unlock is error 10, and changes nothing."""
     old, new = large_images()
     bench = start("W25Q64FV", data=old, status=b"\x04\0")
     bench.write("new", new)
@@ -68,7 +71,7 @@ def refuses_protected(start):
 
 
 def refuses_locked(start):
-    """A status that is locked is error 9, for --unlock and for --wp-range."""
+    """Checks that --unlock and --wp-range end with error 9 if SRP0 or SRP1 locks the status."""
     old, new = large_images()
     for status in b"\x84\0", b"\x04\x01":
         bench = start("W25Q64FV", data=old, status=status)
@@ -81,12 +84,15 @@ def refuses_locked(start):
 
 
 def restores(start):
-    """--restore rewrites the saved sectors, whatever they hold. It reads the others before and after, except with -N."""
+    """Checks that --restore rewrites each saved sector, even if the sector has its saved bytes already.
+
+    Except with -N, the restore reads the other sectors before and after.
+    """
     old, new = images("restores")
     bench = start(data=new)
     bench.write("j", reference.journal("TINY64", old, (1, 2, 7, 15)))
     plan = reference.restore("TINY64", old, (1, 2, 7, 15))
-    # The second one finds the original chip.
+    # The second restore finds the original chip.
     for _ in range(2):
         bench.expect("--restore", "j", out=[reference.found("TINY64"), reference.report(plan, 4)])
         bench.check_chip(old)
@@ -99,7 +105,7 @@ def restores(start):
 
 
 def restores_the_named_chip(start):
-    """--restore with -c probes for the name before it restores."""
+    """Checks that --restore with -c compares the chip's name before it restores, and that another name is error 3."""
     old, new = images("restores_the_named_chip")
     bench = start(data=new)
     bench.write("j", reference.journal("TINY64", old, (1, 2, 7, 15)))
@@ -114,7 +120,10 @@ def restores_the_named_chip(start):
 
 
 def restores_no_other(start):
-    """--restore refuses a damaged journal (15), another chip (16), another device (20) and another status (17)."""
+    """Checks that --restore refuses a damaged journal (error 15), and journals that don't fit the chip.
+
+    The errors are 16 for another ID or size, 20 for another unique ID, and 17 for another status.
+    """
     old, new = images("restores_no_other")
     unique = bytes.fromhex("d1d2d3d4d5d6d7d8")
     bench = start(data=new, unique=unique)
@@ -139,7 +148,7 @@ def restores_no_other(start):
 
 
 def keeps_old_journals(start):
-    """A journal that exists already is file fault 4, stays as it is, and nothing is sent."""
+    """Checks that neither -w nor -r overwrites an existing journal: the run ends with file fault 4."""
     old, new = images("keeps_old_journals")
     bench = start(data=old)
     bench.write("new", new)
@@ -153,7 +162,7 @@ def keeps_old_journals(start):
 
 
 def refuses_images(start):
-    """An image of another length is error 4, and a missing file is file fault 1. The chip isn't changed."""
+    """Checks that an image of another length is error 4, and a missing image file fault 1. The chip isn't changed."""
     old, new = images("refuses_images")
     bench = start(data=old)
     bench.write("short", new[:-1])
@@ -168,9 +177,10 @@ def refuses_images(start):
 
 
 def refuses_regions(start):
-    """A wrong layout is a layout fault, and a region outside the chip is error 5. The chip isn't changed.
+    """Checks that a wrong layout is a layout fault, and that a region outside the chip is error 5.
 
-    Errors 4 and 5 come before the whole chip is read. With -N they come from the session, after the journal's creation.
+    The chip isn't changed. Without -N, errors 4 and 5 occur before the whole chip is read. With -N the session returns
+    them, and the run removes its journal.
     """
     bench = start(data=bytes(SIZE))
     bench.write("layout", b"0:fff a\n10000:10fff b\n")
@@ -186,7 +196,7 @@ def refuses_regions(start):
         bench.check_absent("j")
         bench.expect(*words, "-N", err=errors)
         bench.check_absent("j")
-    # Of several regions, the one that ends last is named.
+    # If several regions are given, the line names the region that ends last.
     bench.write("more", b"0:fff a\n10000:10fff b\n20000:23fff c\nf000:100ff d\n")
     for names, name, end in (("a,b", "b", 0x10FFF), ("c,a,b", "c", 0x23FFF), ("b:part,d", "b", 0x10FFF),
                              ("d", "d", 0x100FF)):
@@ -204,7 +214,7 @@ def refuses_regions(start):
 
 
 def needs_a_chip(start):
-    """No chip is error 1, and a chip with neither a known ID nor SFDP is error 2."""
+    """Checks that a missing chip is error 1, and that a chip without a known ID and without SFDP is error 2."""
     bench = start(data=FREE)
     bench.chip.transfer = lambda out, replies: (b"\0" if out[:1] == b"\x05" else b"\xff") * replies
     bench.expect(err=reference.NO_CHIP)
@@ -214,7 +224,10 @@ def needs_a_chip(start):
 
 
 def waits_for_the_chip(start):
-    """A chip with real durations is written, restored, and waited for if an earlier erase is still in progress."""
+    """Checks that a session and a restore wait while the chip is busy, with the durations of the datasheet.
+
+    The restore also waits for an erase that is in progress when it starts.
+    """
     old, new = images("waits_for_the_chip")
     bench = start(data=old, scale=1.0)
     bench.write("new", new)
@@ -222,7 +235,7 @@ def waits_for_the_chip(start):
     check("the last word", (got.status, got.err, got.out[:1]), (0, [], [reference.found("TINY64")]))
     bench.chip.wait()
     bench.check_chip(new)
-    # An erase of a saved sector is in progress, as after a session that was killed.
+    # An erase of a saved sector is in progress when the restore starts, as after a session that was killed.
     bench.chip.transfer(b"\x06", 0)
     bench.chip.transfer(bytes.fromhex("20002000"), 0)
     check("the erase is in progress", bench.chip.is_busy(), True)
@@ -234,7 +247,10 @@ def waits_for_the_chip(start):
 
 
 def uses_small_programmers(start):
-    """A programmer with the least limits that suffice is used: 260 bytes sent, 4,096 received."""
+    """Checks sessions with programmers that have low limits or no limits, or that lack optional serprog commands.
+
+    With these limits the program splits no page program (260 bytes) and no read of a sector (4,096 bytes).
+    """
     old, new = images("uses_small_programmers")
     for traits in ({"longest_write": 260, "longest_read": 4096}, {"longest_write": 0, "longest_read": 0},
                    {"lacks": (0x08, 0x11, 0x12), "buffer": 267}, {"lacks": (0x03, 0x04, 0x05, 0x08, 0x14, 0x15)}):
@@ -247,10 +263,14 @@ def uses_small_programmers(start):
 
 
 def fills_no_buffer(start):
-    """A write enable shares a write to the port only with a page program, if both fit into the serial buffer."""
+    """Checks that a write enable and a page program are written together to the port if the serial buffer holds both.
+
+    Otherwise, and before any other command, the write enable is written alone.
+    """
     old = bytes(SECTOR) + b"\xff" * (SIZE - SECTOR)
     new = bytearray(b"\x01" + old[1:SECTOR] + bytes(range(255)) * 2 + b"\xff" * (SIZE - SECTOR - 510))
-    # Two page programs: one has a data byte too few to go with its write enable, and the other has enough.
+    # The first of these page programs has 31 data bytes, too few to be written together with its write enable. The
+    # second has 32, which are enough.
     new[2 * SECTOR : 2 * SECTOR + 31], new[3 * SECTOR : 3 * SECTOR + 32] = b"\x5a" * 31, b"\x5a" * 32
     new = bytes(new)
     plan = reference.session("TINY64", old, new)
@@ -266,14 +286,14 @@ def fills_no_buffer(start):
 
 
 def takes_stale_bytes(start):
-    """Bytes that an earlier client left unread don't disturb a run."""
+    """Checks that bytes which an earlier client left unread don't disturb a run."""
     for stale in b"\x06", b"\x15\x06" * 20, bytes(range(256)) * 8:
         bench = start(stale=stale)
         bench.expect(out=[reference.found("TINY64")])
 
 
 EMPTY = "a setting in -p is empty; give serprog:dev=PATH, with commas only between settings"
-# Values of -p that are usage fault 3, each with what is wrong: a setting with its flaw, and other texts.
+# These settings, after `serprog:` in -p, are usage fault 3. The value is the message in the line before the fault.
 WRONG_SETTINGS = {
     "": EMPTY, "dev=": "invalid value in -p: 'dev='", "dev=DEV,": EMPTY,
     "dev=DEV,dev=DEV": "repeated key in -p: 'dev=DEV'",
@@ -302,7 +322,7 @@ WRONG_ARGUMENTS = (
 
 
 def refuses_arguments(start):
-    """Wrong arguments are usage faults, and nothing is sent."""
+    """Checks that wrong arguments are usage faults, and that nothing is sent."""
     bench = start()
     settings = {f"serprog:{text}": why for text, why in WRONG_SETTINGS.items()}
     for text, why in {**settings, **WRONG_PROGRAMMERS}.items():
@@ -319,7 +339,7 @@ def refuses_arguments(start):
 
 
 def helps_with_the_device(start):
-    """ip= and a baud rate, as flashrom takes them, are refused with a line that says what to give instead."""
+    """Checks that ip= and a baud rate, which flashrom accepts, are refused with a line that names the alternative."""
     bench = start()
     got = bench.finish(bench.start_words([bench.program, "-p", "serprog:ip=127.0.0.1:2000"]))
     bench.compare(got, [], ["error: ip= is not supported; give a device: -p serprog:dev=PATH", "Usage fault 3."])
@@ -330,7 +350,7 @@ def helps_with_the_device(start):
 
 
 def prints_help(start):
-    """-h prints the help to standard output, with the options, and sends nothing."""
+    """Checks that -h prints the options on standard output, and that nothing is sent."""
     bench = start()
     got = bench.finish(bench.start_words([bench.program, "-h"]))
     check("exit status and standard error", (got.status, got.err), (0, []))

@@ -1,6 +1,7 @@
-"""Cases of regions with a file of their own (-i NAME:FILE): a read writes the files, -w and -v take bytes from them.
+"""These cases test regions with their own files (-i NAME:FILE).
 
-The form of -i is that of flashrom's manual page. The expected bytes are cut out of the images by these cases.
+-r writes the bytes of a region to its file, and -w and -v take the bytes of a region from its file. flashrom's manual
+page describes the form of -i. The cases cut the expected bytes out of the images.
 """
 import os
 import random
@@ -27,13 +28,13 @@ def cut(data, name):
 
 
 def put(data, name, content):
-    """Returns the data with the content at the first address of a region of LAYOUT."""
+    """Returns the data with `content` at the first address of a region of LAYOUT."""
     first, _ = SPANS[name]
     return data[:first] + content + data[first + len(content) :]
 
 
 def only(data, *names):
-    """Returns the bytes of these regions at their addresses, and FFh at all other addresses."""
+    """Returns the data with FFh at all addresses outside these regions."""
     result = FREE
     for name in names:
         result = put(result, name, cut(data, name))
@@ -47,7 +48,10 @@ def begin(start, data, **traits):
 
 
 def reads_regions_into_files(start):
-    """-r writes each file with exactly the bytes of its region; a longer file is truncated; regions may lack a file."""
+    """Checks that -r writes exactly the bytes of a region to its file, and truncates a longer file.
+
+    A region doesn't need a file of its own.
+    """
     old = random_image("read")
     bench = begin(start, old)
     bench.write("data.bin", b"x" * SIZE)
@@ -56,7 +60,7 @@ def reads_regions_into_files(start):
     bench.check_file("out", only(old, "data", "main", "id"))
     bench.check_file("data.bin", cut(old, "data"))
     bench.check_file("id.bin", cut(old, "id"))
-    # Overlapping regions, a region twice, and a name of a file with colons.
+    # Regions may overlap, a region may be named twice, and a file name may contain a colon.
     bench.expect("-r", "out", "-l", "layout", "-i", "data:a,over:b:c,data:d",
                  out=[reference.found("TINY64"), "Read 65536 bytes."])
     for name, region in ("a", "data"), ("b:c", "over"), ("d", "data"):
@@ -65,7 +69,7 @@ def reads_regions_into_files(start):
 
 
 def takes_several_options(start):
-    """Several -i, by each of their names, include all their regions, as one -i with commas does."""
+    """Checks that several -i, by any of the option's names, include all their regions, like one -i with commas."""
     old = random_image("several")
     for words in (
             ("-i", "data:a,main,id:b"), ("-i", "data:a", "-i", "main", "-i", "id:b"),
@@ -77,7 +81,8 @@ def takes_several_options(start):
         bench.check_file("out", only(old, "data", "main", "id"))
         bench.check_file("a", cut(old, "data"))
         bench.check_file("b", cut(old, "id"))
-    # The file of the later option wins, a wrong name is found in each option, and so is the file `-`.
+    # If regions overlap, the file of the later option is used. A wrong region and the file `-` are found in each
+    # option.
     bench = begin(start, old)
     bench.write("first", b"\x01" * 0x2000)
     bench.write("second", b"\x02" * 0x1000)
@@ -93,7 +98,7 @@ def takes_several_options(start):
 
 
 def writes_a_region_from_a_file(start):
-    """-w takes the bytes of a region from its file, all others of the included regions from the image."""
+    """Checks that -w takes a region's bytes from its file, and the bytes of other included regions from the image."""
     old, new, other = (random_image(seed) for seed in ("old", "new", "other"))
     bench = begin(start, old)
     bench.write("new", new)
@@ -110,7 +115,7 @@ def writes_a_region_from_a_file(start):
 
 
 def lets_the_later_file_win(start):
-    """If two regions with files overlap, the bytes that both have are those of the later file in -i."""
+    """Checks that if two regions with files overlap, the file that -i names later is used for their common bytes."""
     old, one, other = (random_image(seed) for seed in ("old", "one", "other"))
     for names, wanted in (
             ("data:one,over:other", put(put(old, "data", cut(one, "data")), "over", cut(other, "over"))),
@@ -125,7 +130,10 @@ def lets_the_later_file_win(start):
 
 
 def verifies_a_region_against_a_file(start):
-    """-v compares a region with its file, and the other regions with the image; one other byte is error 14."""
+    """Checks that -v compares a region with its file, and the other regions with the image.
+
+    One wrong byte in the file is error 14.
+    """
     old = random_image("verify")
     bench = begin(start, old)
     image = put(old, "data", b"\0" * 0x2000)
@@ -143,7 +151,7 @@ def verifies_a_region_against_a_file(start):
 
 
 def refuses_other_lengths(start):
-    """A file that is shorter or longer than its region is file fault 3, with both lengths, before anything is sent."""
+    """Checks that a file that isn't as long as its region is file fault 3 with both lengths. Nothing may be sent."""
     old = random_image("lengths")
     bench = begin(start, old)
     bench.write("image", old)
@@ -162,7 +170,10 @@ def refuses_other_lengths(start):
 
 
 def refuses_files_that_cannot_be_used(start):
-    """A missing file, an empty name, a file of -E and an unknown region are refused before anything is sent."""
+    """Checks that a missing file, an empty file name, a file with -E, and an unknown region are refused.
+
+    Nothing may be sent.
+    """
     old = random_image("missing")
     bench = begin(start, old)
     bench.write("image", old)
@@ -189,7 +200,10 @@ def refuses_files_that_cannot_be_used(start):
 
 
 def gives_each_file_of_a_read_one_role(start):
-    """The file of a region can't be the output, the layout, the device, or the file of another region of a read."""
+    """Checks that with -r the file of a region can't be another file of the run: that is file fault 5.
+
+    The other file may be the output, the layout, the device, or the file of another region.
+    """
     old = random_image("roles")
     bench = begin(start, old)
     for names, wrong in (("boot:out", "out"), ("boot:./out", "./out"), ("boot:layout", "layout"),
@@ -207,7 +221,7 @@ def gives_each_file_of_a_read_one_role(start):
 
 
 def keeps_the_files_of_a_write_apart(start):
-    """The file of a region that is written can't be the journal or the device; two regions may have one file."""
+    """Checks that with -w the file of a region can't be the journal or the device. Two regions may have one file."""
     old, new = random_image("old"), random_image("new")
     bench = begin(start, old)
     bench.write("image", old)
@@ -224,7 +238,10 @@ def keeps_the_files_of_a_write_apart(start):
 
 
 def keeps_a_journal(start):
-    """A journal isn't truncated if it is the file of a region: file fault 4 before anything is sent."""
+    """Checks that -r doesn't overwrite a journal that is given as a region's file.
+
+    The run ends with file fault 4 before anything is sent.
+    """
     old, new = random_image("old"), random_image("new")
     bench = begin(start, old)
     bench.write("new", new)
@@ -243,7 +260,10 @@ def keeps_a_journal(start):
 
 
 def reports_a_file_that_cannot_be_written(start):
-    """A file that can't be written after the read is file fault 2 with its name; the output is complete then."""
+    """Checks that a region's file that can't be written is file fault 2 with its name. The output is complete then.
+
+    A region's file that is a directory is file fault 1, and nothing is sent.
+    """
     old = random_image("full")
     bench = begin(start, old)
     bench.path("full").symlink_to("/dev/full")
@@ -259,7 +279,10 @@ def reports_a_file_that_cannot_be_written(start):
 
 
 def needs_a_regular_output(start):
-    """The regions are read back from the output, so it can't be a device or a FIFO if a region has a file."""
+    """Checks that the output of -r must be a regular file if a region has its own file.
+
+    The program copies the region's bytes from the output.
+    """
     bench = begin(start, random_image("output"))
     os.mkfifo(bench.path("fifo"))
     for output in "/dev/null", "fifo":
@@ -273,7 +296,7 @@ def needs_a_regular_output(start):
 
 
 def takes_regions_of_maps(start):
-    """Regions of an FMAP and of a flash descriptor have files, too."""
+    """Checks that regions of an FMAP and of a flash descriptor can have their own files, too."""
     old = with_fmap(random_image("fmap"), 0x7123, [(0, 0x1000, b"RO"), (0x1001, 0x2FFF, b"RW_A")])
     bench = start(data=old)
     bench.write("map", old)
@@ -292,7 +315,7 @@ def takes_regions_of_maps(start):
 
 
 def keeps_the_files_if_a_read_stops(start):
-    """If the read stops at any transaction, no file of a region is created or truncated."""
+    """Checks that no region's file is created or truncated if -r stops before it has read all sectors."""
     old = random_image("stop")
     bench = begin(start, old)
     bench.write("a", b"before")
@@ -304,7 +327,7 @@ def keeps_the_files_if_a_read_stops(start):
 
 
 def keeps_printed_files(start):
-    """The file of a region can't be a file to which the program prints."""
+    """Checks that a region's file can't be the file to which standard output is redirected."""
     bench = begin(start, random_image("printed"))
     bench.server.begin({})
     with open(bench.path("print"), "wb") as printed:
@@ -315,7 +338,10 @@ def keeps_printed_files(start):
 
 
 def finds_links_to_new_files(start):
-    """A file of a region may be a link to a file that the run creates. The run finds this before it writes the link."""
+    """Checks that a region's file may not be a link to another file of the run, even to one that the run creates.
+
+    The run ends with file fault 5 before it writes to the link.
+    """
     old = random_image("links")
     bench = begin(start, old)
     bench.path("link").symlink_to("out")

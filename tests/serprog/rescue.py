@@ -1,8 +1,8 @@
-"""Cases that follow RECOVERY of flashnor-serprog(8) as its reader would: the printed lines alone decide what is done.
+"""These cases follow the section RECOVERY of flashnor-serprog(8) as a reader would, guided only by the printed lines.
 
-A session is disturbed, once for each fault and each place in it. Then `decide` looks its lines up in the page's table
-"When to restore". If the table says no, the chip must be as before. If it says yes, `rescue` goes through the steps of
-the page, and afterwards the chip must be as before the session.
+A session is disturbed, once for each kind of fault and each place that is tried. Then `decide` looks up the printed
+lines in the table "When to restore" of the page. If the table says no, the chip must be as before the session. If the
+table says yes, `rescue` performs the steps of the page, and the chip must then be as before the session.
 """
 import re
 
@@ -12,7 +12,7 @@ from losses import session_wire
 from manual import TOP
 from options import ALL, images
 
-# How often a restore is repeated before the test gives up.
+# `rescue` runs at most this number of restores from the session's journal.
 MOST_RESTORES = 4
 
 
@@ -25,7 +25,7 @@ def table():
 
 
 def fits(row, lines):
-    """Returns whether a row of the table fits the lines that a session printed."""
+    """Returns whether the lines that a session printed fit a row of the table."""
     if row.startswith("no line"):
         return not lines
     if row == "anything else":
@@ -38,14 +38,19 @@ def fits(row, lines):
 
 
 def decide(got):
-    """Returns what the table says after this run: the first words of its second column, `yes` or `no`."""
+    """Returns "yes" if the table says to restore after this run, and otherwise "no".
+
+    The answer "only if .." of the table counts as "no".
+    """
     answer = next(answer for row, answer in table() if fits(row, got.err + got.out))
     return "no" if answer.startswith(("no", "only if")) else "yes"
 
 
 def rescue(bench, old, status=b"\0\0"):
-    """Follows the steps of the page after a session with the journal j1, the image before.bin and the backup
-    whole.journal."""
+    """Performs the steps of the page after a session, and checks that they restore the original chip.
+
+    The files are the journal j1, the image before.bin, and the backup whole.journal.
+    """
     for _ in range(MOST_RESTORES):
         bench.plug()
         got = bench.run("--restore", "j1")
@@ -62,7 +67,7 @@ def rescue(bench, old, status=b"\0\0"):
 
 
 def board(start, old, new):
-    """Returns a board with its image, its backup, and the image of the session."""
+    """Returns a bench with the original chip, and its image, its backup and the image of the session as files."""
     bench = start(data=old)
     bench.write("before.bin", old)
     bench.write("new.bin", new)
@@ -71,7 +76,7 @@ def board(start, old, new):
 
 
 def follow(bench, got, old):
-    """Does what the page says after a session that printed these lines."""
+    """Does what the page says after a session that printed these lines, and checks the chip."""
     if decide(got) == "yes":
         rescue(bench, old)
     elif got.out[-1:] and got.out[-1].startswith("Done"):
@@ -81,7 +86,10 @@ def follow(bench, got, old):
 
 
 def rescues_after_each_loss(start):
-    """After a kill, a lost reply, a refusal or a lost connection in a session, the page's steps restore the chip."""
+    """Checks that the page's steps restore the chip after a kill, a lost reply, a NAK or a lost connection.
+
+    Each event is tried at every 19th transaction of a session.
+    """
     old, new = images("rescues_after_each_loss")
     wire = session_wire(old, new)
     answers = set()
@@ -96,7 +104,7 @@ def rescues_after_each_loss(start):
 
 
 def rescues_after_each_wrong_address(start):
-    """After a wrong address bit, of one command or of all, the page's steps restore the chip."""
+    """Checks that the page's steps restore the chip after a wrong address bit in one command, or in a whole change."""
     old, new = images("rescues_after_each_wrong_address", (2, 7, 15))
     wire = session_wire(old, new)
     sealed = next(at for at, (out, _) in enumerate(wire, 1) if out[0] in reference.CHANGING)

@@ -1,7 +1,7 @@
-"""Cases of restores that compare the sectors which their journal doesn't save, before and after them.
+"""These cases test restores that compare the sectors which the journal doesn't save, before and after the restore.
 
-Expected bytes and addresses are those of the models (chip.py). Where a line goes on with advice, its beginning is
-compared.
+The expected bytes and addresses are those of the chip's model (chip.py). If a line ends with advice, only its beginning
+is compared.
 """
 import reference
 from bench import check
@@ -12,37 +12,38 @@ from wire import STOPPED, begins, check_unchanged, first_difference
 
 
 def restored(seed, numbers=(2, 7, 15)):
-    """Returns the original chip, a chip in which these sectors changed, and the journal that saves them."""
+    """Returns the original chip, a chip on which these sectors differ, and a journal that saves these sectors."""
     old, new = images(seed, numbers)
     return old, new, reference.journal("TINY64", old, numbers)
 
 
 def restore_wire(old, numbers):
-    """Returns the transactions over the wire of a restore that is compared, and the numbers of its modifying ones."""
+    """Returns the transactions on the wire of a restore without -N, and the numbers of its modifying commands."""
     plan = reference.whole_restore("TINY64", reference.restore("TINY64", old, numbers), numbers)
     wire = reference.carried(plan, old)
     return wire, [at for at, (out, _) in enumerate(wire, 1) if out[0] in reference.CHANGING]
 
 
 def count(plan, data):
-    """Returns the number of transactions over the wire of a plan, without those before the job."""
+    """Returns the number of transactions on the wire for a plan, without those before the job."""
     return len(reference.carried(plan, data)) - len(reference.before_job(data))
 
 
 def rest_count(numbers, data):
-    """Returns the number of transactions over the wire that read the sectors which a journal doesn't save once."""
+    """Returns the number of transactions on the wire that read each sector which the journal doesn't save."""
     return count(reference.read_rest("TINY64", numbers), data)
 
 
 def compares_the_rest_of_a_restore(start):
-    """If an address bit is wrong for the whole restore, its sectors verify, and the comparison is chip fault 4.
+    """Checks that a restore ends with chip fault 4 if an address bit is wrong in each command until the comparison.
 
-    With -N it isn't noticed. Nor is it noticed by a further restore from the same journal.
+    The saved sectors verify, because the verification reads them with the wrong bit, too. With -N, and in a second
+    restore from this journal, the wrong sectors aren't detected.
     """
     numbers = (2, 7, 15)
     old, new, journal = restored("compares_the_rest_of_a_restore")
     wire, changing = restore_wire(old, numbers)
-    # The last reads before the comparison are those of the sectors that the restore changed.
+    # `rest` is the number of transactions that compare the other sectors after the restore.
     rest = rest_count(numbers, old)
     wrong = bytearray(new)
     for number in numbers:
@@ -78,7 +79,10 @@ def compares_the_rest_of_a_restore(start):
 
 
 def compares_after_error_14(start):
-    """A wrong address bit of one erase or program of a restore is error 14 and chip fault 4, each on a line."""
+    """Checks that a wrong address bit in one erase or program of a restore causes error 14 and chip fault 4.
+
+    With -N only error 14 is reported.
+    """
     numbers = (2, 7, 15)
     old, new, journal = restored("compares_after_error_14")
     wire, changing = restore_wire(old, numbers)
@@ -87,7 +91,8 @@ def compares_after_error_14(start):
         for words in (), ("-N",):
             bench = start(data=new)
             bench.write("j", journal)
-            # With -N the 13 sectors that aren't saved are not read, nor is the chip identified before.
+            # With -N the program doesn't first probe the chip and read the 13 unsaved sectors, so later transactions
+            # have lower numbers.
             before = count(reference.probe("TINY64"), new) + rest_count(numbers, new)
             number = at - before * bool(words)
             bench.server.traits.wrong_address = (number, number, 14)
@@ -109,7 +114,10 @@ def compares_after_error_14(start):
 
 
 def reads_restores_twice(start):
-    """A restore reads all data twice, even if it equals the journal: one wrong bit in any of its reads stops it."""
+    """Checks that a restore reads all data twice, even data that equals the journal.
+
+    One wrong bit in any of these reads stops the restore with error 12.
+    """
     old, _, journal = restored("reads_restores_twice")
     for words in (), ("--quick",), ("-N",), ("--quick", "-N"):
         bench = start(data=old)
@@ -126,15 +134,20 @@ def reads_restores_twice(start):
 
 
 def stops_in_the_rest(start):
-    """Two reads of the rest that differ stop a restore before it changes anything. After it, they are error 12."""
+    """Checks that a restore stops with error 12 if two reads of an unsaved sector differ.
+
+    If they differ before the restore, nothing is changed. If they differ after the restore, a line says that the
+    unsaved sectors weren't compared.
+    """
     numbers = (2, 7, 15)
     old, new, journal = restored("stops_in_the_rest")
     wire, changing = restore_wire(old, numbers)
     note = "The sectors that the journal doesn't save were not compared after the restore."
     before = next(at for at, it in enumerate(wire, 1) if it == reference.read_sector(0))
     erase = next(at for at in changing if wire[at - 1][0][0] == 0x20)
-    # The last transaction reads the ID, after the last read of data. After the wrong erase, the verification ends at the
-    # first of the three sectors, and each of the others would need four transactions.
+    # The last transaction reads the ID, so the last read of data is the one before it. In the third run the first erase
+    # has a wrong address, so the verification ends at the first of the three saved sectors. The other two would need
+    # four transactions each, so the number of the last read is lower by 8.
     last, mismatch = len(wire) - 1, "Error 14: bytes differ at "
     for number, wrong, lines in ((before, (), [STOPPED, DIFFER]), (last, (), [STOPPED, DIFFER, note]),
                                  (last - 8, (erase, erase, 14), [mismatch, STOPPED, DIFFER, note])):

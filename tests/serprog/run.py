@@ -1,18 +1,19 @@
 #!/usr/bin/env python3
-"""tests/serprog/run.py PROGRAM: the program flashnor-serprog with a serial programmer at a pseudo-terminal.
+"""The command `tests/serprog/run.py PROGRAM [NAME..]` tests the program flashnor-serprog with a simulated programmer.
 
-The programmer is server.py, and its chip is a model from the datasheets (chip.py). The cases are in options.py,
-journals.py, locks.py, maps.py, chip_maps.py, regions.py, terminal.py, logs.py, backups.py, refusals.py, faults.py,
-wire.py, contact.py, contacts.py, rest.py, sectors.py, narrow.py, extract.py, ports.py, units.py, printed.py, typed.py,
-makers.py, quad.py, board_bits.py and trials.py; manual.py and rescue.py play the manual page. all_makers.py plays the
-chips that chips/ describes, and status_bits.py their bits of status 1, with the model of models.py, which
-model_rules.py tests. bits.py tries each single wrong bit of each reply, and misses each single frame. losses.py kills
-the program, and loses replies, at each transaction of a session and of its restores; busy.py does so while the chip is
-busy. What the program must send and print is computed by reference.py, without the program.
+server.py simulates the programmer at a pseudo-terminal, and chip.py simulates the chip after the datasheets. The
+command runs the cases of the MODULES below, or only the cases, bits.py's jobs (`bits_..`) and `losses` that are named:
 
-A case that failed is printed, with what was wanted and what was got. The last line is `N passed, M failed`, and the
-exit status is 1 if one failed. `run.py PROGRAM NAME..` runs only the cases with these names, or `losses`, or the jobs
-of bits.py.
+- manual.py and rescue.py follow the manual page.
+- all_makers.py tests the chips that chips/ describes, and status_bits.py tests bits of their status 1. Both use the
+  model of models.py, which model_rules.py tests.
+- bits.py inverts single bits of replies, and lets the chip miss single frames.
+- `losses` runs losses.py and busy.py. They kill the program, or drop a reply, at each transaction of a session and of
+  its restores. In busy.py this happens while the chip is busy.
+
+reference.py computes what the program must send and print, without the program. For a failed case, the command prints
+what was expected and what was received. Its last line is `N passed, M failed`, and its exit status is 1 if a case
+failed.
 """
 import os
 import sys
@@ -67,7 +68,7 @@ CASES = {case.__name__: case for module in MODULES for case in module.CASES}
 
 
 def try_case(program, name):
-    """Runs a case, and returns nothing, or the lines that say what was wrong."""
+    """Runs a case. Returns `None` if the case passed, and otherwise the lines that describe the failure."""
     case, benches = CASES[name], []
     with tempfile.TemporaryDirectory() as folder:
 
@@ -90,7 +91,7 @@ def try_case(program, name):
 
 
 def run_all(tries, pool):
-    """Runs these functions in the processes of the pool, and returns how many passed and failed."""
+    """Runs these functions in the processes of the pool, and returns how many passed and how many failed."""
     passed = failed = 0
     for failure in [pool.submit(it) for it in tries]:
         lines = failure.result()

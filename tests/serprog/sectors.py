@@ -1,7 +1,8 @@
-"""Cases of the file beside a session's journal, which has the sums of the sectors before the session.
+"""These cases test the file j.sectors, in which a session with the journal j saves sums of sectors before its change.
 
-A disturbed address erases or programs a sector that the journal doesn't save. The session names the sector, and a
-restore ends with chip fault 5 in place of "Done". Expected bytes and addresses are those of the models (chip.py).
+A disturbed address erases or programs a sector that the journal doesn't save. The session then names this sector, and a
+restore ends with chip fault 5 instead of "Done". The expected bytes and addresses are those of the chip's model
+(chip.py).
 """
 import hashlib
 import random
@@ -16,29 +17,29 @@ from losses import sealed_after, session_wire
 from options import ALL, images
 from wire import begins
 
-# The sectors that a session changes. In sector 1 bits only change from 1 to 0.
+# A session changes these sectors. In sector 1 bits only change from 1 to 0.
 CHANGED = (1, 2, 7, 15)
-# A library that records calls on files.
+# This library records the program's calls on files.
 CUT = Path(__file__).parents[1] / "kill/cut.c"
-# The beginning of the frame of an erase of 4 KiB.
+# The serprog frame of a 4 KiB erase begins with these bytes.
 ERASE = bytes.fromhex("13 040000 000000 20")
 
 
 def places(numbers):
-    """Returns how lines name these sectors: at most four, and the number of the others."""
+    """Returns how a printed line names these sectors: the addresses of at most four, and the number of the others."""
     text = ", ".join(f"0x{number * SECTOR:06x}" for number in numbers[:4])
     more = f" and {len(numbers) - 4} more" if len(numbers) > 4 else ""
     return f"the sector{'s' * (len(numbers) > 1)} at {text}{more}"
 
 
 def strays(numbers):
-    """Returns the last line of a session that changed these other sectors."""
+    """Returns the last line of a session that has changed these sectors, although its journal doesn't save them."""
     return (f"Also changed, though the journal doesn't save it: {places(numbers)}. A disturbed address on the wire has "
             "probably erased or programmed it. After the restore, restore it from a backup.")
 
 
 def differs(numbers):
-    """Returns the line of a restore after which these sectors aren't as they were before the session."""
+    """Returns the line of a restore after which these sectors differ from the chip before the session."""
     return (f"Chip fault 5: the journal was restored, but the chip differs from before the session in {places(numbers)}. "
             "The journal doesn't save this. If a later session that you accepted or the running board (NVRAM, UEFI "
             "variables) has written there, it is right: don't restore it. Otherwise a disturbed address on the wire has "
@@ -46,9 +47,10 @@ def differs(numbers):
 
 
 def disturbed(start, seed, wrong, numbers=CHANGED):
-    """Runs a session in which the transactions from the first to the last of `wrong` have a wrong address bit.
+    """Runs a session with a wrong address bit in the transactions from the first to the last of `wrong`.
 
-    Returns the bench, with the original chip in the backup `whole`, the original, and what the session printed.
+    Returns the bench (with a backup of the original chip in the file `whole`), the original chip's bytes, and the
+    result of the session.
     """
     old, new = images(seed, numbers)
     bench = start(data=old)
@@ -62,19 +64,19 @@ def disturbed(start, seed, wrong, numbers=CHANGED):
 
 
 def first_of(seed, opcode):
-    """Returns the number of the first transaction with this opcode in a session."""
+    """Returns the number of the first transaction of a session that has this opcode."""
     return next(at for at, (out, _) in enumerate(session_wire(*images(seed, CHANGED)), 1) if out[0] == opcode)
 
 
 def changed_in(bench, old):
-    """Returns the sectors of the chip that differ from the original."""
+    """Returns the sectors of the chip that differ from the original chip."""
     return [it for it in ALL if reference.sector_of(bench.chip.data, it) != reference.sector_of(old, it)]
 
 
 def names_the_other_sector(start):
-    """A wrong address bit of one erase or program: the session and each restore name the other sector.
+    """Checks that the session and each restore name the wrong sector if one erase or program had a wrong address bit.
 
-    A restore from a backup cures it, and the restore from the journal then ends with "Done".
+    After a restore from a backup, a restore from the journal ends with "Done".
     """
     for opcode in 0x20, 0x02:
         number = first_of("names_the_other_sector", opcode)
@@ -94,9 +96,9 @@ def names_the_other_sector(start):
 
 
 def names_all_other_sectors(start):
-    """If an address bit is wrong for the whole change, chip fault 4 and each restore name each other sector.
+    """Checks that a session and its restore name all wrong sectors if an address bit was wrong during the whole change.
 
-    Of more than four the first four are named, and the others are counted.
+    If there are more than four, only the first four are named, and the others are counted.
     """
     for numbers in (2, 7, 15), (2, 4, 7, 9, 11, 14):
         wire = session_wire(*images("names_all_other_sectors", numbers))
@@ -113,7 +115,10 @@ def names_all_other_sectors(start):
 
 
 def disturbed_at_the_end(bench, old, new):
-    """Runs a session in the last 192 KiB of a chip. Its only erase of 4 KiB has a wrong address bit in a second run."""
+    """Runs a session in the last 192 KiB of a chip, and once more with a wrong address bit in its only 4 KiB erase.
+
+    Returns the result of the second run.
+    """
     bench.remembers = False
     bench.write("new", new)
     bench.write("layout", b"fd0000:ffffff end\n")
@@ -131,7 +136,10 @@ def disturbed_at_the_end(bench, old, new):
 
 
 def names_the_last_sector(start):
-    """After erases of 64, 32 and 4 KiB of a chip of 16 MiB only the last sector is named, which no erase was to hit."""
+    """Checks that a session names the last sector of a chip of 16 MiB, which a disturbed 4 KiB erase has hit.
+
+    The session also has erases of 64 and 32 KiB, whose sectors must not be named.
+    """
     size = 1 << 24
     old = b"\xff" * (size - 0x30000) + random.Random("names_the_last_sector").randbytes(0x30000)
     new = bytearray(old)
@@ -147,7 +155,10 @@ def names_the_last_sector(start):
 
 
 def says_what_it_cannot_know(start):
-    """Without the file, or with a wrong one, a restore says so after "Done". With -N, or a backup, it needs none."""
+    """Checks that a restore ends with "Done" and a line with a reason if j.sectors is missing or wrong.
+
+    A restore with -N, and a restore from a backup, don't need the file.
+    """
     number = first_of("says_what_it_cannot_know", 0x20)
     bench, old, _ = disturbed(start, "says_what_it_cannot_know", (number, number))
     right = bench.path("j.sectors").read_bytes()
@@ -174,7 +185,7 @@ def says_what_it_cannot_know(start):
 
 
 def reports_an_unreadable_file(start):
-    """If the file can't be read, for example because a directory has its name, a restore says so after "Done"."""
+    """Checks that a restore ends with "Done" and a line with the reason if a directory has the name j.sectors."""
     old, new = images("reports_an_unreadable_file", CHANGED)
     bench = start(data=old)
     bench.write("new", new)
@@ -188,7 +199,10 @@ def reports_an_unreadable_file(start):
 
 
 def names_what_wp_range_leaves_open(start):
-    """A session of --wp-range reads no sector, so its restore says after "Done" that it can't know about sectors."""
+    """Checks that a restore from a journal of --wp-range says that it can't know whether sectors have changed.
+
+    --wp-range reads no sector, so it writes no j.sectors.
+    """
     bench = start("W25Q64FV")
     check("the session", bench.run("--wp-range", "0,0x800000", "--journal", "j").status, 0)
     bench.check_absent("j.sectors")
@@ -200,14 +214,14 @@ def names_what_wp_range_leaves_open(start):
 
 
 def compares_whole_sums(start):
-    """A sum that differs in only one of its eight bytes is chip fault 5."""
+    """Checks that a sum which differs in only one of its eight bytes is chip fault 5."""
     old, new = images("compares_whole_sums", CHANGED)
     bench = start(data=new)
     bench.write("j", reference.journal("TINY64", old, CHANGED))
     body = reference.sums("TINY64", old, ALL)[:-32]
     for other in 0, 12:
         for at in range(8):
-            # The header has 19 bytes, and an entry has 9, the first of which is 1.
+            # j.sectors has a header of 19 bytes, and an entry of 9 bytes for each sector: 01h and the sum.
             place = 19 + 9 * other + 1 + at
             wrong = body[:place] + bytes([body[place] ^ 0x10]) + body[place + 1 :]
             bench.write("j.sectors", wrong + hashlib.sha256(wrong).digest())
@@ -215,7 +229,10 @@ def compares_whole_sums(start):
 
 
 def notes_included_sectors(start):
-    """With regions and -N only the sectors that were read are known. With regions alone all are."""
+    """Checks that j.sectors has a sum for each sector that the session read.
+
+    With regions and -N these are the sectors with included addresses, and otherwise all sectors.
+    """
     old, new = images("notes_included_sectors", CHANGED)
     for words, known in ((), ALL), (("-N",), range(1, 9)):
         bench = start(data=old)
@@ -230,7 +247,10 @@ def notes_included_sectors(start):
 
 
 def keeps_an_old_file(start):
-    """A file that is there already is never overwritten. If the journal is there too, its own fault is printed."""
+    """Checks that an existing j.sectors isn't overwritten: the session ends with file fault 4 and sends nothing.
+
+    If the journal exists too, the file fault names the journal.
+    """
     old, new = images("keeps_an_old_file", CHANGED)
     bench = start(data=old)
     bench.write("new", new)
@@ -246,7 +266,7 @@ def keeps_an_old_file(start):
 
 
 def goes_on_without_the_file(start):
-    """If the file can't be written, a line before the change says so, and the session goes on."""
+    """Checks that a session goes on if it can't write j.sectors, and prints a line about this."""
     old, new = images("goes_on_without_the_file", CHANGED)
     bench = start(data=old)
     bench.write("new", new)
@@ -259,7 +279,7 @@ def goes_on_without_the_file(start):
 
 
 def writes_it_before_the_change(start):
-    """The file is complete when the journal was sealed, and a session without a change has none."""
+    """Checks that j.sectors is complete before the change. A session without a change doesn't write this file."""
     old, new = images("writes_it_before_the_change", CHANGED)
     wire = session_wire(old, new)
     sealed = sealed_after(wire)
@@ -278,7 +298,7 @@ def writes_it_before_the_change(start):
 
 
 def syncs_it_before_the_change(start):
-    """Its bytes are synced before the first erase is sent, and so is the directory that has its name."""
+    """Checks that j.sectors and its directory are synced before the first erase is sent."""
     if not shutil.which("cc"):
         print("skipped: syncs_it_before_the_change, since there is no C compiler (cc)")
         return
@@ -299,7 +319,7 @@ def syncs_it_before_the_change(start):
 
 
 def events_of(record):
-    """Returns what cut.c recorded of files: the kind, the name and the bytes of each event."""
+    """Returns the file events that cut.c recorded: the kind, the file's name and the bytes of each event."""
     found, at = [], 0
     while at < len(record):
         end = record.index(b"\n", at)

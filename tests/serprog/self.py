@@ -1,8 +1,8 @@
 #!/usr/bin/env python3
-"""tests/serprog/self.py: whether run.py passes with a right program, and fails with a wrong one.
+"""The command tests/serprog/self.py tests whether run.py passes with a right program, and fails with a wrong one.
 
-The program is stand_in.py, which makes a mistake that the environment names. For each mistake one case, or a loss, must
-fail. The last line is `N passed, M failed`.
+The program is stand_in.py, which makes the mistake that the environment variable MISTAKE names. For each mistake the
+named case, or bits.py's job, must fail. The last line is `N passed, M failed`.
 """
 import os
 import subprocess
@@ -14,7 +14,7 @@ from pathlib import Path
 
 HERE = Path(__file__).resolve().parent
 
-# Each mistake of the program, and the case that must detect it.
+# A key is a mistake of the stand-in, and its value is the case that must detect this mistake.
 MISTAKES = {
     "opens anything": "needs_a_character_device",
     "does not lock": "holds_its_lock",
@@ -93,13 +93,16 @@ MISTAKES = {
     "knows no long names": "takes_long_names",
 }
 RIGHT = sorted(set(MISTAKES.values()))
-# Cases that interrupt a job at each transaction take each ninth, with the right program and with each mistake. All
-# mistakes are detected at one of these.
+# With this STRIDE, cases that interrupt a job at each transaction try only every ninth one. These are enough to detect
+# all mistakes.
 STRIDE = "9"
 
 
 def make_program(folder):
-    """Makes a script that runs the stand-in, and returns its path. Without site-packages (-S) Python starts faster."""
+    """Creates a script that runs the stand-in, and returns its path.
+
+    Without site-packages (-S) Python starts faster.
+    """
     program = Path(folder) / "stand_in"
     program.write_text(f'#!/bin/sh\nexec "{sys.executable}" -S "{HERE / "stand_in.py"}" "$@"\n', encoding="utf-8")
     program.chmod(0o755)
@@ -107,7 +110,7 @@ def make_program(folder):
 
 
 def run(program, mistake, names):
-    """Runs cases with a mistake of the program, and returns the exit status and the lines."""
+    """Runs these cases with a mistake of the stand-in, and returns the exit status and the printed lines."""
     words = [sys.executable, HERE / "run.py", program, *names]
     env = dict(os.environ, MISTAKE=mistake, STRIDE=STRIDE)
     done = subprocess.run(words, env=env, stdout=subprocess.PIPE, text=True, check=False)
@@ -115,7 +118,10 @@ def run(program, mistake, names):
 
 
 def detects(program, mistake):
-    """Returns whether the case of a mistake fails, or a sweep of bits.py, and no other thing does."""
+    """Returns whether only the case of this mistake fails.
+
+    For a job of bits.py, one or more of its sweeps must fail.
+    """
     name = MISTAKES[mistake]
     status, lines = run(program, mistake, [name])
     failures = [it for it in lines if it.startswith("FAILED: ")]
@@ -126,7 +132,7 @@ def detects(program, mistake):
 
 
 def test_all(program):
-    """Tests the right program and each mistake, and returns how many passed and failed."""
+    """Tests the right program and each mistake, and returns how many tests passed and how many failed."""
     status, lines = run(program, "", RIGHT)
     passed = int(status == 0 and lines[-1].endswith(" passed, 0 failed") and int(lines[-1].split()[0]) >= len(RIGHT))
     failed = 1 - passed

@@ -1,13 +1,14 @@
 #!/usr/bin/env python3
-"""A serial programmer at a pseudo-terminal, which speaks serprog (version 1) in front of a model of a chip.
+"""This is a serial programmer at a pseudo-terminal. It speaks serprog (version 1), and has a model of a chip.
 
     server.py LINK --chip NAME [--image FILE] [--status HHHH] [--log FILE] ..
 
 LINK becomes a symbolic link to the terminal device. The image is read at the start, and is written back when the server
-gets SIGTERM. The log has one line per transaction, as a trace of flashnor has. `--help` lists the other options.
+receives SIGTERM. The log has one line per transaction, in the form of a trace of flashnor. `--help` lists the other
+options.
 
-As a library: `Server(link, chip, traits)` runs in a thread of its own. The protocol is described by flashrom's
-Documentation/serprog-protocol.txt; 16h, S_SPI_CS, is described by its newer versions.
+As a library, `Server(link, chip, traits)` runs in its own thread. flashrom's Documentation/serprog-protocol.txt
+describes the protocol; its newer versions also describe 16h, S_SPI_CS.
 """
 import argparse
 import os
@@ -33,24 +34,31 @@ COMMANDS = [0, 1, 2, 3, 4, 5, 8, 0x10, 0x11, S_BUSTYPE, O_SPIOP, S_SPI_FREQ, S_P
 
 
 class Unplugged(Exception):
-    """The programmer lost its connection."""
+    """This exception ends the server when the programmer loses its connection."""
 
 
 @dataclass
 class Traits:
-    """How a programmer behaves.
+    """The traits of a programmer say how it behaves.
 
-    `events` has what happens at a transaction (counted from 1): `nak` (it isn't carried out), `strange` (a byte that
-    is neither ACK nor NAK), `mute` (it is carried out, and nothing is ever sent again), `unplug` (it isn't carried
-    out, and the programmer is gone), `lose` (it is carried out, and the programmer is gone before its reply), `power`
-    (the same, and the chip loses its power in the operation), `dip` (the chip loses its power in the operation, and the
-    programmer replies), `cut N` (the programmer gets the first N bytes of the frame, and is gone), `kill` (it is
-    carried out, the process `victim` is killed, and then the reply is sent). `lose`, `power`, `dip` and `kill` may also
-    have a pair of numbers: they happen at this operation of the chip, and at this poll after it; poll 0 is the command
-    itself. `loss` has the arguments of the chip's `lose_power`.
+    `events` has the event at a transaction, by its number (from 1 on):
 
-    The wire between programmer and chip has faults of its own. `wrong_bits` and `misses` are by the number of the
-    transaction, or by such a pair for a poll.
+    - `nak`: the transaction isn't carried out, and the reply is NAK.
+    - `strange`: the transaction is carried out, and the reply begins with a byte that is neither ACK nor NAK.
+    - `mute`: the transaction is carried out, and the programmer never sends a byte again.
+    - `unplug`: the transaction isn't carried out, and the programmer is disconnected.
+    - `lose`: the transaction is carried out, and the programmer is disconnected before it replies.
+    - `power`: in addition to `lose`, the chip loses its power during the operation.
+    - `dip`: the chip loses its power during the operation, and the programmer replies.
+    - `cut N`: the programmer receives only the first N bytes of the frame, and is disconnected.
+    - `kill`: the transaction is carried out, the process `victim` is killed, and then the reply is sent.
+
+    Instead of a number, `lose`, `power`, `dip` and `kill` may have a pair: the number of an operation of the chip, and
+    the number of a poll after this operation. Poll 0 is the operation's command itself. `loss` has the arguments of the
+    chip's `lose_power`.
+
+    The wire between programmer and chip has its own faults. `wrong_bits` and `misses` have as keys the number of a
+    transaction, or a pair as above for a poll.
     """
 
     version: int = 1
@@ -61,43 +69,52 @@ class Traits:
     buffer: int = 4096
     selects: int = 0
     clock: int = 12_000_000
-    # True if the programmer never replies; true if it sends text without end, whatever it receives; bytes that wait for
-    # the first client.
+    # A silent programmer never replies. A babbling programmer sends text without end, whatever it receives. `stale` has
+    # bytes that wait for the first client.
     is_silent: bool = False
     babbles: bool = False
     stale: bytes = b""
-    # Replies that replace the right ones, by opcode, except for O_SPIOP. None unplugs the programmer.
+    # These replies replace the right replies to commands other than O_SPIOP, by opcode. `None` disconnects the
+    # programmer.
     replies: dict = field(default_factory=dict)
     events: dict = field(default_factory=dict)
     loss: dict = field(default_factory=dict)
-    # Transactions in whose reply one bit is wrong: the number of its byte, and of its bit.
+    # In the replies to these transactions one bit is wrong. The value has the number of its byte, and the number of the
+    # bit in this byte.
     wrong_bits: dict = field(default_factory=dict)
-    # Transactions that the chip misses, with the byte that is received in the place of its reply.
+    # The chip misses these transactions. The value is the byte that is received for each byte of the reply.
     misses: dict = field(default_factory=dict)
-    # The numbers of the first and the last transaction that the chip misses because it has lost contact or supply, and the
-    # byte that is received in the place of each byte of a reply.
+    # The chip misses all transactions from the first to the second number, because it has no contact or no supply. The
+    # third value is the byte that is received for each byte of a reply.
     lost: tuple = ()
-    # The numbers of the first and the last transaction whose address has a wrong bit on its way to the chip, and which.
+    # The addresses in the transactions from the first to the second number have a wrong bit on their way to the chip.
+    # The third value is the number of this bit.
     wrong_address: tuple = ()
-    # The number of a transaction before which the board is exchanged, and the chip of the other board.
+    # Before the transaction with this number the board is exchanged. The second value is the chip of the other board.
     other: tuple = ()
-    # Limits that the programmer doesn't report. It refuses a transaction that sends more bytes than the first of these, or
-    # sends and reads more than the second one together. It never replies to one that sends more than the third.
+    # The programmer has these limits, but doesn't report them. It refuses a transaction that sends more than
+    # `most_sent` bytes, or that sends and receives more than `most_in_buffer` together. It never replies to one that
+    # sends more than `most_replied`.
     most_sent: int = 1 << 24
     most_in_buffer: int = 1 << 24
     most_replied: int = 1 << 24
-    # What the firmware sends to the chip in the place of the bytes of a frame.
+    # This function returns what the firmware sends to the chip instead of the bytes in a frame.
     sends: object = bytes
-    # Seconds for each way there and back, and bytes per second.
+    # The server waits `latency` seconds before each read of the port. The port carries `rate` bytes per second, or is
+    # not slowed down if `rate` is 0.
     latency: float = 0.0
     rate: float = 0.0
-    # The time-out of the terminal device in tenths of a second. If it isn't set up, a read waits for a byte for ever.
+    # The time-out of the terminal device is in tenths of a second. If the device isn't set up, a read of it waits
+    # without a time-out.
     timeout: int = 50
     is_set_up: bool = True
 
 
 class Server:
-    """A programmer at a terminal device, served by a thread until `close`, or until it is unplugged."""
+    """This is a programmer at a terminal device.
+
+    A thread serves it until `close` is called, or until it is disconnected.
+    """
 
     def __init__(self, link, chip, traits=None):
         self.link, self.chip, self.traits = Path(link), chip, traits or Traits()
@@ -113,7 +130,7 @@ class Server:
         self.thread.start()
 
     def begin(self, events=None):
-        """Forgets the log, and counts transactions from 1 again, for the next run of a client."""
+        """Clears the records of what was received and sent, and counts transactions from 1 again, for the next run."""
         if events is not None:
             self.traits.events = events
         self.received, self.commands, self.log = bytearray(), [], []
@@ -128,7 +145,7 @@ class Server:
         self.has_victim.set()
 
     def close(self):
-        """Ends the server. The chip stays as it is."""
+        """Stops the server. The chip keeps its state."""
         os.write(self.waker, b"x")
         self.thread.join()
         os.close(self.wakes)
@@ -179,17 +196,17 @@ class Server:
         return (NAK if opcode == SYNCNOP else b"") + ACK + replies.get(opcode, b"")
 
     def known(self):
-        """Returns the commands that the programmer has."""
+        """Returns the commands in the programmer's command map."""
         return [it for it in COMMANDS + [S_SPI_CS] * bool(self.traits.selects) if it not in self.traits.lacks]
 
     def longest_read(self):
-        """Returns the greatest number of bytes that a transaction reads, as a client knows it."""
+        """Returns the greatest number of bytes that a transaction may receive, as far as a client knows."""
         return (0x11 in self.known() and self.traits.longest_read) or 1 << 24
 
     def longest_part(self):
-        """Returns the greatest number of bytes that a transaction sends, as a client knows it.
+        """Returns the greatest number of bytes that a transaction may send, as far as a client knows.
 
-        Without Q_WRNMAXLEN the frame must fit into the serial buffer, if the programmer has Q_SERBUF.
+        Without Q_WRNMAXLEN, the frame must fit into the serial buffer, if the programmer reports its size (Q_SERBUF).
         """
         if 0x08 in self.known():
             return self.traits.longest_write or 1 << 24
@@ -200,7 +217,10 @@ class Server:
         return bits.to_bytes(32, "little")
 
     def serve_transaction(self):
-        """Reads the rest of an O_SPIOP, carries the transaction out, and replies, except for the events."""
+        """Receives the rest of an O_SPIOP frame, carries the transaction out, and replies.
+
+        An event may prevent each of these.
+        """
         number = len(self.log) + 1
         event = self.traits.events.pop(number, "")
         if event.startswith("cut"):
@@ -225,7 +245,7 @@ class Server:
         self.put((b"!" if event == "strange" else ACK) + reply)
 
     def carry(self, number, out, replies):
-        """Carries a transaction out, with the faults of the wire, and returns what the programmer receives."""
+        """Carries out a transaction with the faults of the wire. Returns what the programmer receives from the chip."""
         traits = self.traits
         if traits.other and traits.other[0] == number:
             self.chip, traits.other = traits.other[1], ()
@@ -247,7 +267,7 @@ class Server:
         return bytes(reply)
 
     def happen(self, event):
-        """Does what an event does after the transaction and before its reply."""
+        """Performs an event that occurs between the transaction and its reply."""
         if event in ("lose", "power", "dip"):
             if event != "lose":
                 self.chip.lose_power(**self.traits.loss)
@@ -257,13 +277,13 @@ class Server:
             self.is_mute = True
         if event == "kill":
             self.has_victim.wait(10)
-            # Set before the kill, since the test may read it as soon as the process has ended.
+            # `killed` must be set before the kill, because the test may read it as soon as the process has ended.
             self.killed = True
             self.victim.kill()
             self.victim.wait()
 
     def take(self, length):
-        """Returns the next bytes that the client sent."""
+        """Returns the next `length` bytes that the client sends."""
         while len(self.pending) < length:
             can_write = [self.port] if self.traits.babbles else []
             ready, writable, _ = select.select([self.port, self.wakes], can_write, [])
@@ -279,7 +299,7 @@ class Server:
         return taken
 
     def read_some(self):
-        """Reads what there is. Each read is one way there and back, with its latency."""
+        """Returns the bytes that are available at the port, after a wait of `latency` seconds."""
         if self.traits.latency:
             time.sleep(self.traits.latency)
         got = os.read(self.port, 65536)
@@ -289,7 +309,10 @@ class Server:
         return got
 
     def pay(self, length):
-        """Sleeps for the time that bytes need on the wire, once it is at least half a millisecond."""
+        """Sleeps for the time that these bytes need at `rate`.
+
+        Times of less than half a millisecond are added up first.
+        """
         if not self.traits.rate:
             return
         self.owed += length / self.traits.rate
@@ -299,7 +322,7 @@ class Server:
             self.owed -= time.monotonic() - before
 
     def put(self, reply):
-        """Sends bytes to the client, except if the programmer is mute."""
+        """Sends bytes to the client, unless the programmer is mute or babbles."""
         if self.is_mute or self.traits.babbles:
             return
         self.sent += len(reply)
@@ -318,7 +341,10 @@ class Server:
 
 
 def set_terminal(device, tenths, least=0):
-    """Sets a terminal device as `stty raw -echo clocal -hupcl min LEAST time TENTHS` does."""
+    """Sets up a terminal device as `stty raw -echo clocal -hupcl min LEAST time TENTHS` does.
+
+    If `least` isn't 0, the time is 0: a read then waits without a time-out.
+    """
     tty.setraw(device)
     settings = termios.tcgetattr(device)
     settings[2] = (settings[2] | termios.CLOCAL) & ~termios.HUPCL

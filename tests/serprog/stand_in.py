@@ -1,8 +1,8 @@
 #!/usr/bin/env python3
-"""A stand-in for flashnor-serprog, for tests of the tests: they must pass with it, and fail with each of its mistakes.
+"""This stand-in for flashnor-serprog tests the tests: they must pass with it, and fail with each of its mistakes.
 
-self.py runs them. The stand-in knows the options that the cases use, and leaves out what they don't. The environment
-variable MISTAKE names the mistake that it makes. Don't use it on a chip.
+self.py runs it. The environment variable MISTAKE names the mistake that it makes. The stand-in has only the options
+that the cases use. Never use it on a chip.
 """
 import errno
 import hashlib
@@ -15,11 +15,11 @@ from chip import CMP, PARTS, SECTOR, SRP0, SRP1, protected_range
 from stand_in_link import HELP, LOST, MISTAKE, OTHER, Fault, Link, Stopped, arguments, check_usage, chip_text, probe
 
 UNCHANGED = " The chip was not changed."
-# The bits of both status bytes that protect.
+# The protection bits of both status bytes, status 1 first, have this mask.
 PROTECTION = 0x7C40
 UNPLUG = "Disconnect the programmer from power for a second before the next run: it may wait for the rest of a command, " \
     "which the next run would complete."
-# The names of the bits of both status bytes, from bit 0 on.
+# These are the names of the bits of status 1 and status 2, from bit 0 on.
 BITS = ("BUSY WEL BP0 BP1 BP2 TB SEC SRP0".split(), "SRP1 QE reserved LB1 LB2 LB3 CMP SUS".split())
 
 
@@ -33,7 +33,7 @@ def read_file(name):
 
 
 def regions(given):
-    """Returns the included addresses as ranges, or None for the whole chip."""
+    """Returns the included address ranges, or `None` if the whole chip is included."""
     if "-l" not in given:
         return None
     found = {}
@@ -62,7 +62,7 @@ def included_sectors(ranges, size, names):
 
 
 def mixed(old, new, ranges):
-    """Returns the new bytes inside the ranges, and the old ones outside."""
+    """Returns the new bytes inside the ranges, and the old bytes outside."""
     if ranges is None:
         return new
     found = bytearray(old)
@@ -72,21 +72,22 @@ def mixed(old, new, ranges):
 
 
 def protects(status, size, sectors):
-    """Returns which of these sectors the protection bits protect."""
+    """Returns those of the given sectors that the protection bits protect."""
     first, after = protected_range(status, size)
     return [it for it in sectors if it * SECTOR < after and first < (it + 1) * SECTOR and first < after]
 
 
 def status_text(status):
-    """Returns both status bytes, with the names of the bits that are set."""
+    """Returns both status bytes, followed by the names of the bits that are set."""
     names = [name for byte, its in zip(status, BITS) for bit, name in enumerate(its) if byte >> bit & 1]
     return " ".join([f"{status[0]:02x} {status[1]:02x}", *names])
 
 
 def lock_advice(saved, found):
-    """Returns what to do if only SRP0 differs, or only SRP1, which a power cycle clears. A restore keeps other bits.
+    """Returns the advice after error 17 for a chip whose ID is in the table of chips.
 
-    In all other cases an image can be written.
+    If only SRP0 differs, SRP0 can be set or cleared. If only SRP1 differs, a power cycle may clear it. Otherwise an
+    image can be written.
     """
     differs = [(one ^ other) & bit for one, other, bit in zip(saved, found, (SRP0, SRP1))]
     if differs == [SRP0, 0]:
@@ -96,12 +97,15 @@ def lock_advice(saved, found):
 
 
 def other_advice(saved, found):
-    """Returns what to do on a chip without a row, whose bits 2 to 5 of status 1 may protect sectors."""
+    """Returns the advice after error 17 for a chip found by its SFDP.
+
+    If bits 2 to 5 of status 1 differ, there is none.
+    """
     return "" if (saved[0] ^ found[0]) & 0x3C else reference.WRITE_IMAGE
 
 
 class Job:
-    """A run on a chip."""
+    """This is one run on a chip."""
 
     def __init__(self, link, given):
         self.link, self.given = link, given
@@ -113,7 +117,7 @@ class Job:
         return reference.found(self.part)
 
     def scan(self, numbers, fill=b"\xff"):
-        """Returns the bytes of these sectors, with FFh elsewhere."""
+        """Returns the bytes of these sectors, with FFh for all other bytes."""
         found = bytearray(fill * self.size)
         for number in numbers:
             found[number * SECTOR : (number + 1) * SECTOR] = self.link.transfer(*reference.read_sector(number))
@@ -170,7 +174,7 @@ class Job:
         return bytes([self.link.status]) + second
 
     def change(self):
-        """-w or -E."""
+        """Performs -w or -E."""
         image = read_file(self.given["-w"]) if "-w" in self.given else None
         self.found(self.given.get("-c"))
         self.check_unknown()
@@ -197,19 +201,19 @@ class Job:
         return line, done, *["Nothing was verified (-n)."] * ("-n" in self.given)
 
     def read_whole(self, image):
-        """Returns the bytes of the whole chip, read before a change with regions."""
+        """Returns the bytes of the whole chip, which are read before a change with regions."""
         self.check_length(b"\xff" * self.size if image is None else image)
         included_sectors(self.ranges, self.size, self.given.get("-i"))
         self.found(self.given.get("-c"))
         return self.scan(range(self.size // SECTOR))
 
     def check_unknown(self):
-        """Refuses a chip whose protection bits are unknown and may be set."""
+        """Refuses a chip found by its SFDP if bits 2 to 6 of status 1, which may protect sectors, aren't clear."""
         if not PARTS[self.part].has_row and self.link.status & PROTECTION >> 8 and MISTAKE != "changes any chip":
             raise Fault(f"Chip fault 1: status 1 of this chip is {self.link.status:02X}h.")
 
     def compare(self, target, reads):
-        """Compares these sectors with the target."""
+        """Compares the bytes of these reads with the target, and raises chip fault 4 if they differ."""
         try:
             self.verify_sectors(target, reads)
         except Fault as why:
@@ -259,7 +263,10 @@ class Job:
         return self.restore_from(whole)
 
     def restore_from(self, whole):
-        """Restores the chip. Except with -N, the sectors that the journal doesn't save are compared."""
+        """Restores the chip.
+
+        Without -N, it also compares the sectors that the journal doesn't save before and after the restore.
+        """
         compares = "-N" not in self.given or MISTAKE == "compares a restore with -N"
         if compares or "-c" in self.given:
             self.found(self.given.get("-c"))
@@ -286,7 +293,7 @@ class Job:
         return lines
 
     def read_rest(self, rest):
-        """Reads these sectors. No block that is read ahead reaches another one."""
+        """Returns the bytes of these sectors. No read reads ahead into another sector."""
         found = []
         for read in rest:
             self.link.limit = reference.Limited.limit if MISTAKE == "reads ahead into saved sectors" else read.limit
@@ -295,7 +302,7 @@ class Job:
         return found
 
     def compare_rest(self, rest, before):
-        """Reads sectors again after a restore, and compares them with those before it."""
+        """Reads sectors after a restore, and compares them with their bytes before the restore."""
         if MISTAKE == "compares no rest":
             return
         after = self.read_rest(rest)
@@ -340,7 +347,7 @@ class Job:
         return line, self.done(saved)
 
     def fit(self, saved):
-        """Returns the status that is restored if the board changed other bits, or nothing if it can't have done so."""
+        """Returns the status to restore, or `None` if a bit differs that the board's software can't have changed."""
         found = self.read_status()
         if (saved[0] ^ found[0]) & SRP0 or (saved[1] ^ found[1]) & SRP1:
             return None
@@ -350,7 +357,7 @@ class Job:
         return bytes([saved[0], saved[1] & ~0x3E | found[1] & 0x3E])
 
     def rewrite(self, target, saved, status, wanted):
-        """Erases and programs sectors, sets the protection bits, and compares the sectors."""
+        """Erases and programs the saved sectors, sets the protection bits, and verifies the sectors."""
         self.steps = [] if MISTAKE == "restores nothing" else reference.rewriting(target, saved)
         if MISTAKE == "skips equal sectors" or ("--quick" in self.given and MISTAKE != "is never quick"):
             now = self.scan(saved)
@@ -370,7 +377,7 @@ class Job:
         self.verify_sectors(target, verifies)
 
     def verify_sectors(self, target, reads):
-        """Reads sectors, and compares them with the target."""
+        """Reads sectors, compares them with the target, and raises error 14 at the first difference."""
         for out, length in reads:
             at = int.from_bytes(out[1:], "big")
             got = self.link.transfer(out, length)
@@ -381,7 +388,7 @@ class Job:
                 raise Fault(*reference.not_stored(at + first, operation, journal))
 
     def protection(self):
-        """--wp-status, --wp-list and --wp-range."""
+        """Performs --wp-status, --wp-list or --wp-range."""
         line = self.found(self.given.get("-c"))
         if not PARTS[self.part].has_row:
             raise Fault(*reference.NO_PROTECTION)
@@ -400,7 +407,7 @@ class Job:
         return f"Range: {text}", f"Mode: {mode}", reference.status_line(status)
 
     def lock(self):
-        """--wp-enable and --wp-disable."""
+        """Performs --wp-enable or --wp-disable."""
         wanted, self.link.locks = SRP0 * ("--wp-enable" in self.given), True
         line = self.found(self.given.get("-c"))
         if not PARTS[self.part].has_row:
@@ -423,7 +430,7 @@ class Job:
         return self.link.run([reference.POLL]) + self.link.transfer(b"\x35", 1)
 
     def codes(self):
-        """Returns each range that can be protected, with the least bits that select it."""
+        """Returns each range that can be protected, with the status bytes of its lowest protection bits."""
         found = {}
         for bits in range(64):
             if bits & 0x17 != 0x16:
@@ -451,7 +458,7 @@ class Job:
 
 
 def job_of(given):
-    """Returns the function that does the operation."""
+    """Returns the method that performs the operation of these options."""
     for words, job in ((("-r",), Job.read), (("--backup",), Job.backup), (("-v",), Job.verify),
                        (("-w", "-E"), Job.change), (("--restore",), Job.restore),
                        (("--wp-status", "--wp-list", "--wp-range"), Job.protection),
@@ -513,7 +520,7 @@ def run(words):
 
 
 def used_name(job):
-    """Removes the unsealed journal of a session that changed nothing. Returns the line about one that is left."""
+    """Removes the unsealed journal of a session that changed nothing. Returns the line about a file that is left."""
     name = job.given.get("--journal", job.given.get("--backup"))
     if not name or not Path(name).exists() or job.link.has_changed:
         return []
@@ -529,14 +536,14 @@ def restores(journal):
 
 
 def after_change(job, journal):
-    """Returns what the line of the cause says at its end if a change stopped."""
+    """Returns the end of the line with the cause if a change stopped."""
     begun = job.link.has_changed and MISTAKE != "calls each chip unchanged" or MISTAKE == "always restores"
     unprotected = " Until then it may be unprotected." * getattr(job, "lifts", False)
     return restores(journal) + unprotected if begun else UNCHANGED
 
 
 def print_note(words):
-    """Prints the last line of a restore. The stand-in writes no file beside a journal, so it never knows the sums."""
+    """Prints the line of a restore without j.sectors, which the stand-in never writes."""
     names = [name for option, name in zip(words, words[1:]) if option == "--restore"]
     if not names or "-N" in words:
         return

@@ -1,4 +1,4 @@
-"""The arguments and the wire of the stand-in (stand_in.py)."""
+"""This module parses the arguments of stand_in.py, and exchanges its transactions with the programmer."""
 import fcntl
 import os
 import re
@@ -14,17 +14,18 @@ STTY = "stty -F {} raw -echo clocal -hupcl min 0 time 50"
 ROW = bytes.fromhex("00000000000000000010100010000010101000")
 FIRMWARE = ". Disconnect the programmer from power for a second, connect it again, set up the port, and repeat the " \
     f"run; install other firmware only if the same line appears again. To set up the port: {STTY}"
-# A chip that sleeps shows BUSY for ever. The mistake that lets it sleep gives up soon, since only its failure counts.
+# A sleeping chip shows BUSY for ever. With the mistake `does not wake`, the stand-in gives up after fewer polls,
+# because only the failure matters.
 MOST_POLLS = 50 if MISTAKE == "does not wake" else 65536
 OPERATIONS = ("--flash-size", "--wp-status", "--wp-list", "-r", "-v", "-w", "-E", "--wp-range", "--restore",
               "--backup", "--wp-enable", "--wp-disable")
 TAKE_VALUES = ("-p", "-c", "-r", "-w", "-v", "--wp-range", "--restore", "--backup", "-l", "-i", "--journal")
-# Mistakes that don't forget what was read at these opcodes.
+# With these mistakes, a block that was read ahead isn't discarded at these opcodes.
 KEPT = {"keeps blocks at programs": (0x05, 0x06, 0x02), "keeps blocks at erases": (0x05, 0x06, *ERASES, 0xC7),
         "keeps blocks at status writes": (0x05, 0x06, 0x01)}
 FLAGS = ("-E", "-n", "-N", "--quick", "--unlock", "--flash-size", "--wp-status", "--wp-list", "--wp-enable",
          "--wp-disable", "-h")
-# The letters that the long names mean, as in flashrom.
+# As in flashrom, these long names are equivalent to options with a letter.
 LONG_NAMES = {
     "--programmer": "-p", "--chip": "-c", "--read": "-r", "--write": "-w", "--verify": "-v", "--erase": "-E",
     "--layout": "-l", "--include": "-i", "--noverify": "-n", "--noverify-all": "-N", "--help": "-h"}
@@ -32,11 +33,11 @@ HELP = "options: -h -n -N --noverify-all --quick --unlock -E --flash-size --wp-s
 
 
 class Fault(Exception):
-    """Lines of standard error. The exit status is 1."""
+    """This exception has lines of standard error. The exit status is then 1."""
 
 
 class Stopped(Exception):
-    """The cause of error 12, or the line of a chip fault."""
+    """This exception has the cause of error 12, or the line of a chip fault."""
 
 
 DIFFER = "two reads of the same bytes differ"
@@ -51,7 +52,7 @@ def usage(number, *lines):
 
 
 def arguments(words):
-    """Returns the options with their values."""
+    """Returns the given options with their values."""
     found, words = {}, list(words)
     while words:
         typed, sign, value = words.pop(0).partition("=")
@@ -63,12 +64,12 @@ def arguments(words):
 
 
 def command(out, address):
-    """Returns a command with another address."""
+    """Returns the command `out` with another address."""
     return out[:1] + address.to_bytes(3, "big") + out[4:]
 
 
 def flaw_of(key, value, count):
-    """Returns what is wrong with a setting of -p whose key is given so often, if something is."""
+    """Returns what is wrong with a setting of -p, or an empty text. `count` says how often its key is given."""
     rule = {"dev": ".+", "spispeed": "0*[1-9][0-9]{0,9}", "cs": "[0-9]{1,3}"}.get(key)
     if not rule:
         return "unknown key"
@@ -79,7 +80,7 @@ def flaw_of(key, value, count):
 
 
 def programmer_keys(text):
-    """Returns the keys of -p."""
+    """Returns the keys and values in the value of -p."""
     if not text.startswith("serprog:"):
         raise usage(3, "error: the value of -p does not begin with 'serprog:'")
     if text.startswith("serprog:ip="):
@@ -100,7 +101,7 @@ def programmer_keys(text):
 
 
 def check_usage(given):
-    """Raises the first usage fault of these options, and returns the keys of -p."""
+    """Raises the first usage fault of these options, or returns the keys and values of -p."""
     if "-p" not in given:
         raise usage(2, "error: the option -p is missing")
     keys = programmer_keys(given["-p"])
@@ -132,19 +133,21 @@ def check_usage(given):
 
 
 class Link:
-    """A programmer at a device."""
+    """This is the link to a programmer at a serial device."""
 
     def __init__(self, path, keys):
         self.path, self.count, self.status = path, 0, 0
-        # The status bytes that were received twice, the last modifying command, and whether there was one.
+        # `seen` has the status bytes that were read last. `last` is the modifying command that was sent last, and is
+        # empty after a status write was read back. `has_changed` says whether a modifying command was sent.
         self.seen, self.last, self.has_changed = bytearray(2), b"", False
-        # Whether a status write may change SRP0, and not the protection bits.
+        # If `locks` is true, a status write may change SRP0, and no protection bit.
         self.locks = False
         self.sends = self.receives = 1 << 24
         self.waiting, self.frames, self.buffer, self.longest, self.image = b"", 0, 0, BLOCK, b""
-        # The first ID and the first unique ID that were received.
+        # These are the first ID and the first unique ID that were received.
         self.id = self.unique = b""
-        # How often each value was received as data, and whether a session stops if the port seems to change one.
+        # `values` counts each byte value in received data. If `guards` is true, a session stops if the port seems to
+        # change 0Dh or 0Ah.
         self.values, self.guards = [0] * 256, False
         self.forget()
         self.device = self.open(path)
@@ -161,7 +164,7 @@ class Link:
             self.refuse(str(why))
 
     def wake(self):
-        """Wakes the chip, and checks that the port sends 0Dh and 0Ah as they are."""
+        """Wakes the chip, and checks that the port sends 0Dh and 0Ah unchanged."""
         if self.sends < len(reference.WAKES[0]) or self.receives < reference.WAKES[1]:
             self.operate(*reference.ONLY_WAKES)
             return
@@ -179,7 +182,7 @@ class Link:
                         + STTY.format(self.path))
 
     def try_reads(self):
-        """Makes the trial reads before a job."""
+        """Makes the trial reads before a job, and raises programmer fault 14 if the programmer changes long frames."""
         place = self.find_place(min(reference.TRIAL, self.receives))
         few, length = min(reference.FEW, self.receives), min(reference.PROGRAM, self.sends)
         long, short = b"\x05" + bytes(length - 1), b"\x05"
@@ -198,15 +201,15 @@ class Link:
         raise Fault(reference.LONG_FRAMES.replace("DEV", self.path))
 
     def look(self):
-        """Finds out whether the chip is still there after the trial reads. It may be busy."""
+        """Checks that the chip is still connected after the trial reads. The chip may be busy."""
         if b"".join(self.operate(*it) for it in reference.LOOK) == b"\xff" * 4:
             raise Fault("\n".join(reference.NO_CHIP))
 
     def find_place(self, length):
-        """Returns the first place where reads that overlap agree, or `None`.
+        """Returns the first address at which overlapping reads agree and their bytes aren't all equal, or `None`.
 
-        The chip is refused if reads differ in most bytes at a place, or in some bytes at each place. They count as
-        different only if each returns the same bytes again.
+        Raises programmer fault 15 if the reads differ in most bytes at one address, or in some bytes at each address.
+        Reads count as different only if each of them returns its bytes a second time.
         """
         in_most, always = False, True
         for address in range(0, reference.PLACES * reference.STEP, reference.STEP):
@@ -226,7 +229,10 @@ class Link:
         return None
 
     def try_long(self, out, length):
-        """Returns the reply to a long frame. If the programmer refuses it, sends it without a reply, and returns `None`."""
+        """Returns the reply to a long frame.
+
+        If the programmer refuses the frame, sends it again without reply bytes, and returns `None`.
+        """
         try:
             try:
                 return self.operate(out, length)
@@ -296,7 +302,7 @@ class Link:
             self.find(b"".join(b"\x15\x06" if it else b"\x06" for it in ROW))
 
     def refuse(self, text):
-        """Raises the programmer fault with this text."""
+        """Raises the programmer fault that fits this text."""
         set_up = f"and set up the port: {STTY.format(self.path)}"
         for begin, number, advice in (
             ("the programmer is silent", 4, "Check its cable. It may wait for the rest of a command of an interrupted "
@@ -388,7 +394,7 @@ class Link:
         return self.compared(out, length)
 
     def compared(self, out, length):
-        """Makes a transaction that reads no data, as often as its reply is compared."""
+        """Carries out a transaction that reads no data. A read that must be compared is sent twice."""
         if out == b"\x05":
             return self.poll()
         if out[0] == 0x01:
@@ -415,13 +421,13 @@ class Link:
         return reply
 
     def check_unique(self):
-        """Reads the unique ID, which must be the one that was read first."""
+        """Reads the unique ID again, and raises `Stopped` if it isn't the first one."""
         found = self.compared(*reference.UNIQUE)
         if found != self.unique and MISTAKE != "takes another unique ID":
             raise Stopped(f"{OTHER}: its unique ID was {self.unique.hex()}, and is {found.hex()} now")
 
     def confirmed(self, out, length):
-        """Makes a transaction, and reads the ID after one that reads data, SFDP or the unique ID."""
+        """Carries out a transaction, and then reads the ID if the transaction reads data, SFDP or the unique ID."""
         reply = self.operate(out, length)
         if out[0] == READ_DATA:
             for value, count in Counter(reply).items():
@@ -433,7 +439,7 @@ class Link:
         return reply
 
     def changed_byte(self):
-        """Returns the line for a port that seems to change 0Dh or 0Ah, or nothing."""
+        """Returns the line of programmer fault 13 if the port seems to change 0Dh or 0Ah, or else an empty text."""
         if sum(it > 0 for it in self.values) >= 192 and MISTAKE != "believes changed data":
             for lost, found in (0x0D, 0x0A), (0x0A, 0x0D):
                 if not self.values[lost] and self.values[found] >= 64:
@@ -443,7 +449,7 @@ class Link:
         return ""
 
     def confirm(self):
-        """Reads the ID, which must be the first one."""
+        """Reads the ID, and raises `Stopped` if it isn't the first one."""
         if MISTAKE != "confirms nothing":
             self.check_id(self.operate(*reference.CONFIRM))
 
@@ -455,12 +461,12 @@ class Link:
         raise Stopped(f"{LOST} {self.id.hex().upper()}h to {found.hex().upper()}h during the run")
 
     def differ(self):
-        """Returns the reason for two replies of the status that differ."""
+        """Returns the exception for two status replies that differ. Raises `Stopped` if the chip is lost."""
         self.confirm()
         return Stopped(DIFFER)
 
     def read_second(self):
-        """Reads status 2 twice, each time with the ID after it."""
+        """Returns status 2, which it reads twice and compares. It reads the ID after each reply."""
         replies = []
         for _ in range(1 if MISTAKE == "reads IDs once" else 2):
             replies.append(self.operate(b"\x35", 1)[0])
@@ -471,7 +477,10 @@ class Link:
         return replies[0]
 
     def poll(self):
-        """Returns the status, with BUSY if one of the two bytes has it. It must be the same twice where it counts."""
+        """Returns status 1. BUSY is set if one of the two bytes of the reply shows it.
+
+        Before the first modifying command, and after a status write, it polls twice and compares the replies.
+        """
         believes = MISTAKE == "believes one status"
         status = self.operate(b"\x05", 1) * 2 if MISTAKE == "polls one byte" else self.operate(b"\x05", 2)
         if (status[0] | status[1]) & 1 and not (believes and not status[0] & 1):
@@ -490,13 +499,13 @@ class Link:
         return status[:1]
 
     def check_status(self, sent):
-        """Refuses a status write that would change other bits than those of the protection, or than SRP0."""
+        """Refuses a status write that would change another bit than a protection bit or, with `locks`, than SRP0."""
         may_change = (0x80, 0) if self.locks else (0x7F, CMP)
         if (sent[0] ^ self.seen[0]) & ~may_change[0] & 0xFC or (sent[1] ^ self.seen[1]) & ~may_change[1]:
             raise Stopped("Chip fault 2: a status write would change other bits.")
 
     def read_back(self):
-        """Compares the status with what the last status write sent."""
+        """Compares the status with the bytes that the last status write sent."""
         sent, self.last = self.last[1:], b""
         got = bytes([self.seen[0] & 0xFC, self.read_second() & 0x7F])
         if got == sent or MISTAKE == "does not compare a status write":
@@ -507,7 +516,7 @@ class Link:
         raise Stopped(line)
 
     def read(self, at, length):
-        """Returns bytes of the chip. Reads a block if the last one doesn't have them."""
+        """Returns bytes of the chip. Reads a new block if the last block doesn't contain them."""
         end = self.begin + len(self.block)
         if at < self.begin or at + length > end:
             self.step = min(2 * self.step, self.longest) if self.block and at == end else length
@@ -517,7 +526,10 @@ class Link:
         return self.block[at - self.begin :][:length]
 
     def read_twice(self, at, length):
-        """Returns data. It is read twice, or only its sectors that differ from the image."""
+        """Returns data that is read twice and compared.
+
+        If an image is expected, only sectors that differ from it are read again.
+        """
         block = self.confirmed(reference.command(3, at), length)
         if MISTAKE == "reads once":
             return block
@@ -527,7 +539,7 @@ class Link:
         return block
 
     def operate(self, out, length):
-        """Makes a transaction, in parts if it is too long for the programmer."""
+        """Carries out a transaction, which is split if it is too long for the programmer."""
         at = int.from_bytes(out[1:4], "big")
         if length > self.receives and out[0] in (0x03, 0x5A):
             return b"".join(self.send_frame(command(out, at + i), min(self.receives, length - i))
@@ -543,7 +555,11 @@ class Link:
         return b""
 
     def send_frame(self, out, length):
-        """Makes one transaction. A write enable waits for the command after it, if both fit into the serial buffer."""
+        """Carries out one transaction, whose frame the programmer can take.
+
+        A write enable waits until the next command, and is sent together with this command if both fit into the serial
+        buffer.
+        """
         frame = b"\x13" + len(out).to_bytes(3, "little") + length.to_bytes(3, "little") + out
         waits = (out, length) == reference.WRITE_ENABLE and len(frame) <= self.buffer and MISTAKE != "sends one by one"
         fits = len(self.waiting) + len(frame) <= self.buffer or MISTAKE == "overfills the buffer"
@@ -564,7 +580,7 @@ class Link:
         return self.answer(0x13, length)
 
     def run(self, plan):
-        """Carries out a plan, and polls as long as the chip is busy."""
+        """Carries out a plan. Repeats each poll until the chip isn't busy."""
         reply = b""
         for out, length in plan:
             reply = self.transfer(out, length)
@@ -578,20 +594,20 @@ class Link:
 
 
 def chip_text(chip_id):
-    """Returns the name of the chip with this ID, or SFDP, and the ID."""
+    """Returns the name of the chip with this ID (SFDP if the ID isn't in the table of chips), and the ID."""
     names = [it for it in PARTS if PARTS[it].id == chip_id and PARTS[it].has_row]
     return f"{names[0] if names else 'SFDP'} ({chip_id.hex()})"
 
 
 def connected(chip_id):
-    """Returns the sentence that says which chip is connected."""
+    """Returns the sentence about the connected chip after error 3."""
     if chip_text(chip_id).startswith("SFDP "):
         return f"The connected chip has the ID {chip_id.hex()}, and only its SFDP is known: its name for -c is SFDP."
     return f"The connected chip is {chip_text(chip_id)}."
 
 
 def read_sfdp(link):
-    """Returns the replies to the reads of the SFDP. Before its table the ID is read, too."""
+    """Returns the replies to the three reads of SFDP. Before the basic table, the ID is read again."""
     replies = []
     for out, length in reference.probe("TINY64")[2:]:
         if length == reference.TABLE_LEN:
@@ -601,7 +617,7 @@ def read_sfdp(link):
 
 
 def probe(link, name=None):
-    """Returns the part that is there. Afterwards `link.status` has the bits of status 1 that are non-volatile."""
+    """Returns the name of the connected chip's model, and sets `link.status` to the non-volatile bits of status 1."""
     poll = (b"\x05", 1)
     link.status = (link.transfer(*poll) if MISTAKE == "begins while busy" else link.run([poll]))[0] & 0xFC
     found = link.transfer(b"\x9f", 3)

@@ -1,7 +1,8 @@
-"""Cases of the bits 2 to 6 of status 1 on the chips that chips/ describes: a chip is refused if one may protect.
+"""These cases set bits 2 to 6 of status 1 on the chips in chips/.
 
-A bit that certainly protects nothing is kept. Each line names what the maker's bits mean, from memory of the
-datasheets, section Status Register. W25Q16JV, whose ID has no row, is found by its SFDP.
+A chip is refused if one of these bits may protect sectors. A bit that certainly protects nothing is kept. The printed
+line says what the bits mean on the chips of this maker (from memory of the datasheets, section Status Register).
+W25Q16JV, whose ID isn't in the table of chips, is found by its SFDP.
 """
 from functools import partial
 
@@ -12,12 +13,13 @@ from chips import ALL
 
 
 def protected(shown, meaning):
-    """Returns the refusal of a chip that shows this status 1."""
+    """Returns the refusal of a chip whose status 1 is shown as `shown`."""
     return Refused((f"Chip fault 1: status 1 of this chip is {shown:02X}h. {meaning}",), CHANGES)
 
 
-# Chips with another status 1 than from the factory, and the refusal. Nothing is protected by QE (bit 6 of Macronix and
-# ISSI), nor by SEC of SST26 (bit 5). The SFDP of IS25LP128 says where QE is, so its bit 6 isn't shown.
+# An entry has a chip, a value of status 1, and the refusal, or `None` if the chip is written. QE (bit 6 on chips of
+# Macronix and ISSI) and SEC of SST26 (bit 5) protect nothing. The SFDP of IS25LP128 says that bit 6 is QE, so the line
+# doesn't show this bit.
 BP0_TO_BP3 = "its bits 2 to 5 (BP0 to BP3) protect sectors"
 STATUS = (
     ("MX25L12835F", 0x40, None), ("MX25U6435F", 0x40, None), ("IS25LP064", 0x40, None), ("SST26VF064B", 0x20, None),
@@ -43,7 +45,7 @@ STATUS = (
 
 
 def has_status(start, it, status, refused):
-    """written with other bits of status 1 set if these don't protect, and otherwise refused"""
+    """written if the bits set in this status 1 protect nothing, and otherwise refused"""
     play = Play(start, it, status)
     if it.name in LOCKED:
         play.registers = bytes((*play.registers[:2], play.registers[2] & ~OWN_LOCKS))
@@ -55,7 +57,7 @@ def has_status(start, it, status, refused):
 
 
 def has_no_ranges(start, it):
-    """found by its SFDP, so no protected range is set"""
+    """found by its SFDP, so --wp-range and --wp-list refuse it"""
     play = Play(start, it)
     for words in ("--wp-range", "0,0x10000", "--journal", "j"), ("--wp-list",):
         got = play.run(*words)

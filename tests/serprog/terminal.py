@@ -1,4 +1,4 @@
-"""The progress on a terminal: one line that is rewritten, and the lines between."""
+"""These cases test the progress on a terminal: one line is rewritten, and other lines are printed in between."""
 import os
 import re
 import signal
@@ -8,14 +8,14 @@ import reference
 from bench import LONGEST, WAITING, Differs, check, read_all
 from options import SECTOR, images
 
-# What a run may print to a terminal: the line is drawn, cleared or ended, or there is a whole line of text.
+# A run prints four things to a terminal: it draws the progress line, clears it, or ends it, or it prints a whole line.
 DRAWN = re.compile(rb"\r([ -~]+)\x1b\[K")
 CLEARED = re.compile(rb"\r\x1b\[K")
 ENDED = re.compile(rb"\r\n")
 WHOLE = re.compile(rb"([ -~]+)\r\n")
 
-# The line of a step. While the step lasts, its line fits into 39 columns, and has a percentage if the total is known. A
-# step that is done says how long it took.
+# This is the form of the progress line. During a step, the line has at most 39 characters, and a percentage if the
+# total is known. At the end of a step, it says how long the step took.
 TIME = r"\d+:[0-5]\d"
 RATE = r"(?:, (?:\d\d?\.\d|\d{3,}) KiB/s)?"
 UNIT = "(IDs?|sectors?|erases?|pages?|status writes?)"
@@ -27,22 +27,23 @@ STEP = re.compile(
     rf"|(?P<count>\d+) {UNIT}{RATE}, took {TIME})")
 COLUMNS = 39
 
-# The line after 256 polls that show BUSY.
+# The program prints this line after 256 polls that show BUSY.
 BUSY_CHIP = "The chip shows BUSY. If no erase is running, it has no contact or no supply: press Ctrl-C, and check both. " \
     "(The run gives up after 400 seconds.)"
 
 
 def untimed(lines):
-    """Returns the lines with `M:SS` and `R` for times and rates, and with `T` for the time that a change takes."""
+    """Returns the lines with M:SS for each time, R for each rate, and T for the estimate of a change."""
     found = [re.sub(r"\d+(\.\d)? KiB/s", "R", re.sub(r"\d+:[0-5]\d\b", "M:SS", it)) for it in lines]
     return [re.sub("takes (less than a second|about M:SS at the chip's typical times( and R)?)", "takes T", it)
             for it in found]
 
 
 class Screen:
-    """What was printed to a terminal: the texts of the line that is rewritten, and the lines that stay.
+    """This class parses what a run printed to a terminal: the texts of the rewritten line, and the lines that stay.
 
-    Raises `Differs` if a text is too long, if a line is glued to another, or if an empty line was printed.
+    It raises `Differs` if a text is too long, if a line doesn't begin at the left margin, or if an empty line was
+    printed.
     """
 
     def __init__(self, printed, is_cut=False, columns=COLUMNS):
@@ -82,11 +83,11 @@ class Screen:
                 if found[1] == name and (found["share"] or found["all"])]
 
     def last(self, name):
-        """Returns the last line of this step that stays, without rate and time."""
+        """Returns the last of this step's lines that stay, without its rate and time."""
         return [it for it in self.lines if it.startswith(f"{name}: ")][-1].partition(", ")[0]
 
     def check_steps(self, *names):
-        """Checks that exactly these steps have percentages, which never fall and end at 100."""
+        """Checks that exactly these steps have percentages, and that these never fall and end at 100."""
         known = {found[1] for found in map(STEP.fullmatch, self.drawn) if found["share"] or found["all"]}
         check("steps with a percentage", sorted(known), sorted(names))
         for name in names:
@@ -95,14 +96,15 @@ class Screen:
             check(f"the last percentage of {name}", shares[-1], 100)
 
     def others(self):
-        """Returns the lines that stay, without those of the steps, and without times and rates (`untimed`)."""
+        """Returns the lines that stay, except those of steps, in the form of `untimed`."""
         return untimed(it for it in self.lines if not STEP.fullmatch(it))
 
 
 def run(bench, *words, events=None, both=False):
-    """Runs the program with standard error at a terminal. Returns the status, what was printed, and the other stream.
+    """Runs the program with standard error at a terminal.
 
-    With `both` standard output is the same terminal.
+    Returns its exit status, what it printed to the terminal, and the lines of standard output. With `both`, standard
+    output is the terminal, too.
     """
     terminal, slave = os.openpty()
     bench.server.begin(events or {})
@@ -122,7 +124,7 @@ def lines_of_a_write(bench, sectors, erases, *rest):
 
 
 def rewrites_a_line(start):
-    """On a terminal the progress is one line, which is rewritten. Its percentages rise to 100."""
+    """Checks that the progress is one line that is rewritten, and that the percentages of a step rise to 100."""
     old, new = images("rewrites_a_line")
     bench = start(data=old)
     bench.write("new", new)
@@ -144,8 +146,7 @@ def rewrites_a_line(start):
         "The change took M:SS."])
     screen.check_steps("scan", "erase", "compare")
     bench.check_chip(old)
-    # Nothing is read before a restore that isn't compared, so no rate is known, and nothing says how long it took
-    # except the line at its end.
+    # A restore with -N reads nothing before it erases, so no rate is known for an estimate.
     status, printed, _ = run(bench, "--restore", "j", "-N")
     screen = Screen(printed)
     check("the lines", screen.others(), [
@@ -159,9 +160,9 @@ def rewrites_a_line(start):
 
 
 def says_that_the_chip_is_busy(start):
-    """If 256 polls show BUSY before the ID is read, a line says what may be wrong.
+    """Checks that the program prints a line about contact and supply after 256 polls that show BUSY.
 
-    All bytes that are received before are 03h, too.
+    The chip is lost until the last of these polls, and each byte that the program receives meanwhile is 03h.
     """
     for polls, lines in (255, []), (256, [BUSY_CHIP]), (399, [BUSY_CHIP]):
         bench = start()
@@ -174,7 +175,10 @@ def says_that_the_chip_is_busy(start):
 
 
 def rewrites_it_ten_times_a_second(start):
-    """A long job draws the line in each step, but at most about ten times a second, also while the chip is busy."""
+    """Checks that a long job draws the line in each step, at most about ten times per second.
+
+    The line is also drawn while the chip is busy.
+    """
     old = bytearray(b"\x5a" * (1 << 23))
     bench = start("W25Q64FV", data=bytes(old), scale=1.0, rate=6_000_000)
     for number in range(0, 34 * 32, 32):
@@ -185,7 +189,7 @@ def rewrites_it_ten_times_a_second(start):
     check("status", status, 0)
     check("the lines", screen.others(), lines_of_a_write(bench, 34, 34, "The change took M:SS."))
     screen.check_steps("scan", "erase", "compare")
-    # 34 erases of 45 ms take 1.5 seconds.
+    # The 34 erases of 45 ms take about 1.5 seconds.
     shares = screen.shares("erase")
     check(f"drawings of the erases: {len(shares)} in {shares}", 8 <= len(shares) <= 40, True)
     check("drawings of the scan", 5 <= len(screen.shares("scan")) <= 400, True)
@@ -194,7 +198,7 @@ def rewrites_it_ten_times_a_second(start):
 
 
 def keeps_messages_apart(start):
-    """A line that follows the progress begins at the start of a line, also if the run fails or is killed."""
+    """Checks that a line after the progress begins at the left margin, even if the run fails or is killed."""
     old, new = images("keeps_messages_apart")
     bench = start(data=old)
     bench.write("new", new)
@@ -208,7 +212,7 @@ def keeps_messages_apart(start):
         "Found SFDP (fe1010), 65536 bytes.", "Read 65536 bytes."])
     status, printed, _ = run(bench, "--flash-size", both=True)
     check("the lines", Screen(printed).others(), ["65536"])
-    # The programmer refuses a transaction in the scan, and then one after the first erase.
+    # The programmer refuses one transaction of a read. Then the program is killed at one transaction of a session.
     for number in (12, 20, 30, 40):
         bench.plug()
         status, printed, _ = run(bench, "-r", f"out{number}", events={number: "nak"}, both=True)
@@ -226,7 +230,7 @@ NAMES = {0x06: "write enable", 0x01: "write status", 0x02: "program", 0x20: "era
 
 
 def logged(log):
-    """Returns the lines of -V, without their times, for the transactions that the programmer carried out."""
+    """Returns the lines of -V, without times, for the modifying transactions in this log."""
     lines = []
     for out in (it[0] for it in log if it[0][0] in NAMES):
         at = f" at 0x{int.from_bytes(out[1:4], 'big'):06x}" if len(out) >= 4 else ""
@@ -237,13 +241,13 @@ def logged(log):
 
 
 def with_read_back(lines):
-    """Returns the lines of -V with that of the first read after a change: before the program of a blank sector."""
+    """Returns the lines of -V with `read back` before the first program, where a blank sector is read again."""
     at = next(at for at, it in enumerate(lines) if it.startswith("program ")) - 1
     return [*lines[:at], "read back", *lines[at:]]
 
 
 def logs_commands(start):
-    """With -V each modifying transaction and each step that reads has a line on standard error, with its time."""
+    """Checks that -V prints a line with a time for each modifying transaction and each step that reads."""
     old, new = images("logs_commands")
     bench = start(data=old)
     bench.write("new", new)
@@ -270,7 +274,7 @@ def logs_commands(start):
 
 
 def shows_nothing_if_asked(start):
-    """With --progress none a terminal shows nothing but faults; with plain there is no line that is rewritten."""
+    """Checks that --progress none prints only faults to a terminal, and that --progress plain rewrites no line."""
     old, new = images("shows_nothing_if_asked")
     bench = start(data=old)
     bench.write("new", new)

@@ -1,8 +1,8 @@
-"""Cases of the trial reads before a job: a chip in four-byte mode, firmware that sends long frames wrongly, and noise.
+"""These cases test the trial reads before a job, which detect a chip in four-byte mode and wrong firmware.
 
-A chip in four-byte mode takes one more address byte after 03h, 02h, 20h, 52h and D8h (W25Q256FV datasheet, Address
-Modes). What each firmware makes of a frame is said at its case. A run that is refused sends only ABh and reads of data,
-and creates no file.
+Wrong firmware changes, truncates or refuses long frames. A chip in four-byte mode takes one more address byte after
+03h, 02h, 20h, 52h and D8h (W25Q256FV datasheet, Address Modes). A run that is refused sends only ABh and reads, and
+creates no file. One wrong bit in a trial read must not prevent a run.
 """
 import random
 
@@ -15,29 +15,29 @@ from narrow import check_parts
 from options import FREE, SIZE, images
 from stand_in_link import ROW
 
-# Jobs that a refusal ends. The journal `saved` has other bytes than the chip.
+# These jobs must be refused. The journal `saved` has other bytes than the chip.
 JOBS = ((), ("-r", "out"), ("-v", "new"), ("-w", "new", "--journal", "j"), ("-E", "--journal", "j"),
         ("--backup", "out"), ("--restore", "saved"), ("--restore", "saved", "-N"))
-# Those that read no image, for a large chip.
+# These jobs don't use the image `new`. They are also tried on a chip of 8 MiB.
 WITHOUT_IMAGE = [it for it in JOBS if "new" not in it]
-# How many bytes a transaction may send at a programmer that doesn't report this limit.
+# A programmer with this limit on the bytes of a transaction doesn't report it.
 LIMIT = 128
 
 
 def wraps(out):
-    """Returns what firmware sends whose index of its buffer has eight bits: byte n overwrites byte n - 256."""
+    """Returns what firmware sends if the index of its buffer has only eight bits: byte n overwrites byte n - 256."""
     return bytes(out[at + 256 if at + 256 < len(out) else at] for at in range(len(out)))
 
 
 def drops(out):
-    """Returns what firmware sends that drops all bytes after the 64th."""
+    """Returns what firmware sends if it drops all bytes after the 64th."""
     return out[:64]
 
 
 def refuse(bench, line, repeated, jobs=JOBS, **traits):
-    """Runs these jobs, which must end with this line, and checks what the chip received and what was left.
+    """Runs these jobs, which must print only this line, leave the chip unchanged, and create no file.
 
-    `repeated` are the transactions that the programmer carries out after those that wake the chip.
+    `repeated` are the transactions that the programmer must carry out after the one that wakes the chip.
     """
     data, heard = bytes(bench.chip.data), []
     carry = bench.chip.transfer
@@ -53,7 +53,7 @@ def refuse(bench, line, repeated, jobs=JOBS, **traits):
         bench.chip.transfer = hear
         bench.expect(*words, err=[bench.device(line)])
         bench.chip.transfer = carry
-        # 00h is no instruction.
+        # The chip has no instruction 00h. It receives 00h from firmware that wraps.
         check("opcodes at the chip", set(heard) - {b"\xab", b"\x03", b"\x05", b"\0"}, set())
         got = [(out, len(reply)) for out, reply in bench.server.log]
         check(f"transactions of {words}", got, [reference.WAKES, *repeated])
@@ -65,11 +65,12 @@ def refuse(bench, line, repeated, jobs=JOBS, **traits):
 
 
 def refuses_four_byte_mode(start):
-    """A chip that begins in four-byte mode is programmer fault 15 for each job."""
+    """Checks that each job on a chip in four-byte mode ends with programmer fault 15."""
     blank = b"\xff" * SECTOR
     head = random.Random("refuses_four_byte_mode").randbytes(2 * SECTOR)
-    # The data of the chip, and the places where its reads differ. Place 1 is read at 111000h, which is 1000h in a chip
-    # of 64 KiB. At place 0 this chip is read at 0 and 100h. Reads that differ are repeated.
+    # A row has a chip, its data, the numbers of the trial addresses at which overlapping reads differ, and the jobs.
+    # Reads that differ are repeated. In four-byte mode, a trial read at address 1110h reads at 111000h, which is 1000h
+    # on a chip of 64 KiB. The reads at 0 and 1 are at 0 and 100h.
     for part, data, places, jobs in (
             ("TINY64", images("refuses_four_byte_mode")[1], range(8), JOBS),
             ("TINY64", bytes(256) + FREE[256:], (0,), JOBS),
@@ -86,10 +87,10 @@ def refuses_four_byte_mode(start):
 
 
 def finds_no_empty_chip_in_four_byte_mode(start):
-    """The limit of the trial reads: on an empty chip in four-byte mode all bytes are equal, so it isn't refused.
+    """Checks the limit of the trial reads: they don't detect four-byte mode on a chip whose bytes are all equal.
 
-    A read is right nevertheless. A write is error 14: its programs reach other pages, and 20h, 52h and D8h do nothing.
-    Once the mode has ended, as after a loss of power, a backup restores the chip.
+    A read returns the right bytes nevertheless. A write ends with error 14, because its programs change other pages.
+    When the mode has ended, as after a loss of power, a backup restores the chip.
     """
     bench = start()
     bench.chip.has_four = True
@@ -97,8 +98,8 @@ def finds_no_empty_chip_in_four_byte_mode(start):
     bench.check_file("whole", reference.journal("TINY64", FREE, range(SIZE // SECTOR)))
     new = chip_images(FEW)[1]
     bench.write("new", new)
-    # What the chip holds then, and the first byte that it returns wrongly in a changed sector. Before a sector is
-    # programmed, it is read, and already has bytes of those before it.
+    # This model shows what the chip holds after the write, and where its bytes differ from the image. The program reads
+    # a blank sector before it programs the sector, and the sector may then already have bytes of earlier programs.
     chip = Chip("TINY64", FREE)
     chip.has_four = True
     sectors = reference.touched(FREE, new)
@@ -118,13 +119,13 @@ def finds_no_empty_chip_in_four_byte_mode(start):
 
 
 def long_frames(data):
-    """Returns the trial reads of a chip with this data: those at the places, and the two of the long frame."""
+    """Returns the trial reads of a chip with these bytes: the overlapping reads, and the pair with the long frame."""
     found = reference.trials(data)
     return found[:-2], found[-2:]
 
 
 def refuses_firmware_that_wraps(start):
-    """Firmware whose buffer has an eight-bit index, so that byte n overwrites byte n - 256, is programmer fault 14."""
+    """Checks that firmware with an eight-bit buffer index (byte n overwrites byte n - 256) is programmer fault 14."""
     old, _ = images("refuses_firmware_that_wraps")
     for data in old, FREE:
         places, pair = long_frames(data)
@@ -132,11 +133,11 @@ def refuses_firmware_that_wraps(start):
 
 
 def refuses_firmware_that_drops_bytes(start):
-    """Firmware that replies ACK, and drops the bytes after the 64th, is programmer fault 14."""
+    """Checks that firmware that replies ACK, but drops the bytes after the 64th, is programmer fault 14."""
     old, _ = images("refuses_firmware_that_drops_bytes")
     places, pair = long_frames(old)
     refuse(start(data=old, sends=drops), reference.LONG_FRAMES, places + pair * 3)
-    # The first sectors are empty, so that the long frame is sent at a later place.
+    # The first two sectors are blank, so the long frame reads at a later address.
     data = b"\xff" * (2 * SECTOR) + old[2 * SECTOR :]
     places, pair = long_frames(data)
     check("the place", pair[0][0][:4], reference.command(READ_DATA, 2 * reference.STEP))
@@ -144,22 +145,23 @@ def refuses_firmware_that_drops_bytes(start):
 
 
 def refuses_firmware_with_an_unknown_limit(start):
-    """Firmware that replies NAK to long frames, or no byte, though it reports no limit, is programmer fault 14."""
+    """Checks that firmware that refuses or ignores long frames, but reports no limit, is programmer fault 14."""
     old, _ = images("refuses_firmware_with_an_unknown_limit")
     places, pair = long_frames(old)
     for lacks in (), (0x08,):
         traits = {"longest_write": 0, "lacks": lacks, "buffer": 65535}
-        # After NAK the frame is sent once more, without a reply, and is refused, too.
+        # After the NAK the program sends the long frame without reply bytes, which is refused, too.
         refuse(start(data=old, most_sent=LIMIT, **traits), reference.LONG_FRAMES, places)
         traits.update(most_replied=LIMIT, timeout=SOON)
-        # The frame without a reply byte isn't sent.
+        # If the programmer is silent, the program doesn't send the frame again.
         refuse(start(data=old, **traits), reference.LONG_FRAMES, places + pair[:1], **traits)
 
 
 def takes_a_shared_buffer(start):
-    """Firmware whose buffer holds 260 bytes, sent and received together, works: only the long frame's reply is too long.
+    """Checks that firmware works whose buffer holds 260 bytes for the sent and received bytes together.
 
-    It replies NAK to the long frame. Then the link is synchronized, and the frame is sent without a reply.
+    This firmware refuses the long frame with reply bytes. The program then synchronizes, and sends the frame without
+    reply bytes.
     """
     old, new = chip_images(FEW)
     bench = start(data=old, most_in_buffer=reference.PROGRAM, longest_read=256)
@@ -179,14 +181,15 @@ def takes_a_shared_buffer(start):
 
 
 def goes_on_after_noise(start):
-    """One wrong bit in a trial read doesn't matter, and the run goes on.
+    """Checks that a run goes on after one wrong bit in a trial read.
 
-    In one of two reads that overlap, it repeats both, and then those at the next place are made. In a long frame, it
-    repeats the reads. The same wrong bit in three long frames is programmer fault 14.
+    If the bit is in one of two overlapping reads, both are repeated, and the reads at the next address follow. If the
+    bit is in the long frame, the reads of the long frame are repeated. One bit that is wrong in three long frames is
+    programmer fault 14.
     """
     old, _ = images("goes_on_after_noise")
     places, pair = long_frames(old)
-    # The trial reads if the first place didn't count.
+    # These are the trial reads that follow if the reads at the first address don't count.
     later = long_frames(bytes(reference.TRIAL) + old[reference.TRIAL :])
     check("the reads at both places", (len(places), later[0][:2]), (2, places))
     later = later[0][2:] + later[1]
@@ -208,7 +211,7 @@ def goes_on_after_noise(start):
 
 
 def restores_bytes_that_change(start):
-    """An interrupted erase may leave bytes that change from read to read. They don't prevent a restore."""
+    """Checks that a restore works although bytes change from read to read, as they may after an interrupted erase."""
     old, new = images("restores_bytes_that_change")
     bench = start(data=new)
     bench.write("whole", reference.journal("TINY64", old, range(SIZE // SECTOR)))
@@ -228,9 +231,9 @@ def restores_bytes_that_change(start):
 
 
 def reports_failures_of_trials(start):
-    """A refused or silent trial read has the fault of the handshake, except for the long frame, which is fault 14.
+    """Checks that a trial read without a right reply causes programmer fault 4, 5 or 11, depending on the reply.
 
-    A port that fails is fault 10, also at the long frame.
+    The long frame causes programmer fault 14 instead. A port that fails is programmer fault 10 at any trial read.
     """
     old, _ = images("reports_failures_of_trials")
     for number, event, begins in (
@@ -245,16 +248,16 @@ def reports_failures_of_trials(start):
         check(f"{event} at {number}", (got.err[0][: len(wanted)], len(got.err), got.out, got.status), (wanted, 1, [], 1))
         bench.check_absent("j")
         bench.check_chip(old)
-    # NAK to the first long frame alone is taken for a limit of the reply.
+    # If only the first long frame is refused, the program assumes a limit on the bytes of the reply, and goes on.
     bench = start(data=old)
     bench.expect("-r", "out", out=[reference.found("TINY64"), f"Read {SIZE} bytes."], events={4: "nak"})
     bench.check_file("out", old)
 
 
 def takes_unlike_bytes_at_some_places(start):
-    """Reads that differ in one byte, each time, are refused only if they do so at each of the eight places."""
+    """Checks that overlapping reads which differ in one byte are refused only if this occurs at all eight addresses."""
     data = b"\xff" * len(FREE)
-    # Where a chip returns 00h as the first byte of a read at an odd address.
+    # At the addresses of these numbers, the chip returns 00h as the first byte of the second read.
     for places in range(1, 8), range(8):
         bench = start(data=data)
         carry, odd = bench.chip.transfer, {at * reference.STEP + 1 for at in places}

@@ -1,4 +1,4 @@
-"""Cases of what people type: files with the name `-`, arguments that a terminal doesn't show, flashrom's options."""
+"""These cases test what users type: the file name `-`, arguments with invisible characters, and flashrom's options."""
 from bench import check
 from chip import NAMES, PARTS
 from maps import with_descriptor, with_fmap
@@ -6,18 +6,18 @@ from options import FREE, SIZE
 import reference
 
 
-# The supply of each chip that -L lists (Winbond datasheets, operating ranges).
+# -L lists these supply voltages (Winbond datasheets, operating ranges). The key is the end of the chip's name.
 SUPPLY = {"FV": "2.7 to 3.6 V", "-M": "2.7 to 3.6 V", "FW": "1.65 to 1.95 V"}
 
 
 def usage(*lines):
-    """Returns the lines of usage fault 1, with these lines as the message of the argument parser."""
+    """Returns the lines of usage fault 1. `lines` is the message of the argument parser."""
     usage_lines = ["Usage: flashnor-serprog [OPTIONS]", "", "For more information, try '--help'."]
     return [*lines, "", *usage_lines, "Usage fault 1."]
 
 
 def refuses_dash(start):
-    """`-` is no file: it is usage fault 5 in words for each option with a file; nothing is sent. `./-` is a file."""
+    """Checks that the file name `-` is usage fault 5 for each option with a file, and that `./-` names a file."""
     bench = start(data=FREE)
     bench.write("new", FREE)
     for words, option in (
@@ -36,14 +36,14 @@ def refuses_dash(start):
             bench.check_absent(name)
     bench.expect("-r", "./-", out=[reference.found("TINY64"), f"Read {SIZE} bytes."])
     bench.check_file("-", FREE)
-    # A name that only begins with a hyphen, or ends with one, is a file.
+    # A longer name that begins or ends with a hyphen is an ordinary file name.
     bench.expect("-r", "a-", out=[reference.found("TINY64"), f"Read {SIZE} bytes."])
     bench.expect("--read=-b", out=[reference.found("TINY64"), f"Read {SIZE} bytes."])
     bench.check_file("-b", FREE)
 
 
 def finds_dash_in_its_turn(start):
-    """Other usage faults keep their order: fault 4 comes before `-`, and faults 6 to 8 come after it."""
+    """Checks that usage fault 4 precedes fault 5 of the file name `-`, and that faults 6 and 8 come after fault 5."""
     bench = start()
     for words, *lines in (
             (("-r", "-", "-E"), "error: -r and -E cannot be used together", "Usage fault 4."),
@@ -57,7 +57,7 @@ def finds_dash_in_its_turn(start):
 
 
 def escapes_arguments(start):
-    """An argument in a usage fault is escaped, so that it can neither add a line nor send an escape sequence."""
+    """Checks that an argument in a usage fault is escaped, so that it can't add a line or send an escape sequence."""
     bench = start()
     for argument, shown in (
             ("x\x1b[31mR\x07", r"x\x1b[31mR\x07"), ("a\nUsage fault 9.", r"a\x0aUsage fault 9."),
@@ -75,7 +75,7 @@ def escapes_arguments(start):
 
 
 def gives_tips(start):
-    """An option of flashrom or flashnor that the program lacks is refused with what to use instead."""
+    """Checks that an option which only flashrom or flashnor has is refused with a tip that names an alternative."""
     bench = start()
     for option, tip in (
             ("-x", "-r FILE with -i NAME:FILE reads regions into files of their own"),
@@ -93,7 +93,7 @@ def gives_tips(start):
 
 
 def other_names(row):
-    """Returns the lines with the other names for a row. The longest name has a line of its own."""
+    """Returns the lines of -L with the other names of a chip. A name with a slash has its own line."""
     names = NAMES.get(row, ())
     lines = [", ".join(it for it in names if "/" not in it)] * bool(names) + [it for it in names if "/" in it]
     starts = "    or ", "    "
@@ -101,7 +101,7 @@ def other_names(row):
 
 
 def lists_the_chips(start):
-    """-L prints the chips that are known by their ID, with their names, with or without -p, and sends nothing."""
+    """Checks that -L prints the chips known by their ID, with or without -p, and sends nothing."""
     bench = start()
     rows = {it.id.hex(): f"{name:11} {it.id.hex()}  {it.size >> 20:2} MiB  {SUPPLY[name[-2:]]}"
             for name, it in PARTS.items() if it.has_row}
@@ -120,7 +120,7 @@ def lists_the_chips(start):
 
 
 def takes_repeated_flags(start):
-    """-V may be repeated, as in flashrom, and --progress without a mode is --progress auto."""
+    """Checks that -V may be repeated, as in flashrom, and that --progress without a mode is --progress auto."""
     bench = start()
     once = [it.split(" ", 1)[-1] for it in bench.run("-V").err]
     check("lines of -V", bool(once), True)
@@ -136,8 +136,10 @@ def takes_repeated_flags(start):
 
 
 def takes_maps_of_larger_chips(start):
-    """A region of an FMAP or a flash descriptor that lies outside the chip is refused only if -i names it. The line
-    after error 5 names it."""
+    """Checks that a region of an FMAP or flash descriptor may be outside the chip, unless -i names this region.
+
+    If -i names such a region, the run ends with error 5.
+    """
     fmap = with_fmap(FREE, 0x2000, [
         (0x1000, 0x1000, b"A"), (SIZE, 1, b"B"), (SIZE - 1, 2, b"C"), (0xFFFFFFFD, 2, b"D")])
     descriptor = with_descriptor(FREE, [(0, 0), (16, 31), (1, 1), (2, 16), (0x7FFF, 0x7FFF)])
@@ -166,7 +168,7 @@ def takes_maps_of_larger_chips(start):
 
 
 def takes_blanks_in_layouts(start):
-    """A layout may have any blanks around its words, as in flashrom, but a region has both of its words in one line."""
+    """Checks that a layout may have blanks around START:END and NAME, as in flashrom, if both are on one line."""
     old = bytes(range(256)) * (SIZE // 256)
     bench = start(data=old)
     bench.write("layout", b"\t0:fff\ta \r\n \x0b 3000:3fff  b\x0c\r\n\r\n \t\n5001:5002\tc")

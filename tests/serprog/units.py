@@ -1,8 +1,8 @@
-"""Cases of a board that is exchanged while a job runs, and of a journal or a status that doesn't fit the chip.
+"""These cases exchange the board during a job, or restore from a journal that doesn't fit the chip.
 
-Both boards have a chip of the same kind, with the same bytes. Only their unique IDs differ. The program reads the
-unique ID when it identifies the chip, and again before the first modifying command. If the board is exchanged in
-between, the job must end with error 12, and neither chip may be changed.
+Both boards have a chip of one type with equal bytes. Only their unique IDs differ. The program reads the unique ID when
+it identifies the chip, and again before the first modifying command. If the board is exchanged in between, the job must
+end with error 12, and neither chip may be changed.
 """
 import reference
 from bench import check
@@ -20,7 +20,10 @@ KEPT = "With another tool, set these bits as they were, because this program nev
 
 
 def exchange(bench, words, journal, left):
-    """Exchanges the board before each transaction of a job in turn, from the first read of the unique ID on."""
+    """Runs a job once for each transaction before which the board is exchanged, and checks that no chip is changed.
+
+    The exchange is tried between the first read of the unique ID and its last read before a modifying command.
+    """
     before, status = bytes(bench.chip.data), bytes(bench.chip.status)
     if journal:
         bench.write("j", journal)
@@ -29,17 +32,18 @@ def exchange(bench, words, journal, left):
     first, again = [at for at, opcode in enumerate(log, 1) if opcode == READ_UNIQUE][:2]
     seal = next(at for at, opcode in enumerate(log, 1) if opcode in reference.CHANGING)
     used = [] if journal else [reference.used_name()]
-    # The last four transactions before the first modifying command are two reads of the unique ID, each with the ID
-    # after it. If the board is exchanged after these two, the program can't know it.
+    # The last four transactions before the first modifying command are two reads of the unique ID, each followed by a
+    # read of the ID. If the board is exchanged after the second read of the unique ID, the program can't detect this.
     for number in range(first + 1, seal - 1):
         bench.chip.data[:], bench.chip.status[:] = before, status
         other = Chip(bench.part, before, status, OTHER)
         if not journal:
             bench.remove_journal()
         bench.server.traits.other = number, other
-        # The two replies to one read differ if the board is exchanged between them.
+        # If the board is exchanged between two compared reads of the unique ID, their replies differ. Otherwise the
+        # unique ID differs from the one that was read first.
         cause = EXCHANGED if again < number <= seal - 4 else DIFFER
-        # If the second read of the unique ID shows the exchange, the journal is sealed, and left.
+        # The journal is sealed and kept if the exchange is detected when the unique ID is read again.
         bench.expect(*words, err=[STOPPED, f"{cause} {left}", *(used if number > again else [])])
         for chip in bench.chip, other:
             check("the chip is unchanged", (chip.data == before, bytes(chip.status)), (True, status))
@@ -48,7 +52,7 @@ def exchange(bench, words, journal, left):
 
 
 def changes_no_other_chip(start):
-    """A session doesn't change a board that came in the place of the one that it read."""
+    """Checks that a session changes no chip if the board is exchanged during the session."""
     old, new = chip_images(FEW)
     bench = start(data=old, unique=FIRST)
     bench.write("new", new)
@@ -56,7 +60,7 @@ def changes_no_other_chip(start):
 
 
 def restores_no_other_chip(start):
-    """The same for a restore, with --quick and without."""
+    """Checks that a restore, with or without --quick, changes no chip if the board is exchanged during the restore."""
     old, new = chip_images(FEW)
     journal = reference.journal("TINY64", old, FEW, unique=FIRST)
     for words in ("-N",), ("-N", "--quick"):
@@ -65,13 +69,13 @@ def restores_no_other_chip(start):
 
 
 def protects_no_other_chip(start):
-    """The same for --wp-range."""
+    """Checks that --wp-range changes no chip if the board is exchanged during the run."""
     bench = start("W25Q64FV", unique=FIRST)
     exchange(bench, ("--wp-range", "0x000000,0x800000", "--journal", "j"), None, UNCHANGED)
 
 
 def prints_both_sizes(start):
-    """Error 16 of a journal of a chip with the same ID, but another size, names both sizes."""
+    """Checks that the line after error 16 has both sizes if the chip has the journal's ID, but another size."""
     old, new = chip_images(FEW)
     bench = start(data=new)
     bench.write("j", reference.journal("TINY64", old + old, FEW))
@@ -83,7 +87,10 @@ def prints_both_sizes(start):
 
 
 def advises_on_kept_bits(start):
-    """If a status write clears QE, the line of chip fault 3 and the restore say that QE must be set."""
+    """Checks the lines about QE if a status write clears it: those of chip fault 3 and of the restore.
+
+    When QE is set again, the restore ends without an error.
+    """
     old, new = large_images()
     bench = start("W25Q64FV", data=old, status=b"\x04\x02")
     bench.remembers = False

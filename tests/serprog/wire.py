@@ -1,7 +1,7 @@
-"""Cases of faults between the programmer and the chip, and of chips that need care.
+"""These cases test faults between the programmer and the chip, and chips that need care.
 
-Expected bytes and addresses are those of the models (chip.py). Where a line goes on with advice, its beginning is
-compared.
+The expected bytes and addresses are those of the chip's model (chip.py). If a line ends with advice, only its beginning
+is compared.
 """
 import random
 
@@ -17,32 +17,32 @@ STOPPED = "Error 12: stopped."
 UNPROTECTED = "The chip is unprotected."
 PROTECT = ("--wp-range", "0,0x800000", "--journal", "j")
 UNLOCK = ("-w", "new", "--unlock", "-l", "layout", "-i", "last", "--journal", "j")
-# Status bytes before and after `PROTECT`: QE is set, and CMP falls.
+# `PROTECT` changes the status bytes from BEFORE to AFTER: QE stays set, and CMP becomes 0.
 BEFORE, AFTER = b"\x24\x42", b"\x1c\x02"
 
 
 def begins(what, got, wanted):
-    """Checks that the lines of standard error begin with these texts, and that the run failed and isn't `Done`."""
+    """Checks that the lines of standard error begin with these texts, and that the run failed without a line "Done"."""
     check(what, [line[: len(text)] for line, text in zip(got.err, wanted)], list(wanted))
     check(f"{what}, exit status", got.status, 1)
     check(f"{what}, lines of a success", [it for it in got.out if it.startswith("Done")], [])
 
 
 def numbers_of(bench, opcode):
-    """Returns the numbers of the transactions of the last run with this opcode."""
+    """Returns the numbers of the last run's transactions that have this opcode."""
     return [at for at, (out, _) in enumerate(bench.server.log, 1) if out[0] == opcode]
 
 
 def check_unchanged(bench, data, status):
-    """Checks that no modifying command was sent, and that the chip is as it was."""
+    """Checks that no modifying command was sent, and that the chip has these bytes and this status."""
     check("modifying commands", [out.hex() for out, _ in bench.server.log if out[0] in reference.CHANGING], [])
     bench.check_chip(data, status)
 
 
 def compares_replies(start):
-    """One wrong bit in a reply to 05h, 35h, 9Fh, 4Bh or 5Ah stops a run before the first modifying command.
+    """Checks that one wrong bit in a reply to 05h (except BUSY), 35h, 9Fh, 4Bh or 5Ah stops a run before a change.
 
-    If it is in an ID, the chip counts as lost: each ID must be the first one.
+    If the bit is in a reply to 9Fh, the run reports a lost chip, because each later reply to 9Fh must equal the first.
     """
     blank = b"\xff" * LARGE
     bench = start("W25Q64FV", data=blank, status=BEFORE, unique=bytes(range(8)))
@@ -61,8 +61,9 @@ def compares_replies(start):
     old, new = images("compares_replies")
     bench = start(data=old)
     bench.write("new", new)
-    # Before the six reads of SFDP: two polls, each with the ID after it, and the ID twice. The ID follows each, and is
-    # read twice more before the two reads of the table.
+    # The job begins with two polls, each followed by a read of the ID, and two more reads of the ID. Then each of the
+    # three parts of SFDP is read twice, each time followed by a read of the ID. Before the third part, the ID is read
+    # twice more.
     for number in (bench.first() + it for it in (6, 8, 10, 12, 16, 18)):
         bench.server.traits.wrong_bits = {number: (7, 5)}
         begins(f"SFDP, transaction {number}", bench.run("-w", "new", "--journal", "j"), [STOPPED, DIFFER])
@@ -72,7 +73,10 @@ def compares_replies(start):
 
 
 def believes_busy(start):
-    """A wrong bit that shows BUSY costs one more poll. One that hides BUSY in one of two bytes hides nothing."""
+    """Checks that a wrong bit that shows BUSY causes only one more poll.
+
+    A poll receives two bytes. If a wrong bit hides BUSY in one of them, the other still shows BUSY.
+    """
     for byte in 0, 1:
         bench = start("W25Q64FV", data=b"\xff" * LARGE, status=BEFORE)
         bench.server.traits.wrong_bits = {bench.first(): (byte, 0)}
@@ -88,18 +92,19 @@ def believes_busy(start):
 
 
 def not_stored(sent, found):
-    """Returns the beginning of the line of a status write that the chip didn't store."""
+    """Returns the beginning of the line of chip fault 3 for a status write that the chip didn't store."""
     return reference.not_stored_status(sent, found)
 
 
 def reads_status_writes_back(start):
-    """A status write of --wp-range or of its restore that the chip missed is chip fault 3."""
+    """Checks that a status write of --wp-range, or of its restore, that the chip misses is chip fault 3."""
     blank = b"\xff" * LARGE
     bench = start("W25Q64FV", data=blank, status=BEFORE)
     check("the run", bench.run(*PROTECT).status, 0)
     number = numbers_of(bench, 0x01)[0]
     bench.server.traits.misses = {number: 0xFF}
-    # With -N the restore has the transactions of the session, and so its numbers.
+    # With -N the restore sends as many transactions as the session, so the status write has the number that it had
+    # there.
     begins("--restore", bench.run("--restore", "j", "-N"), [STOPPED, not_stored(BEFORE, AFTER)])
     bench.check_chip(blank, AFTER)
     check("the restore", bench.run("--restore", "j").status, 0)
@@ -110,7 +115,10 @@ def reads_status_writes_back(start):
 
 
 def reports_an_unprotected_chip(start):
-    """The same for both status writes of --unlock. If the second one was missed, a line says what that means."""
+    """Checks that each of the two status writes of --unlock is chip fault 3 if the chip misses it.
+
+    If the chip misses the second one, a line says that the chip is unprotected.
+    """
     old, new = large_images()
     bench = start("W25Q64FV", data=old, status=b"\x04\x02")
     bench.write("new", new)
@@ -130,7 +138,10 @@ def reports_an_unprotected_chip(start):
 
 
 def says_that_the_chip_may_be_unprotected(start):
-    """If a session with --unlock stops after it lifted the protection, the advice says so. Otherwise it does not."""
+    """Checks that the line after error 12 says that the chip may be unprotected if the session lifted its protection.
+
+    Otherwise the line doesn't say so.
+    """
     old, new = large_images()
     for status, ends in (b"\x04\x02", "--restore j. Until then it may be unprotected."), (b"\0\x02", "--restore j."):
         bench = start("W25Q64FV", data=old, status=status)
@@ -150,7 +161,7 @@ def says_that_the_chip_may_be_unprotected(start):
 
 
 def finds_torn_status_writes(start):
-    """A loss of the chip's power in a status write leaves any mixture of old and new bits: chip fault 3, or none."""
+    """Checks that a loss of the chip's power in a status write is chip fault 3 if a changed bit wasn't stored."""
     blank, differing = b"\xff" * LARGE, int.from_bytes(BEFORE, "big") ^ int.from_bytes(AFTER, "big")
     torn, bench = differing, start("W25Q64FV", data=blank, status=BEFORE)
     while torn:
@@ -166,7 +177,10 @@ def finds_torn_status_writes(start):
 
 
 def restores_marginal_bytes(start):
-    """After a loss of power in an erase or a program, a restore leaves no marginal byte, and runs once."""
+    """Checks that one restore leaves no marginal byte after a loss of power in an erase or a program.
+
+    A marginal byte reads as its old value or as its new value.
+    """
     old, new = images("restores_marginal_bytes")
     operations = sum(out == b"\x06" for out, _ in reference.session("TINY64", old, new))
     for operation in 2, 3, operations:
@@ -180,7 +194,7 @@ def restores_marginal_bytes(start):
             bench.plug()
             plan = reference.restore("TINY64", old, (1, 2, 7, 15))
             bench.expect("--restore", "j", out=[reference.found("TINY64"), reference.report(plan, 4)])
-            # The marginal bytes are in saved sectors, which aren't read before they are rewritten.
+            # The marginal bytes are in saved sectors, which the restore must not read before it rewrites them.
             first = numbers_of(bench, 0x06)[0]
             reads = [int.from_bytes(out[1:], "big") // SECTOR for out, _ in bench.server.log[:first] if out[0] == 0x03]
             check("saved sectors that are read first", [it for it in reads if it in (1, 2, 7, 15)], [])
@@ -189,17 +203,20 @@ def restores_marginal_bytes(start):
 
 
 def first_difference(one, other, numbers=ALL):
-    """Returns the first address in these sectors where both differ."""
+    """Returns the first address in these sectors at which two chips differ."""
     return next(at for n in numbers for at in range(n * SECTOR, (n + 1) * SECTOR) if one[at] != other[at])
 
 
 def finds_a_wrong_erase(start):
-    """A wrong address bit of an erase is error 14. A restore restores the saved sectors, and -v finds the other one."""
+    """Checks that a wrong address bit in an erase is error 14.
+
+    A restore then restores only the saved sectors. Later, -v finds the sector that was erased by mistake.
+    """
     old, new = images("finds_a_wrong_erase")
     wire = session_wire(old, new)
     number = next(at for at, (out, _) in enumerate(wire, 1) if out[0] == 0x20)
     bench = start(data=old, wrong_address=(number, number, 14))
-    # What the chip holds then: the erase of sector 2 erases sector 6.
+    # This model shows what the chip holds after the session: the erase of sector 2 erased sector 6 instead.
     chip = Chip("TINY64", old)
     for at, (out, replies) in enumerate(wire, 1):
         chip.transfer(bytes.fromhex("20006000") if at == number else out, replies)
@@ -208,7 +225,7 @@ def finds_a_wrong_erase(start):
     begins("the session", bench.run("-w", "new", "--journal", "j"),
            reference.not_stored(first_difference(chip.data, new, (1, 2, 7, 15))))
     bench.server.traits.wrong_address = ()
-    # Without the sums of the sectors, the restore doesn't know the other one.
+    # Without j.sectors, the restore can't detect that sector 6 was erased.
     bench.path("j.sectors").unlink(missing_ok=True)
     check("the restore", bench.run("--restore", "j").status, 0)
     bench.check_chip(old[: 6 * SECTOR] + b"\xff" * SECTOR + old[7 * SECTOR :])
@@ -217,7 +234,10 @@ def finds_a_wrong_erase(start):
 
 
 def compares_the_rest(start):
-    """If an address bit is wrong for the whole change, its sectors verify, and the comparison is chip fault 4."""
+    """Checks that a session ends with chip fault 4 if an address bit is wrong in the whole change.
+
+    The changed sectors verify, because the verification reads them with the wrong bit, too.
+    """
     old, new = images("compares_the_rest", (2, 7, 15))
     wire = session_wire(old, new)
     first = next(at for at, (out, _) in enumerate(wire, 1) if out[0] in reference.CHANGING)
@@ -238,7 +258,10 @@ def compares_the_rest(start):
 
 
 def leaves_the_rest_out(start):
-    """With -N the same wrong address bit isn't noticed. A later -v finds it, and the journal has the saved sectors."""
+    """Checks that with -N a session doesn't detect an address bit that is wrong in the whole change.
+
+    Later, -v finds the difference. The journal has the right sectors.
+    """
     old, new = images("leaves_the_rest_out", (2, 7, 15))
     plan = reference.session("TINY64", old, new)
     wire = reference.carried(reference.whole_run("TINY64", plan), old)
@@ -252,9 +275,9 @@ def leaves_the_rest_out(start):
 
 
 def change_outside(seed):
-    """Returns a chip's bytes, an image, and the chip after a change of sector 6 that reaches sector 2 instead.
+    """Returns the bytes of a chip, an image, and the chip after a change of sector 6 that changed sector 2 instead.
 
-    The image differs from the chip in sector 6, and at addresses outside the regions, which must stay.
+    The image also differs from the chip in sector 0, which is outside the region and must not change.
     """
     old, new = images(seed, (6,))
     wrong = old[: 2 * SECTOR] + new[6 * SECTOR : 7 * SECTOR] + old[3 * SECTOR :]
@@ -262,9 +285,10 @@ def change_outside(seed):
 
 
 def compares_excluded_sectors(start):
-    """With regions, a wrong address bit that reaches a sector outside them is chip fault 4, with its address.
+    """Checks that a session with regions ends with chip fault 4 if a wrong address changes a sector outside them.
 
-    With -N it isn't noticed. Bytes outside the regions are compared with those from before, and not with the image.
+    With -N the session doesn't detect this. Bytes outside the regions are compared with their values before the
+    session, and not with the image.
     """
     old, image, wrong = change_outside("compares_excluded_sectors")
     words = ("-w", "image", "-l", "layout", "-i", "six", "--journal", "j")
@@ -294,7 +318,10 @@ def compares_excluded_sectors(start):
 
 
 def refuses_unknown_protection(start):
-    """A chip without a row in the table, with one of the status bits 2 to 6, isn't changed: chip fault 1."""
+    """Checks that a chip found by its SFDP isn't changed if one of bits 2 to 6 of its status 1 is set.
+
+    A session ends with chip fault 1, and a restore with error 17. A read works.
+    """
     old, new = images("refuses_unknown_protection")
     journal = reference.journal("GUARD64", old, (1, 2, 7, 15))
     for bit in range(2, 7):
@@ -322,14 +349,17 @@ def refuses_unknown_protection(start):
 
 
 def finds_lost_programs(start):
-    """A program that the chip lost with its power is error 14. With -n it isn't noticed, but the journal restores."""
+    """Checks that a page program that was lost with the chip's power is error 14. With -n the loss isn't detected.
+
+    The journal restores the chip in both cases.
+    """
     old, new = images("finds_lost_programs")
     page = 15 * SECTOR + 15 * 256
     address = next(at for at in range(page, page + 256) if new[at] != 0x5A)
     for words, is_found in ((), True), (("-n",), False):
         bench = start(data=old, loss={"fill": 0x5A})
         bench.write("new", new)
-        # The last operation of the session is the program of the last page of sector 15.
+        # The session's last operation is the program of the last page of sector 15.
         last = sum(out == b"\x06" for out, _ in reference.session("TINY64", old, new))
         got = bench.run("-w", "new", *words, "--journal", "j", events={(last, 0): "dip"})
         check("the exit status", got.status, int(is_found))
@@ -340,7 +370,7 @@ def finds_lost_programs(start):
 
 
 def wakes_the_chip(start):
-    """A chip in deep power-down is woken before it is identified."""
+    """Checks that a chip in deep power-down is woken before it is identified."""
     for part in "TINY64", "W25Q64FV":
         bench = start(part)
         bench.chip.is_asleep = True
@@ -350,7 +380,10 @@ def wakes_the_chip(start):
 
 
 def loses_the_power_lock(start):
-    """SRP1 without SRP0 is lost with the chip's power. A restore is then error 17, and changes nothing."""
+    """Checks that a restore ends with error 17 and changes nothing if SRP1 was lost with the chip's power.
+
+    SRP1 without SRP0 lasts only until the next power-up.
+    """
     old, new = images("loses_the_power_lock")
     blank = b"\xff" * LARGE
     data = blank[:-SECTOR] + old[:SECTOR]
@@ -370,7 +403,10 @@ def loses_the_power_lock(start):
 
 
 def says_that_an_erase_failed(start):
-    """A chip that ignores its erases is error 14. The line names no image, because -E has none."""
+    """Checks that -E ends with error 14 if the chip ignores its erases.
+
+    The line names no image, because -E has none.
+    """
     bench = start(data=bytes(65536))
     carry = bench.chip.transfer
     bench.chip.transfer = lambda out, length: b"" if out[0] in (0x20, 0x52, 0xD8, 0xC7) else carry(out, length)

@@ -1,9 +1,10 @@
-/* Refuses allocations of the program into which it is loaded (LD_PRELOAD): the one whose number, counted from 1, is in
-   REFUSE (0 is none). If SPAN names a file, it also refuses every allocation from the moment in which that file was
-   created, or was closed after it was read, until another file is opened or written (a directory does not count). At
-   the start of such a span it allocates once itself, so that there is one to refuse. When the program ends, the file
-   that COUNTED names gets the number of allocations, of refused ones and of spans, and the file that ended the last
-   span. */
+/* Refuses allocations of the program into which this library is loaded (LD_PRELOAD): the one whose number, counted from
+   1, is in the environment variable REFUSE (0 refuses none). If SPAN names a file, the library also refuses every
+   allocation in a span of the run: from the moment in which that file was created, or was closed after it was read,
+   until another file (not a directory) is opened or written. At the start of each span, the library makes one
+   allocation itself, so that at least one is refused. When the program ends, the library writes the numbers of
+   allocations, of refused ones and of spans, and the name of the file that ended the last span, to the file that
+   COUNTED names. */
 #define _GNU_SOURCE
 #include <errno.h>
 #include <fcntl.h>
@@ -123,7 +124,7 @@ ssize_t write(int file, const void *bytes, size_t size) {
     return syscall(SYS_write, file, bytes, size);
 }
 
-/* A file that is read through a copy of its descriptor is read when the first of both is closed. */
+/* The program reads a file through a copy of its descriptor. The span begins when the first of the two is closed. */
 int close(int file) {
     int answer = (int)syscall(SYS_close, file);
     if (is_watched(file) && !is_new[file] && spans == 0) begin_span();

@@ -1,19 +1,21 @@
 #!/usr/bin/env bash
-# tests/sweep/run.sh [PROGRAM [RUN [NUMBER]]]: flashnor with each of its allocations refused in turn, or one run with
-# only the allocation of this number refused (0 refuses none).
+# tests/sweep/run.sh [PROGRAM [RUN [NUMBER]]]: the allocation-failure test. Runs flashnor many times, and refuses a
+# different allocation each time. RUN selects one run by its name, and NUMBER the only allocation that is refused (0
+# refuses none).
 #
-# There are four runs on a TINY64 of given bytes. Each is done once with all its memory, and must then print and leave
-# what is given here. It is repeated for each of its allocations, which refuse.c refuses. Then it does the same, or ends
-# with status 1 and one of the lines for a lack of memory. Image and status must be as before the run, except for a file
-# of which the line says that it was not written. A journal that is left must be complete and restore the chip, or else
-# be a prefix of that journal.
+# Four runs work on a TINY64 with given bytes. Each first runs without a refused allocation, and must print and leave
+# what its line at the end of this script says. It is then repeated once for each of its allocations, which refuse.c
+# refuses. It must end as usual, or with status 1 and one of the lines that report that memory ran out. Image and status
+# must be as before the run, except a file for which the line reports that it was not written. If there is a journal, it
+# must be complete and restore the chip, or be a prefix of the usual journal.
 #
-# Four more sessions and their restores are refused every allocation from the moment in which the journal's file was
-# created, or closed after it was read, until the chip's file is written. Each must print and leave what is given here.
+# Four further sessions and their restores are refused every allocation while only the journal is used: from the moment
+# in which the journal's file was created (or was closed after it was read) until the chip's file is written. Each must
+# print and leave what its line says.
 #
-# The first run that does something else, or in which nothing was refused, is printed with the command that repeats it,
-# and the status is 1. Programs that report another file or change the chip must be detected (the run `wrong`). This
-# needs a C compiler; no test can make the allocator refuse.
+# The test ends at the first run that does something else, or in which nothing was refused. It prints the command that
+# repeats this run, and ends with status 1. The run `wrong` checks that the test detects programs that report another
+# file or change the chip. The test needs a C compiler.
 set -euo pipefail
 
 top=$(cd "$(dirname "$0")/../.." && pwd)
@@ -38,7 +40,7 @@ trap 'rm -rf "$work"' EXIT
 cd "$work"
 cc -std=c11 -Wall -Wextra -O1 -shared -fPIC -o refuse.so "$top/tests/sweep/refuse.c"
 
-# Ends the sweep with its last line. Its argument is the number of runs that failed.
+# finish FAILED: prints the last line of the test, with the number of failed runs, and ends the script.
 finish() {
     echo "sweep: $passed passed, $1 failed"
     exit "$1"
@@ -49,16 +51,16 @@ fail() {
     finish 1
 }
 
-# refuse.c can't refuse memory that is allocated by other functions, so the program must not use them.
+# refuse.c can refuse only malloc, calloc and realloc, so the program must not allocate memory with other functions.
 nm -D --undefined-only "$program" > symbols || fail "nm tells no calls of $program"
 others=$(grep -owE 'mmap|mmap64|s?brk|aligned_alloc|posix_memalign|memalign|valloc|reallocarray' symbols | xargs || true)
 [[ -z $others ]] || fail "the program takes memory by $others too, which refuse.c doesn't refuse"
 
-# Prints this number of bytes, each with this value (in octal).
+# bytes COUNT VALUE: prints COUNT bytes, each with the octal value VALUE.
 bytes() { head -c "$1" /dev/zero | tr '\000' "\\$2"; }
 
-# Makes images for the chips, with FFh in all other bytes, a layout, and the status that protects the last 128 KiB of an
-# 8 MiB chip.
+# Creates images for the chips, which have FFh except in a few bytes, a layout, and the status that protects the last
+# 128 KiB of a chip of 8 MiB.
 make_files() {
     local large=8388608 place=8257536
     bytes $size 377 > erased
@@ -75,7 +77,8 @@ make_files() {
     echo '0x800:0x8ff bios' > layout
 }
 
-# Puts these bytes into the chip and this image into `wanted`, and removes the journal.
+# begin BEFORE IMAGE: creates the chip's files with the bytes of BEFORE, copies IMAGE to the file `wanted`, and removes
+# the journal.
 begin() {
     cp "$1" chip.bin
     cp "$2" wanted
@@ -83,8 +86,9 @@ begin() {
     rm -f journal
 }
 
-# Runs with these arguments, and refuses the allocation of this number and those of spans at this journal. The output is
-# then in `said` and `faults`, and the counts of refuse.c in `asked`, `refused`, `spans` and `until`.
+# attempt NUMBER JOURNAL ARGUMENTS..: runs the program, and refuses the allocation NUMBER and those while only JOURNAL
+# is used (SPAN in refuse.c). The output goes to the files `said` and `faults`, and the counts of refuse.c to `asked`,
+# `refused`, `spans` and `until`.
 attempt() {
     local number=$1 journal=$2
     shift 2
@@ -95,7 +99,8 @@ attempt() {
     [[ ! -s count ]] || read -r asked refused spans until < count
 }
 
-# Ends the sweep with what is wrong. Without a number, every allocation of a span was refused.
+# differs PROBLEM..: prints the problem of the current run, and ends the script. If `number` is empty, every allocation
+# while only the journal is used was refused.
 differs() {
     {
         echo "sweep: $run with allocation ${number:-after allocation} refused: $*; the status is $status. It printed"
@@ -105,11 +110,11 @@ differs() {
     finish 1
 }
 
-# Succeeds if the run printed what it prints with all its memory.
+# Succeeds if the run ended and printed as usual, that is, as without a refused allocation.
 is_own() { [[ $status == 0 && ! -s faults && $(cat said) == "$answer" ]]; }
 
-# Sets `kind` to the report of a lack of memory, and `unwritten` to the chip's file that was not written. Fails if the
-# output is anything else. Only such a file is reported after the run's result.
+# Succeeds if the run reported that memory ran out. Sets `kind` to this report, and `unwritten` to the file of the chip
+# that was not written, if any. Only after the report of an unwritten file may the run have printed its result.
 tells_memory() {
     local last
     unwritten=''
@@ -129,10 +134,10 @@ tells_memory() {
     [[ $status == 1 && $(cat said) == "${unwritten:+$answer}" ]]
 }
 
-# Succeeds if this file is among the run's arguments.
+# Succeeds if the file $1 is among the run's arguments.
 is_given() { [[ " ${words[*]} " == *" $1 "* ]]; }
 
-# Ends the sweep if chip, status or journal is not as it must be after a report of a lack of memory.
+# Checks the chip, its status and the journal after a report that memory ran out.
 check_left() {
     local file left=([0]="$before" [1]="$bits")
     [[ -z $unwritten ]] || left=([0]="$after" [1]="$bits")
@@ -149,7 +154,8 @@ check_left() {
     fi
 }
 
-# Ends the sweep if the restore doesn't end so, or the chip is not as before then.
+# restores STATUS ERROR: runs a restore, which must end with STATUS and print ERROR to standard error. Afterwards, the
+# chip must be as before the session.
 restores() {
     local ended=0
     "$program" -p "$chip" --restore journal > restored 2> unrestored || ended=$?
@@ -157,8 +163,9 @@ restores() {
     { cmp -s chip.bin "$before" && cmp -s status.bin "$bits"; } || differs "the restore leaves another chip"
 }
 
-# sweep RUN BEFORE IMAGE AFTER ANSWER ARGUMENTS..: the chip's bytes before, the image, the chip's bytes after, and the
-# output of the run with all its memory.
+# sweep RUN BEFORE IMAGE AFTER ANSWER ARGUMENTS..: tests a run with each of its allocations refused in turn. BEFORE and
+# AFTER are the chip's bytes before and after the run, IMAGE is the file `wanted`, and ANSWER is the usual output of the
+# run.
 sweep() {
     run=$1 answer=$5 chip=$tiny bits=clear
     local before=$2 image=$3 after=$4 number=0 most own=0 kind unwritten words=("${@:6}")
@@ -195,8 +202,9 @@ sweep() {
     fi
 }
 
-# span RUN CHIP BEFORE AFTER ANSWER UNDONE ARGUMENTS..: the chip's bytes before and after, and the output of a session
-# and of its restore.
+# span RUN CHIP BEFORE AFTER ANSWER UNDONE ARGUMENTS..: tests a session and its restore with every allocation refused
+# while only the journal is used. BEFORE and AFTER are the chip's bytes before and after the session. ANSWER is the
+# output of the session, and UNDONE that of the restore.
 span() {
     run=$1 chip=$2 answer=$5 bits=clear
     [[ $chip == "$tiny" ]] || bits=guarding
@@ -211,7 +219,8 @@ span() {
     echo "$run: each allocation refused, $in_session of the session, $((refused - spans)) of its restore; no difference"
 }
 
-# Runs with these arguments and every allocation refused while only the journal is used.
+# attempt_without_memory AFTER ARGUMENTS..: runs the program, and refuses every allocation while only the journal is
+# used. The chip must then have the bytes of AFTER.
 attempt_without_memory() {
     local bytes=$1
     shift
@@ -223,17 +232,18 @@ attempt_without_memory() {
     passed=$((passed + 1))
 }
 
-# Prints each report of a lack of memory with its number.
+# Prints each report that memory ran out, with the number of runs that ended with it.
 kinds() {
     for kind in "${!told[@]}"; do echo "$kind (${told[$kind]})"; done | sort | paste -sd, | sed 's/,/, /g'
 }
 
-# wrong COMMANDS WHAT: a program that runs these commands instead if its allocation is refused must be detected: in a
-# session it must be reported like this.
+# wrong COMMANDS WHAT: tests a program that runs COMMANDS if one of its allocations is refused. This script must fail
+# for this program, and print WHAT.
 wrong() {
     local printed status=0
     [[ -z $only || $only == wrong ]] || return 0
-    # (a program that is told which allocation is refused, and allocates until it is)
+    # The stub reads the number of the refused allocation from REFUSE, makes this number of allocations, and runs
+    # COMMANDS.
     [[ -x stub ]] || cc -std=gnu11 -O1 -x c -o stub - << EOT
 #include <stdlib.h>
 #include <unistd.h>
@@ -259,8 +269,7 @@ make_files
 tiny=dummy:emulate=TINY64,image=chip.bin,status=status.bin
 large=dummy:emulate=W25Q64FV,image=chip.bin,status=status.bin
 found="Found SFDP (fe1010), $size bytes."
-# The results of these two runs with all their memory detect a program that always reports a lack of memory for its
-# image, or for its layout.
+# The next two runs also detect a program that always reports that memory ran out for its image or its layout.
 sweep memory_for_image erased erased erased "$found
 Done: touched 0, erases 0, programs 0, transactions 23." -w wanted --journal journal
 sweep layout_memory sector_00 erased region_ff "$found

@@ -1,22 +1,28 @@
-"""A serial programmer, byte by byte: the firmware of a board with a UART and a chip behind it.
+"""Models the firmware of a serial programmer: a board with a UART and a flash chip.
 
-The firmware reads one byte at a time, and replies as soon as it has all bytes of a command. It knows no end of a run:
-a command that was received in part waits for its rest until power is cut. Nothing marks where a frame begins, and there
-is no checksum (flashrom, serprog protocol, version 1).
+The firmware reads one byte at a time, and replies as soon as it has all bytes of a command. It can't tell when a run of
+flashnor-serprog ends. If it has received only a part of a command, it waits for the rest until its power is cut.
+Nothing in the serprog protocol (version 1, see flashrom's documentation) marks the start of a command, and a command
+has no checksum.
 """
 
 ACK, NAK = b"\x06", b"\x15"
 O_SPIOP = 0x13
-# The number of bytes that follow an opcode. O_SPIOP has its six bytes of lengths, and then its data.
+# FOLLOW has the number of bytes that follow each opcode. After O_SPIOP, these are its two lengths of three bytes each,
+# and its data follow them.
 FOLLOW = {0x09: 3, 0x0A: 6, 0x0C: 4, 0x0E: 4, 0x12: 1, O_SPIOP: 6, 0x14: 4, 0x15: 1, 0x16: 1}
 KNOWN = (0, 1, 2, 3, 4, 5, 8, 0x10, 0x11, 0x12, O_SPIOP, 0x14, 0x15, 0x16)
 
 
 class Programmer:
-    """The firmware, which knows a `chip`. `buffer` is what Q_SERBUF replies; None: the command is unknown.
+    """The firmware of a programmer whose flash chip is `chip`.
 
-    With `selects_early` CS# falls as soon as the lengths are received, and the bytes go to the chip as they arrive.
-    Then CS# rises, and the chip acts, if the programmer loses its power in the middle while the chip keeps its own.
+    `buffer` is the size that Q_SERBUF (04h) returns. If `buffer` is None, the firmware doesn't know this command.
+    `most` is the length that Q_RDNMAXLEN (11h) returns.
+
+    If `selects_early` is true, CS# falls as soon as the lengths of an O_SPIOP have arrived, and the chip gets each byte
+    when it arrives. If the programmer then loses its power before the last byte, and the chip keeps its own, CS# rises
+    and the chip acts on the bytes that it has.
     """
 
     def __init__(self, chip, buffer=0x2000, most=0x10000, selects_early=False):
@@ -26,7 +32,7 @@ class Programmer:
         self.frames = 0
 
     def power_cycle(self, chip_too=True):
-        """Cuts the power of the programmer, and of the chip unless the board has a supply of its own."""
+        """Cuts the power of the programmer and, if `chip_too` is true, also that of the chip."""
         data = bytes(self.partial[7:])
         is_selected = self.selects_early and self.partial[:1] == bytes([O_SPIOP]) and data
         self.partial.clear()
@@ -36,7 +42,7 @@ class Programmer:
             self.chip.select(data, 0)
 
     def state(self):
-        """Returns a copy of what the programmer and its chip hold, for `put_back`."""
+        """Returns a copy of the state of the programmer and its chip, for `put_back`."""
         return bytes(self.partial), self.wanted, self.chip.state()
 
     def put_back(self, state):
@@ -44,7 +50,7 @@ class Programmer:
         self.chip.put_back(state[2])
 
     def take(self, byte):
-        """Takes one byte from the line, and returns the reply to the command that it completes, or nothing."""
+        """Takes one byte from the line. Returns the reply if this byte completes a command, and otherwise no bytes."""
         self.partial.append(byte)
         if len(self.partial) == 1:
             self.wanted = 1 + FOLLOW.get(byte, 0) if byte in KNOWN else 1

@@ -1,30 +1,35 @@
-"""Models of two SPI NOR flash chips, written from their datasheets' tables of instructions and timing diagrams.
+"""Models an SPI NOR flash chip, as the instruction tables and timing diagrams of datasheets describe it.
 
-A chip acts when CS# rises: `select` receives all bytes that were clocked in while CS# was low. Instructions that change
-something are carried out only if CS# rises exactly after their last byte, as the datasheets demand. `Flash` knows no
-protection, only the instructions that JESD216 describes. `Winbond` is a W25Q64FV.
+A chip acts when CS# rises: `select` receives all bytes that were clocked in while CS# was low. The chip carries out an
+instruction that changes something only if CS# rises right after the last byte of the instruction, as the datasheets
+demand.
 
-A chip records what no later run can undo: `once` has each one-time bit that was ever set, and `hit` each sector that an
-erase or a program reached.
+`Flash` has no block protection, and only the status bits BUSY and WEL. `Winbond` (winbond.py) is a W25Q64FV.
+
+Two sets record what a chip did. `once` has each one-time bit that was ever set. `hit` has the number of each sector
+that an erase or a program reached, and the text "security register" if one of these was changed.
 """
 import copy
 
 SECTOR, PAGE = 4096, 256
 BUSY, WEL = 0x01, 0x02
-# What an erased byte and a line that no chip drives read as, and what programmers send while they only receive.
+# BLANK is the value of an erased byte, and of a byte that is read while no chip drives the data line. IDLE is the byte
+# that a programmer sends while it only receives.
 BLANK, IDLE = 0xFF, 0x00
 BLOCKS = {0x20: 4096, 0x52: 32768, 0xD8: 65536}
 
 
 def tables(size):
-    """Returns SFDP of revision 1.0 with one table, which describes erases of 4, 32 and 64 KiB (JESD216, 6.4)."""
+    """Returns the SFDP of a chip with this size: revision 1.0, with one table, which lists erases of 4, 32 and 64 KiB
+    (JESD216, 6.4)."""
     header = b"SFDP" + bytes([0, 1, 0, 0xFF]) + bytes([0, 0, 1, 9, 0x10, 0, 0, 0xFF])
     words = [0xFF000000 | 0x20 << 8 | 0b101, 8 * size - 1, 0, 0, 0, 0, 0, 0x520F200C, 0x0000D810]
     return header + b"".join(it.to_bytes(4, "little") for it in words)
 
 
 class Flash:
-    """A chip of 64 KiB that only SFDP describes. Each of its operations shows BUSY to `polls` reads of status 1."""
+    """A chip of 64 KiB, which programs can identify only by its SFDP. After each operation, BUSY is set in the next
+    `polls` reads of status 1."""
 
     id = bytes.fromhex("fe1010")
     size = 1 << 16
@@ -38,7 +43,7 @@ class Flash:
         self.latch = self.asleep = self.deaf = self.armed = False
         self.busy = 0
         self.replies = {
-            # The status is output as long as the chip is selected (W25Q64FV datasheet, Read Status Register).
+            # The chip repeats its status byte as long as CS# is low (W25Q64FV datasheet, Read Status Register).
             0x9F: (1, lambda _: self.id), 0x05: (1, lambda _: bytes([self.status()]) * self.wanted),
             0x03: (4, self.read), 0x0B: (5, self.read), 0x5A: (5, self.sfdp), 0x4B: (5, lambda _: self.unique),
             0x90: (4, self.maker), 0xAB: (4, lambda _: self.device() * 8)}
@@ -48,19 +53,20 @@ class Flash:
             0x99: ((1,), self.reset), **{it: ((4,), self.erase) for it in BLOCKS}}
 
     def state(self):
-        """Returns a copy of all that the chip holds, for `put_back`."""
+        """Returns a copy of the chip's state, for `put_back`."""
         return {name: copy.deepcopy(it) for name, it in vars(self).items() if name not in ("replies", "orders")}
 
     def put_back(self, state):
         vars(self).update(copy.deepcopy(state))
 
     def cut_power(self):
-        """Takes the supply away and gives it back."""
+        """Cuts the chip's power, and restores it."""
         self.latch = self.asleep = self.deaf = self.armed = False
         self.busy = 0
 
     def select(self, out, replies):
-        """Carries out what was clocked in while CS# was low, and returns the bytes that were clocked out after it."""
+        """Carries out the instruction `out`, which was clocked in while CS# was low. Returns the bytes that the chip
+        clocks out after it; their number is `replies`."""
         blank = bytes([BLANK]) * replies
         if not out + blank or self.deaf:
             return blank
@@ -74,7 +80,8 @@ class Flash:
             return self.reply(code, out, replies)
         if code in self.orders:
             lengths, order = self.orders[code]
-            # Bytes that the programmer clocks out for a reply are clocks too: CS# doesn't rise after the last byte.
+            # The clocks of a reply count too: if `replies` isn't 0, CS# doesn't rise right after the last byte of
+            # `out`.
             if len(out) + replies in lengths:
                 self.armed = was_armed and code == 0x99
                 self.done.append(bytes(out[:8]))
@@ -82,8 +89,8 @@ class Flash:
         return blank
 
     def reply(self, code, out, replies):
-        """Returns the reply to an instruction with this code. If bytes of the instruction lack, the chip takes the
-        next clocks for them."""
+        """Returns the reply to the instruction `out` with the opcode `code`. If `out` is too short, the chip takes the
+        first clocks of the reply as the missing bytes."""
         begins, source = self.replies[code]
         lacks = max(0, begins - len(out))
         words = (bytes(out) + bytes([IDLE]) * lacks)[:begins]
@@ -105,7 +112,7 @@ class Flash:
         return BUSY * (self.busy > 0) | WEL * self.latch
 
     def registers(self):
-        """Returns the status bytes that the chip keeps without power."""
+        """Returns the non-volatile status bytes. `Flash` has none, so both are 0."""
         return 0, 0
 
     def read(self, out):
@@ -141,11 +148,12 @@ class Flash:
             self.cut_power()
 
     def is_locked(self, begin, end):
-        """True if a byte of this range can't be erased or programmed."""
+        """Returns whether the chip refuses to erase or program the range from `begin` to `end`. `Flash` never does."""
         return False
 
     def operate(self, begin, end):
-        """Begins an operation on this range, and returns whether the chip carries it out."""
+        """Starts an operation on the range from `begin` to `end`. Returns whether the chip carries it out, which
+        requires WEL and an unprotected range."""
         if not self.latch or self.is_locked(begin, end):
             return False
         self.hit.update(range(begin // SECTOR, (end - 1) // SECTOR + 1))

@@ -1,19 +1,25 @@
-"""The frames of a run, and the faults that are tried at them: which bytes, and what happens to each."""
+"""Finds the frames (serprog commands) that a run sends, and chooses the faults that are tried at their bytes."""
 from typing import NamedTuple
 
 from firmware import FOLLOW, KNOWN, O_SPIOP
 from line import OWN_SUPPLY, PLAIN, STALE, Fault
 
-# The instructions of a chip that change something.
+# CHANGING has the opcodes of the chip's instructions that change something, including write enable (06h, 50h).
 CHANGING = (0x06, 0x50, 0x01, 0x02, 0x20, 0x52, 0xD8, 0xC7)
-# What is inserted on the way to the programmer and back.
+# TO_IT has the bytes that are inserted on the way to the programmer, and FROM_IT those that are inserted into its
+# replies.
 TO_IT, FROM_IT = (0x00, 0x06, 0x10, 0x13, 0xFF), (0x00, 0x06, 0x15, 0xFF)
-# A frame of O_SPIOP begins with its opcode and two lengths.
+# The first HEAD bytes of an O_SPIOP frame are its opcode and its two lengths.
 HEAD = 7
 
 
 class Frame(NamedTuple):
-    """The bytes `begin` to `end` of what a run sends, and `first` to `last` of what it is replied."""
+    """A command of the serprog protocol, with its reply.
+
+    Among the bytes that a run sends, the command has the positions from `begin` to `end`. Among the bytes that the run
+    receives, the reply has the positions from `first` to `last`. `end` and `last` are exclusive. `kind` has the
+    command's opcode and, for O_SPIOP, the opcode of the chip's instruction (otherwise None).
+    """
 
     begin: int
     end: int
@@ -27,7 +33,7 @@ class Frame(NamedTuple):
 
     @property
     def modifies(self):
-        """True if the chip changes its data or its status: not for a write enable."""
+        """Returns whether the instruction changes the chip's data or status. A write enable changes neither."""
         return self.changes and self.kind[1] not in (0x06, 0x50)
 
     @property
@@ -40,7 +46,7 @@ class Frame(NamedTuple):
 
 
 def frames_of(sent):
-    """Returns the frames of these bytes. The last one is left out if it isn't whole."""
+    """Returns the frames in the bytes that a run sent, except an incomplete frame at the end."""
     found, at, replied = [], 0, 0
     while at < len(sent):
         code = sent[at]
@@ -57,12 +63,14 @@ def frames_of(sent):
     return found
 
 
-# The lengths of the programmer's replies, if they aren't 1.
+# REPLIES has the length of the reply to each opcode whose reply isn't one byte long. For O_SPIOP, `frames_of` computes
+# the length.
 REPLIES = {0x01: 3, 0x02: 33, 0x03: 17, 0x04: 3, 0x05: 2, 0x08: 4, 0x10: 2, 0x11: 4, 0x14: 5}
 
 
 def frame_at(frames, fault):
-    """Returns the frame whose byte a fault hits. A cut hits the frame that isn't whole."""
+    """Returns the frame in which a fault occurs. A cut occurs in the frame of the last byte that the programmer
+    received."""
     if fault.way == "back":
         return next(it for it in frames if it.first <= fault.at < it.last)
     at = fault.at - (fault.kind == "cut")
@@ -70,8 +78,8 @@ def frame_at(frames, fault):
 
 
 def chosen(frames):
-    """Returns the frames whose bytes are tried: all that change something, and the first, last and longest of each
-    kind. The longest read is the trial read in a frame as long as that of a page program."""
+    """Returns the frames at whose bytes faults are tried: all that change something, and the first, last and longest of
+    each kind. (Before its job, the program makes a read in a frame as long as that of a page program.)"""
     kinds = {}
     for number, frame in enumerate(frames):
         kinds.setdefault(frame.kind, []).append(number)
@@ -82,7 +90,8 @@ def chosen(frames):
 
 
 def some(begin, end, all_up_to):
-    """Returns the numbers from `begin` to `end`: after the first `all_up_to` only first, second, middle and last."""
+    """Returns the first `all_up_to` numbers of the range from `begin` to `end` (exclusive). Of the other numbers,
+    returns only the first, second, middle and last."""
     head = range(begin, min(end, begin + all_up_to))
     rest = range(head.stop, end)
     if len(rest) <= 4:
@@ -93,7 +102,7 @@ def some(begin, end, all_up_to):
 def sweep(frames, is_long=False):
     """Returns the faults at the bytes of these frames, in both directions.
 
-    Of a job that `is_long` only those are returned that are on the way to the programmer, and modify the chip.
+    If `is_long` is true, returns only faults on the way to the programmer, in frames that modify the chip.
     """
     found = []
     for frame in chosen(frames):
@@ -107,12 +116,14 @@ def sweep(frames, is_long=False):
 
 
 def faults_at(way, at, inserted):
-    """Returns the faults at this byte: it and its neighbours are lost, it is doubled, or one of these is inserted."""
+    """Returns the faults at byte `at`: it is lost, alone or with the next one or two bytes; it is doubled; or one of
+    the bytes `inserted` is inserted before it."""
     lost = [Fault(way, at, "lose", count) for count in (1, 2, 3)]
     return [*lost, Fault(way, at, "double"), *(Fault(way, at, "insert", byte) for byte in inserted)]
 
 
 def cuts(frames):
-    """Returns cuts in each frame that changes something, after each of its bytes except the last."""
+    """Returns cuts of each kind in each frame that changes something: after each of its first bytes and after a few
+    later ones (`some`), but not after the last byte."""
     return [Fault("to", at, "cut", kind) for frame in frames if frame.changes
             for at in some(frame.begin + 1, frame.end, HEAD + 4) for kind in (PLAIN, STALE, OWN_SUPPLY)]

@@ -1,4 +1,5 @@
-"""The jobs that are played: what the chip holds before, what the program must do, and what the chip must hold after."""
+"""Defines the jobs that Wire plays: the chip before a job, the arguments of the program, and the chip that the job must
+leave."""
 import random
 from typing import NamedTuple
 
@@ -7,26 +8,31 @@ from flash import Flash, SECTOR
 from winbond import QE, Winbond
 
 TINY, LARGE = Flash.size, Winbond.size
-# The journal of a job, and that of the change before a restore.
+# JOURNAL is the file of a job's journal. If the job is a restore, the change before it writes this file.
 JOURNAL = "j"
 
-# What a write changes: an address, the bytes there before and after. If a bit is set again its sector is erased. The
-# bytes of the addresses are codes of instructions wherever the size of the chip allows it.
+# IN_TINY and IN_LARGE have the changes of a write: an address, with the bytes there before and after. If a change sets
+# a bit, the program erases the sector. Where the chip's size allows it, all bytes of the addresses are opcodes of the
+# chip.
 IN_TINY = {0x2020: (b"\x00\x01", b"\x20\x06"), 0x60C7: (b"\x01\x00", b"\xc7\x52"), 0xC752: (b"\xff\xff", b"\x01\x04"),
            0xD801: (b"\xff\xff", b"\x60\xd8")}
 IN_LARGE = {0x0120C7: (b"\x00\x01", b"\x06\x01"), 0x02D820: (b"\x00\x01", b"\x13\x04"),
             0x206020: (b"\x00\x02", b"\x01\x02"), 0x601060: (b"\x00\x03", b"\x60\xc7"),
             0x52C752: (b"\xff\xff", b"\x52\x06"), 0x060106: (b"\xff\xff", b"\x20\xd8"),
             0x20D8C7: (b"\xff\xff", b"\x13\x01")}
-# Ranges that `-E` erases: with one 52h, and with one D8h.
+# ERASED has the ranges (start, length) that `-E` erases: `h` with one 52h, and `f` with one D8h.
 ERASED = {"h": (0x208000, 0x8000), "f": (0x600000, 0x10000)}
 
 
 class Job(NamedTuple):
-    """A job. `words` are its arguments after -p. `status` are the status bytes before, and `then` those after it.
+    """A job of the program, on a chip of the class `part`.
 
-    `before` are the words of the change that a restore undoes. `sectors` are those that its journal has, if it has one.
-    `is_whole`: the job erases the chip. Of a job that `is_long` only the frames are tried that modify the chip.
+    `words` are the arguments after -p. `changes` has the bytes that change, as IN_TINY does, and `erased` the names of
+    ranges in ERASED. `status` has the chip's status bytes before the job, and `then` those that the job must leave.
+
+    If the job is a restore, `before` has the arguments of the change that it undoes. `sectors` are the sectors that the
+    job's journal saves. If `is_whole` is true, the job erases the whole chip. If `is_long` is true, bytes are lost,
+    doubled or inserted only in frames that modify the chip.
     """
 
     name: str
@@ -47,7 +53,8 @@ class Job(NamedTuple):
 
 
 def filler(size):
-    """Returns bytes of which no two sectors are equal. In the sectors that jobs change all other bytes are blank."""
+    """Returns `size` bytes. Each sector has the same random bytes, except that it begins with its address, so no two
+    sectors are equal."""
     found = bytearray(random.Random(size).randbytes(SECTOR) * (size // SECTOR))
     for at in range(0, size, SECTOR):
         found[at : at + 4] = at.to_bytes(4, "big")
@@ -55,7 +62,8 @@ def filler(size):
 
 
 def images(job):
-    """Returns the data of the chip without and with the changes of a job."""
+    """Returns the chip's bytes before and after a job or, for a restore, before and after the change that it undoes.
+    Before that, each sector that changes has FFh in all bytes that don't change."""
     old = filler(job.part.size)
     for at in job.changes:
         begin = at // SECTOR * SECTOR
@@ -130,6 +138,7 @@ JOBS = all_jobs()
 
 
 def make_programmer(job, old, **traits):
-    """Returns a programmer with a chip that holds this data, and has the status bytes before the job."""
+    """Returns a programmer whose chip has the bytes `old` and the status bytes from before the job. `traits` are
+    arguments of `Programmer`."""
     more = {} if job.part is Flash else {"status": job.status}
     return Programmer(job.part(old, **more), **traits)

@@ -1,6 +1,6 @@
-"""A line between the program and a programmer: a raw pseudo-terminal that loses, doubles or inserts single bytes.
+"""Connects the program with a modelled programmer by a raw pseudo-terminal that loses, doubles or inserts bytes.
 
-The programmer receives one byte after the other. It stays the same from one run of the program to the next, as a board
+The programmer receives one byte after the other. It keeps its state from one run of the program to the next, as a board
 does that keeps its power.
 """
 import os
@@ -12,23 +12,25 @@ import time
 import tty
 from typing import NamedTuple
 
-# PATIENCE in the environment: all times are multiplied by it, for a machine that is busy with other work.
+# All times are multiplied by TIMES. The environment variable PATIENCE sets it, for a machine that is busy with other
+# work.
 TIMES = int(os.environ.get("PATIENCE", "1"))
-# How long a read of the program waits for a byte, in tenths of a second, and how long a run may take, in seconds.
+# A read of the program waits PATIENCE tenths of a second for a byte. A run may take LONGEST seconds.
 PATIENCE, LONGEST = 3, 120 * TIMES
-# The longest time that a terminal can wait, in tenths of a second: termios has one byte for it.
+# A terminal can wait at most LONGEST_WAIT tenths of a second, because termios has one byte for this time (VTIME).
 LONGEST_WAIT = 255
-# The kinds of cuts. With STALE, replies that the program did not read arrive at the next run, as a USB device may send
-# them. With OWN_SUPPLY, the programmer selects the chip as soon as it knows the lengths, and the chip keeps its power
-# if the programmer loses it.
+# These are the kinds of cuts. After a STALE cut, the next run receives the replies that the killed run did not read, as
+# a USB device may send them. For an OWN_SUPPLY cut, the programmer selects the chip as soon as it has the lengths of a
+# frame, and the chip keeps its power when the programmer loses its power.
 PLAIN, STALE, OWN_SUPPLY = 1, 2, 3
 
 
 class Fault(NamedTuple):
-    """What happens to the byte number `at` of a run, on the way `to` the programmer or `back`.
+    """A fault at byte `at`, counted from 0, of those that a run sends (`way` is "to") or is sent ("back").
 
-    `kind` is lose (with its next neighbours, `value` bytes in all), double, insert (the byte `value` before it), or
-    cut: the program is killed when the programmer has received exactly `at` bytes. Then `value` is the kind of cut.
+    If `kind` is "lose", `value` bytes from `at` on are lost. "double" sends byte `at` twice, and "insert" inserts the
+    byte `value` before it. "cut" kills the program as soon as the programmer has received `at` bytes; `value` is then
+    the kind of cut.
     """
 
     way: str
@@ -38,7 +40,8 @@ class Fault(NamedTuple):
 
 
 class Result(NamedTuple):
-    """A run: its status, the lines that it printed, the bytes that it sent, and how many the programmer replied."""
+    """The result of a run: its exit status, its lines on standard output and standard error, the bytes that it sent,
+    and the number of bytes in the programmer's replies."""
 
     status: int
     out: list
@@ -48,18 +51,20 @@ class Result(NamedTuple):
 
 
 def tenths(patience, times=TIMES):
-    """Returns how many tenths of a second the terminal waits for a byte."""
+    """Returns the tenths of a second that the terminal waits for a byte: `patience`, multiplied by `times`, or
+    LONGEST_WAIT if that is less."""
     return min(LONGEST_WAIT, patience * times)
 
 
 class Way:
-    """One direction of the line, which counts its bytes."""
+    """One direction of the line. Counts the bytes that are sent in this direction."""
 
     def __init__(self, fault):
         self.fault, self.count = fault, 0
 
     def pass_on(self, data):
-        """Returns the bytes that arrive if these are sent."""
+        """Returns the bytes that arrive if `data` is sent: `data` with the effect of the fault, if the fault is within
+        `data`."""
         begin, fault = self.count, self.fault
         self.count += len(data)
         if not fault or fault.kind == "cut" or fault.at >= self.count or fault.at + fault.value < begin:
@@ -74,7 +79,8 @@ class Way:
 
 
 class Line:
-    """A pseudo-terminal with the name `dev` in this directory, and a programmer at its other end."""
+    """A pseudo-terminal, with a programmer at its other end. The link `dev` in the directory `folder` refers to the
+    terminal."""
 
     def __init__(self, program, folder, programmer, patience=PATIENCE):
         self.program, self.folder, self.programmer = program, folder, programmer
@@ -92,9 +98,10 @@ class Line:
         os.close(self.slave)
 
     def run(self, *words, fault=None):
-        """Runs the program with these arguments after -p, and returns its result.
+        """Runs the program with the arguments `words` after -p, and returns its result.
 
-        Replies that the program left are dropped afterwards, as a serial port drops what arrives while it is closed.
+        After the run, replies that the program did not read are dropped, as a serial port drops bytes that arrive while
+        it is closed. Only a STALE cut keeps them.
         """
         words = [self.program, "-p", "serprog:dev=dev", *words]
         process = subprocess.Popen(words, cwd=self.folder, stdin=subprocess.DEVNULL, stdout=subprocess.PIPE,
@@ -107,8 +114,8 @@ class Line:
         return Result(process.returncode, *lines, bytes(sent), back.count)
 
     def serve(self, process, fault):
-        """Carries bytes between a process and the programmer until the process ends. Returns what was sent, and the way
-        back."""
+        """Carries bytes between a process and the programmer until the process ends. Returns the bytes that the process
+        sent, and the `Way` of the replies."""
         sent, ended, end = bytearray(), os.pidfd_open(process.pid), time.monotonic() + LONGEST
         to, back = (Way(fault if fault and fault.way == way else None) for way in ("to", "back"))
         last = fault.at if fault and fault.kind == "cut" else None
@@ -141,7 +148,8 @@ class Line:
             return b""
 
     def feed(self, data, back):
-        """Gives these bytes to the programmer, one at a time, and returns what arrives of its replies."""
+        """Passes `data` to the programmer, one byte at a time. Returns the bytes of its replies that arrive at the
+        program."""
         replies = (self.programmer.take(byte) for byte in data)
         return b"".join(back.pass_on(it) for it in replies if it)
 

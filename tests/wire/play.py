@@ -1,4 +1,4 @@
-"""Plays a job with one fault, and what a user does after it, and checks the chip."""
+"""Plays a job with one fault and the runs of a user afterwards, and checks the chip after each run."""
 import functools
 import tempfile
 from pathlib import Path
@@ -9,22 +9,25 @@ from flash import SECTOR
 from line import LONGEST, OWN_SUPPLY, PATIENCE, Line, Result
 from winbond import BOARD_BITS, SRP0
 
-# The beginning of the line that names the board bits that a restore leaves as they are. The line at the end of such a
-# restore, which then has exit status 1. It ends with status 0, and without this line, if only QE differs and is set.
+# If a restore leaves board bits that differ from the journal, it prints a line that begins with KEPT and names these
+# bits. It then prints KEPT_BITS at its end, and has exit status 1. But if only QE differs, and QE is set, the restore
+# ends with status 0 and without KEPT_BITS.
 KEPT = "Not restored: the chip keeps these status bits, which differ from the journal: "
 KEPT_BITS = 'All bytes and protection bits are restored, but not the status bits of the line "Not restored" above.'
-# A board bit that may be set after a restore that reports nothing: the software of boards sets it.
+# A restore that reports nothing may leave QE set, because the software of some boards sets it.
 SET_QUAD = "QE (set)"
-# The runs of a user who doesn't read: identifications until the programmer waits for nothing any more, at most.
+# While the programmer waits for bytes of a frame, the user identifies the chip again, at most MOST_RUNS times.
 MOST_RUNS = 6
-# How patient the program is, in tenths of a second, if a finding is played again: a busy machine may cause it.
+# A case with a finding is played again with LONG_PATIENCE (in tenths of a second), because a busy machine may have
+# caused the finding.
 LONG_PATIENCE = 50
-# The same of a run without a fault, in which nobody is ever silent.
+# A run without a fault has CLEAN_PATIENCE (in tenths of a second), since the programmer replies to every command.
 CLEAN_PATIENCE = 100
 
 
 class Played(NamedTuple):
-    """What a clean run of a job sends, and what the chip and the directory hold before it."""
+    """A run of a job without a fault: the bytes that it sends, the files of the directory before it, and the chip's
+    bytes before (`old`) and after it (`new`)."""
 
     sent: bytes
     files: dict
@@ -33,13 +36,18 @@ class Played(NamedTuple):
 
 
 class Finding(NamedTuple):
-    """What is wrong: a kind of fault, and a text.
+    """A wrong result of a case: its kind, and a text. These are the kinds:
 
-    once: a one-time bit was set. wrong: the chip isn't as the exit status 0 says, or as the line `KEPT_BITS` says.
-    silent: status 0, but sectors that no journal has are wrong, and no others. lost: a restore after a power cycle did
-    not restore a chip whose journal has all changed sectors. hangs: a run did not end. moved: the run before the fault
-    was another one than that without it, or the fault never happened. bits: QE or protection bits are wrong, which can
-    be written again; a restore reports it with exit status 1, and a job without a journal can't.
+    - once: A one-time bit was set.
+    - wrong: The chip isn't as the exit status 0, or the line KEPT_BITS, says.
+    - silent: The exit status is 0, and the run reports nothing, but sectors are wrong, all of them outside the journal.
+    - lost: A restore after a power cycle failed, although the journal has all changed sectors. Or the chip was changed,
+      although the journal isn't sealed.
+    - hangs: A run did not end.
+    - moved: The run sent other bytes before the fault than a run without a fault, or it ended before the fault.
+    - bits: QE or protection bits are wrong, but they can be written again. A restore reports them with exit status 1,
+      and a job without a journal can't report them.
+    - broken: The test itself failed (run.py).
     """
 
     kind: str
@@ -47,7 +55,7 @@ class Finding(NamedTuple):
 
 
 class Bench:
-    """A job's chip, programmer, line and directory."""
+    """The chip, programmer, line and directory of a job."""
 
     def __init__(self, program, job, folder, data, files, patience=PATIENCE, **traits):
         self.job, self.folder = job, Path(folder)
@@ -82,10 +90,10 @@ class Bench:
             (self.folder / name).write_bytes(content)
 
     def compare(self, got, data, status, what):
-        """Checks that a run has left this data and these status bytes, if the run reports this.
+        """Checks that a run that reports success has left the bytes `data` and the status bytes `status`.
 
-        Exit status 0 reports this, and so does the line `KEPT_BITS`, except for board bits. Returns whether the run
-        reports this.
+        Exit status 0 reports success. The line KEPT_BITS does so too, except for board bits. Returns whether the run
+        reports success.
         """
         is_restore = what == "the restore" or bool(self.job.before)
         if KEPT_BITS in got.err:
@@ -107,8 +115,8 @@ class Bench:
         return True
 
     def compare_kept(self, got, data, status, what):
-        """Checks a run that printed `KEPT_BITS`. The chip must have this data and these status bytes, except for the
-        board bits that the line `KEPT` names."""
+        """Checks a run that printed KEPT_BITS. The chip must have the bytes `data` and the status bytes `status`,
+        except for the board bits that the line KEPT names."""
         wrong, registers = self.wrong_sectors(data), self.chip.registers()
         kept = kept_bits(registers, status)
         named = [it for it in got.err if it.startswith(KEPT)]
@@ -122,7 +130,7 @@ class Bench:
             self.find("bits", f"{what}: reported with status 1: {' '.join(kept)}")
 
     def wrong_sectors(self, data):
-        """Returns the numbers of the sectors in which the chip hasn't this data."""
+        """Returns the numbers of the sectors in which the chip's bytes differ from `data`."""
         if self.chip.data == data:
             return set()
         return {at // SECTOR for at in range(0, len(data), SECTOR)
@@ -130,9 +138,9 @@ class Bench:
 
 
 def kept_bits(found, wanted):
-    """Returns the board bits in which the status bytes of a chip differ from the wanted ones, as `KEPT` names them.
+    """Returns the board bits in which the status bytes `found` differ from `wanted`, in the words of the line KEPT.
 
-    Returns none if other bits differ as well, because a restore must restore other bits.
+    Returns an empty list if other bits differ as well, because a restore must restore these.
     """
     differing = found[1] ^ wanted[1]
     if found[0] != wanted[0] or differing & ~sum(BOARD_BITS):
@@ -151,7 +159,8 @@ def told(sectors):
 
 @functools.lru_cache(maxsize=2)
 def clean(program, name):
-    """Returns what a job does without a fault. The chip and the exit status must be right then."""
+    """Runs a job without a fault, for a restore after the change that it undoes. Returns the job and its `Played`.
+    Raises ValueError if the exit status isn't 0 or the chip is wrong."""
     job = jobs.JOBS[name]
     old, new = jobs.images(job)
     files = {"new": new, "layout": jobs.layout(job.changes)}
@@ -174,12 +183,12 @@ def clean(program, name):
 
 
 def original(job, played):
-    """Returns the data and the status bytes that a restore must bring back."""
+    """Returns the bytes and the status bytes that a restore from the job's journal must leave."""
     return (played.new, job.then) if job.before else (played.old, job.status)
 
 
 def play(program, name, fault, patience=PATIENCE):
-    """Plays a job with a fault. Returns the findings, and what was run."""
+    """Plays a job with a fault. Returns the findings, and a line for each run."""
     job, played = clean(program, name)
     traits = {"selects_early": True} if fault[2:] == ("cut", OWN_SUPPLY) else {}
     with tempfile.TemporaryDirectory() as folder:
@@ -200,7 +209,8 @@ def play(program, name, fault, patience=PATIENCE):
 
 
 def follow(bench, job, played):
-    """Plays what follows, once while the programmer keeps its power, and once after it was disconnected."""
+    """Plays the runs of a user after the fault: first without a loss of power, if the programmer waits for bytes or WEL
+    is set, and then from the same state after the programmer was disconnected."""
     saved = bench.save()
     waits = bool(bench.programmer.partial) or bench.chip.latch
     if waits:
@@ -219,7 +229,8 @@ def follow(bench, job, played):
 
 
 def finish(bench, job, played, had_cycle):
-    """Restores the chip, if the job has a journal, or else runs the job again."""
+    """Restores the chip if the job has a journal, or else runs the job again. `had_cycle` is true if the programmer was
+    disconnected before."""
     data, status = original(job, played)
     if not job.has_journal:
         got = bench.run(*job.words)

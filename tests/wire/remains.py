@@ -1,14 +1,16 @@
-"""What no program can exclude at a wire without a checksum, and what the pages therefore say."""
+"""Lists the findings that no program can exclude at a wire without a checksum. docs/HARDWARE.md describes them for
+users."""
 from frames import HEAD
 from jobs import JOBS
 
-# True if a run that finds another sector changed than those of its journal must say so. Then a session keeps a digest
-# of each sector beside its journal.
+# If this is true, a restore must report a changed sector that its journal doesn't save. It finds this sector by the
+# checksums that the session wrote to a file beside the journal.
 NAMES_OTHERS = True
 
 
 def remains(finding, name, fault, frame):
-    """Returns why a finding is allowed for this fault in this frame of a job, or nothing."""
+    """Returns the reason why a finding is allowed for this fault in this frame of the job `name`, or None if it
+    isn't."""
     is_in_data = fault.way == "to" and frame.modifies and fault.at >= frame.begin + HEAD
     if finding.kind == "once" and is_in_data and frame.kind[1] == 0x01 and fault.kind in ("double", "insert"):
         return "a byte is doubled or inserted in a status write, and the chip takes it for the second status byte"

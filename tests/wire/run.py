@@ -1,14 +1,16 @@
 #!/usr/bin/env python3
-"""tests/wire/run.py PROGRAM [OPTION..] [JOB..]: single bytes that are lost, doubled or inserted, and cut frames.
+"""tests/wire/run.py PROGRAM [OPTION..] [JOB..]: tests flashnor-serprog at a line that loses, doubles or inserts bytes,
+and kills it in the middle of a frame.
 
-The programmer (firmware.py) works byte by byte, as a UART does, and keeps a part of a frame from one run to the next.
-The chips (flash.py, winbond.py) are written from datasheets, and share no code with tests/serprog. frames.py chooses
-the bytes, jobs.py has the jobs, and play.py plays each case and what a user does after it.
+The programmer (firmware.py) works byte by byte, as a UART does. If a run ends in the middle of a frame, the programmer
+keeps the received part. The chips (flash.py, winbond.py) are written from datasheets, and share no code with
+tests/serprog. frames.py chooses the bytes, and jobs.py defines the jobs. play.py plays each case, and the runs of a
+user afterwards.
 
-A case that failed is printed with its runs. The last line is `N passed, M failed`, and the exit status is 1 if one
-failed. Without --all a part of the cases is played, which `is_in_part` chooses. --list also prints each case that
-`remains` allows. On a machine that is busy with other work, --processes sets how many cases are played at a time, and
-PATIENCE=N in the environment multiplies all times by N (line.py).
+A case that failed is printed with its runs. The last line is `N passed, M failed`, and the exit status is 1 if a case
+failed. Without --all, only the cases are played that `is_in_part` chooses. --list also prints each case that `remains`
+allows. On a machine that is busy with other work, --processes sets how many cases are played at a time, and the
+environment variable PATIENCE=N multiplies all times by N (line.py).
 """
 import argparse
 import collections
@@ -24,14 +26,14 @@ import jobs
 import play
 from remains import remains
 
-# Most of a case is waiting for a program that waits for a reply.
+# A case mostly waits for replies, so each core can play several cases at a time.
 PROCESSES = 6 * (os.cpu_count() or 1)
-# Of the cases that don't belong to the part as a whole, each STEP-th one does.
+# Without --all, every STEP-th case is played, in addition to the most important ones (`is_in_part`).
 STEP = 29
 
 
 def cases_of(program, name):
-    """Returns the cases of a job: each fault, with the frame whose byte it hits."""
+    """Returns the cases of a job. A case has the job's name, a fault, and the frame in which the fault occurs."""
     _, played = play.clean(program, name)
     all_frames = frames.frames_of(played.sent)
     faults = frames.sweep(all_frames, jobs.JOBS[name].is_long) + frames.cuts(all_frames)
@@ -39,17 +41,22 @@ def cases_of(program, name):
 
 
 def is_in_part(number, fault, frame):
-    """True if a case belongs to the part: a byte that is lost, or a cut, in a frame that modifies the chip, up to three
-    neighbours that are lost in a status write, and each STEP-th of all others."""
+    """Returns whether a case is played without --all. These cases are:
+
+    - each loss of one byte, and each PLAIN cut, in a frame that modifies the chip
+    - each loss of up to three bytes in a status write
+    - each case whose number is a multiple of STEP
+    """
     is_main = frame.modifies and fault.way == "to" and (fault.kind, fault.value) in (("lose", 1), ("cut", 1))
     is_main |= frame.kind[1] == 0x01 and fault.way == "to" and fault.kind == "lose"
     return is_main or number % STEP == 0
 
 
 def try_case(program, case):
-    """Plays a case. Returns what was found, why it is allowed, or None if a part of it isn't, and what was run.
+    """Plays a case. Returns the findings, the set of reasons that allow them (None if one isn't allowed), and the runs.
 
-    What isn't allowed must be found again by a more patient program, since a busy machine may be late, too.
+    If a finding isn't allowed, the case is played again with LONG_PATIENCE, and only this result counts, because a busy
+    machine may have caused the finding.
     """
     name, fault, frame = case
     try:
@@ -59,12 +66,12 @@ def try_case(program, case):
             found, ran = play.play(program, name, fault, play.LONG_PATIENCE)
             reasons = [remains(it, name, fault, frame) for it in found]
         return found, set(reasons) if all(reasons) else None, ran
-    except Exception:  # a fault of the model must not look like a case that passed
+    except Exception:  # an error in the model must not count as a passed case
         return [play.Finding("broken", traceback.format_exc(limit=-4))], None, []
 
 
 def parse(words):
-    """Returns what the arguments ask for."""
+    """Returns the parsed arguments. Ends the script if they are wrong."""
     parser = argparse.ArgumentParser(prog="tests/wire/run.py")
     parser.add_argument("program")
     parser.add_argument("jobs", nargs="*", metavar="JOB", help=", ".join(jobs.JOBS))
@@ -94,7 +101,8 @@ def main(words):
 
 
 def report(program, cases, pool, shows_all):
-    """Plays these cases, and prints those that failed. Returns how many failed, and why others were allowed."""
+    """Plays these cases, and prints those that failed. Returns the number of failed cases, and for each reason of
+    `remains` the number of cases that it allowed."""
     failed, left = 0, collections.Counter()
     plays = pool.map(try_case, [program] * len(cases), cases, chunksize=4)
     for (name, fault, frame), (found, reasons, ran) in zip(cases, plays):

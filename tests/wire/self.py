@@ -1,5 +1,6 @@
 #!/usr/bin/env python3
-"""tests/wire/self.py: the models against their datasheets, and the checks against a program with known faults."""
+"""tests/wire/self.py: compares the models with their datasheets, and checks that Wire detects the mistakes of
+wrong.py."""
 import os
 import sys
 import tempfile
@@ -19,7 +20,7 @@ from remains import remains
 from winbond import CMP, LB, QE, SRP0, SRP1, Winbond
 
 WRONG = str(Path(__file__).with_name("wrong.py").resolve())
-# How long the program waits for a reply, in tenths of a second.
+# The program wrong.py may wait PATIENCE tenths of a second for a reply.
 PATIENCE = 10
 ENABLE, POLL = b"\x06", b"\x05"
 
@@ -34,7 +35,8 @@ def winbond(status=(0, 0), **more):
 
 
 def change(chip, *out):
-    """Sends a write enable and an instruction, and polls until the chip is ready."""
+    """Sends a write enable and the instruction `out` to the chip, and polls until the chip is ready. Returns the
+    chip."""
     chip.select(ENABLE, 0)
     chip.select(bytes(out), 0)
     while chip.select(POLL, 1)[0] & 1:
@@ -43,7 +45,7 @@ def change(chip, *out):
 
 
 def lengths_of_status_writes():
-    """01h takes one or two data bytes. One byte clears QE, CMP and SRP1, and other lengths do nothing."""
+    """Checks that 01h takes one or two data bytes, that one byte clears QE, and that other lengths change nothing."""
     same(change(winbond((0, QE)), 0x01, 0x1C, QE).registers(), (0x1C, QE))
     same(change(winbond((0, QE)), 0x01, 0x1C).registers(), (0x1C, 0))
     same(change(winbond((0, QE)), 0x01).registers(), (0, QE))
@@ -51,7 +53,8 @@ def lengths_of_status_writes():
 
 
 def one_time_bits():
-    """An LB bit that is set stays set, SRP1 locks the status until the power is cut, and both are recorded."""
+    """Checks that a set LB bit stays set and is recorded, that SRP1 alone is cleared by a loss of power, and that SRP1
+    with SRP0 locks the status for ever."""
     chip = change(winbond(), 0x01, 0, 0x10)
     same((chip.registers(), chip.once), ((0, 0x10), {0x10}))
     same(change(chip, 0x01, 0, QE).registers(), (0, 0x10 | QE))
@@ -65,7 +68,7 @@ def one_time_bits():
 
 
 def volatile_status():
-    """After 50h a status write lasts until the power is cut, and sets no one-time bit."""
+    """Checks that a status write after 50h lasts until the power is cut, and sets no one-time bit."""
     chip = winbond()
     chip.select(b"\x50", 0)
     chip.select(bytes([0x01, 0x1C, LB | QE]), 0)
@@ -75,7 +78,8 @@ def volatile_status():
 
 
 def lengths_of_erases():
-    """An erase is carried out only if CS# rises just after the last byte of its address, and with the latch set."""
+    """Checks that an erase is carried out only if WEL is set and CS# rises right after the last byte of the
+    instruction."""
     for out in b"\x20\x00\x10", b"\x20\x00\x10\x00\x00", b"\xc7\x00", b"\x60\x00":
         same(change(Flash(bytes(Flash.size)), *out).hit, set())
     same(change(Flash(bytes(Flash.size)), 0x20, 0, 0x1F, 0xFF).hit, {1})
@@ -86,7 +90,7 @@ def lengths_of_erases():
     same(chip.hit, set())
     chip.select(ENABLE + b"\0", 0)
     same(chip.latch, False)
-    # Clocks of a reply are clocks, too.
+    # The clocks of a reply count as bytes of the instruction.
     chip.select(ENABLE, 0)
     chip.select(bytes([0x20, 0, 0, 0]), 1)
     same(chip.hit, set())
@@ -95,7 +99,7 @@ def lengths_of_erases():
 
 
 def programs():
-    """A program changes bits from 1 to 0 only, and goes on at the first byte of its page."""
+    """Checks that a program changes bits only from 1 to 0, and wraps at the end of its page."""
     chip = Flash(bytes([BLANK]) * Flash.size)
     change(chip, 0x02, 0, 0x12, 0xFE, 0xA5, 0x5A, 0x11)
     same(bytes(chip.data[0x1200:0x1202]) + bytes(chip.data[0x12FE:0x1301]), b"\x11\xff\xa5\x5a\xff")
@@ -105,7 +109,7 @@ def programs():
 
 
 def busy_chips():
-    """A busy chip takes only polls, and the latch is clear when it is ready."""
+    """Checks that a busy chip accepts only polls, and that WEL is clear when the chip is ready."""
     chip = Flash(bytes(Flash.size), polls=2)
     chip.select(ENABLE, 0)
     chip.select(bytes([0x20, 0, 0, 0]), 0)
@@ -115,7 +119,7 @@ def busy_chips():
 
 
 def protection():
-    """The ranges of the datasheet, at their ends."""
+    """Checks the protected ranges of the datasheet, at their ends."""
     end = Winbond.size
     for status, free, shut in (
         ((0x04, 0), 0x7DF000, 0x7E0000), ((0x24, 0), 0x020000, 0x01F000), ((0x18, 0), 0x3FF000, 0x400000),
@@ -126,7 +130,7 @@ def protection():
 
 
 def further_instructions():
-    """Power-down, reset, QPI and the security registers."""
+    """Checks power-down, reset, QPI and the security registers."""
     chip = winbond((0, QE))
     chip.select(b"\xb9", 0)
     same(chip.select(b"\x9f", 3), b"\xff\xff\xff")
@@ -147,7 +151,8 @@ def further_instructions():
 
 
 def frames_byte_by_byte():
-    """The firmware replies as soon as a command has its last byte, and keeps a part until the power is cut."""
+    """Checks that the firmware replies as soon as a command has its last byte, and keeps a part of a command until its
+    power is cut."""
     programmer = Programmer(Flash(bytes(Flash.size)))
     same([programmer.take(it) for it in b"\x13\x01\0\0\x03\0\0\x9f"], [b""] * 7 + [b"\x06\xfe\x10\x10"])
     same([programmer.take(it) for it in b"\x00\x10\x77"], [b"\x06", b"\x15\x06", b"\x15"])
@@ -157,7 +162,8 @@ def frames_byte_by_byte():
 
 
 def a_supply_of_its_own():
-    """If only the programmer loses its power, CS# rises, and the chip acts on what it has got."""
+    """Checks that if only the programmer loses its power, a chip that is selected early acts on the bytes that it
+    has."""
     for selects_early, wanted in (True, (0x1C, 0)), (False, (0, QE)):
         chip = winbond((0, QE))
         programmer = Programmer(chip, selects_early=selects_early)
@@ -169,7 +175,7 @@ def a_supply_of_its_own():
 
 
 def faults_of_the_line():
-    """Each fault changes the bytes at its place, wherever a write ends."""
+    """Checks that each fault changes the bytes at its position, even if the bytes are sent in two parts."""
     for kind, value, wanted in (("lose", 1, b"0134567"), ("lose", 3, b"01567"), ("double", 1, b"012234567"),
                                 ("insert", 0x41, b"01A234567"), ("cut", 1, b"01234567")):
         for split in range(9):
@@ -178,7 +184,8 @@ def faults_of_the_line():
 
 
 def busy_machines():
-    """PATIENCE multiplies how long the terminal waits, up to the longest time that termios can store."""
+    """Checks that PATIENCE multiplies the time that the terminal waits, up to the longest time that termios can store,
+    and that run.py accepts --processes."""
     same([tenths(3, times) for times in (1, 4, 99)], [3, 12, LONGEST_WAIT])
     with tempfile.TemporaryDirectory() as folder:
         line = Line(WRONG, folder, None, PATIENCE)
@@ -189,7 +196,7 @@ def busy_machines():
 
 
 def faults_that_never_happen():
-    """A case whose run ends before its fault isn't counted as one that passed."""
+    """Checks that a fault that comes after the end of the run gives the finding `moved`, so the case doesn't pass."""
     os.environ["WRONG"] = ""
     _, played = play.clean(WRONG, "wp-enable")
     last = frames.frames_of(played.sent)[-1].last
@@ -199,9 +206,10 @@ def faults_that_never_happen():
 
 
 def found_in(wrong, faults, name="wp-enable"):
-    """Returns the kinds of findings of a program with these faults, for each of these faults of its line."""
+    """Runs wrong.py with the mistakes `wrong`, once for each fault that the function `faults` chooses. Returns the
+    kinds of findings for each fault."""
     os.environ["WRONG"] = wrong
-    # The clean run of a program with other faults may be another one.
+    # `play.clean` keeps the run without a fault, and this run depends on the mistakes.
     play.clean.cache_clear()
     _, played = play.clean(WRONG, name)
     all_frames = frames.frames_of(played.sent)
@@ -211,35 +219,37 @@ def found_in(wrong, faults, name="wp-enable"):
 
 
 def losses(all_frames, kind="lose"):
-    """Returns losses of the three bytes of the status write."""
+    """Returns a fault of this kind for each of the three bytes of the status write."""
     write = next(it for it in all_frames if it.kind[1] == 0x01)
     return [Fault("to", at, kind) for at in range(write.end - 3, write.end)]
 
 
 def cuts(all_frames):
-    """Returns cuts before the last two bytes of the status write. In these the program has sent its opcode."""
+    """Returns cuts before the second and before the third byte of the status write. Its opcode was already sent."""
     return losses(all_frames, "cut")[1:]
 
 
 def finds_what_is_sent_together():
-    """A lost byte of a status write sets a one-time bit if a poll follows, and only then."""
+    """Checks that a lost byte of a status write sets a one-time bit if a poll is sent together with the status write,
+    and only then."""
     same([it & {"once"} for it in found_in("together", losses)][-2:], [{"once"}, {"once"}])
     same(set().union(*found_in("", losses)) & {"once", "wrong", "silent"}, set())
 
 
 def finds_what_completes_a_frame():
-    """A cut status write sets a one-time bit if the next run begins with 10h, and only then."""
+    """Checks that a cut status write sets a one-time bit if the next run begins with 10h, and only then."""
     same({"once"} in [it & {"once"} for it in found_in("syncnop", cuts)], True)
     same(set().union(*found_in("", cuts)) & {"once", "wrong", "silent"}, set())
 
 
 def finds_lies():
-    """A run that ends with status 0 without having done its job is found."""
+    """Checks that Wire detects a run that ends with exit status 0 although it failed."""
     same({"wrong"} in [it & {"wrong"} for it in found_in("lies", losses)], True)
 
 
 def finds_wrong_sectors():
-    """Status 0 with a wrong sector is found, and so is one that no journal has, unless the run says a word about it."""
+    """Checks that Wire detects exit status 0 with a wrong sector. If the journal doesn't save this sector, a run that
+    prints a line about it is not a finding."""
     job = jobs.JOBS["tiny-write"]
     old, _ = jobs.images(job)
     journaled, other = min(job.sectors) * SECTOR, 0
@@ -253,7 +263,8 @@ def finds_wrong_sectors():
 
 
 def finds_restores_without_a_bit():
-    """A restore that leaves QE clear is allowed only if it reports this with status 1, and has restored the rest."""
+    """Checks that a restore that leaves QE clear is allowed only if it reports this with exit status 1, and has
+    restored the rest."""
     write = frames.Frame(0, frames.HEAD + 3, (0x13, 0x01), 0, 1)
     for wrong, wanted, is_allowed in ("", "bits", True), ("quiet", "wrong", False), ("erases", "wrong", False):
         found = found_in(wrong, losses, "wp-range-restore")
@@ -263,13 +274,14 @@ def finds_restores_without_a_bit():
 
 
 def finds_wrong_lines():
-    """A restore with the line for status bits isn't believed: the bytes and the status bytes of the chip decide."""
+    """Checks that Wire judges a restore that prints KEPT_BITS by the bytes and the status bytes of the chip."""
     job = jobs.JOBS["unlock-restore"]
     old, _ = jobs.images(job)
     journaled, other = min(job.sectors) * SECTOR, 0
     clear, line = f"{play.KEPT}QE (clear).", play.KEPT_BITS
     clear_and_set = f"{play.KEPT}QE (clear) LB1 (set)."
-    # The status bytes after the restore (1Ch and 02h are right), a wrong byte, exit status and lines, and the finding.
+    # Each row has the status bytes after the restore (1Ch and 02h are right), the address of a wrong byte or None, the
+    # exit status, the lines of standard error, and the expected finding or None.
     for registers, at, status, err, wanted in (
         ((0x1C, QE), None, 0, [], None),
         ((0x1C, QE), None, 1, [clear, line], "wrong"),
@@ -300,7 +312,8 @@ def finds_wrong_lines():
             chip.data[at] ^= 1
         found = found_after(job, chip, play.Result(status, ["Found W25Q64FV."], err, b"", 0), old)
         same((registers, at, status, err, found), (registers, at, status, err, {wanted} - {None}))
-    # A restore doesn't report a QE that is set now, because the software of boards sets it. A session may not set it.
+    # A restore must not report that QE is set, because the software of some boards sets it. After a session, a QE that
+    # became set is a finding.
     chip = winbond((0x1C, QE))
     chip.data = bytearray(old)
     for status, err, wanted in (0, [], set()), (1, [f"{play.KEPT}QE (set).", line], {"wrong"}):
@@ -313,7 +326,7 @@ def finds_wrong_lines():
 
 
 def found_after(job, chip, got, old):
-    """Returns the kinds of findings if a restore after a power cycle has this result, and leaves this chip."""
+    """Returns the kinds of findings if a restore after a power cycle has the result `got`, and leaves `chip`."""
     with tempfile.TemporaryDirectory() as folder:
         (Path(folder) / jobs.JOURNAL).touch()
         bench = play.Bench.__new__(play.Bench)
@@ -324,7 +337,8 @@ def found_after(job, chip, got, old):
 
 
 def chooses_frames():
-    """The frames of a run are found, with their replies, and a cut is made within each that modifies."""
+    """Checks that the frames of a run and their replies are found, that each frame that changes the chip is cut after
+    each byte but the last, and that the first, last and longest reads are chosen."""
     sent = b"\x00\x10" + bytes.fromhex("13010000030000 9f 13010000000000 06 13040000000000 20001000")
     found = frames.frames_of(sent)
     same([it[2:] for it in found], [((0, None), 0, 1), ((0x10, None), 1, 3), ((0x13, 0x9F), 3, 7), ((0x13, 0x06), 7, 8),
@@ -342,12 +356,12 @@ CASES = [lengths_of_status_writes, one_time_bits, volatile_status, lengths_of_er
 
 
 def try_case(number):
-    """Runs a case, and returns nothing, or the lines that say what was wrong."""
+    """Runs a case. Returns None if it passed, and otherwise the lines that report the failure."""
     case = CASES[number]
     try:
         case()
         return None
-    except Exception:  # whatever it is, the case failed
+    except Exception:  # with any exception, the case failed
         return f"FAILED: {case.__name__}: {case.__doc__}\n{traceback.format_exc(limit=-3)}"
 
 

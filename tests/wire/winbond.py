@@ -1,17 +1,18 @@
-"""A model of the W25Q64FV: status registers with one-time bits, block protection, security registers and QPI."""
+"""Models the W25Q64FV: status registers with one-time bits, block protection, security registers and QPI."""
 from flash import BLANK, Flash
 
 SRP0, SRP1, QE, CMP, SUSPENDED = 0x80, 0x01, 0x02, 0x40, 0x80
 LB = 0x38
-# The bits of both registers that a status write can set, and that stay without power.
+# KEPT_1 and KEPT_2 are the non-volatile bits of status 1 and status 2, which a status write can set.
 KEPT_1, KEPT_2 = 0xFC, 0x7B
-# The board bits: bits of status 2 that no job changes. The names are those of the datasheet (7.1).
+# BOARD_BITS has the bits of status 2 that no job changes, with their names in the datasheet (7.1).
 BOARD_BITS = {QE: "QE", 0x08: "LB1", 0x10: "LB2", 0x20: "LB3"}
 REGISTERS = {0x001000: 0x08, 0x002000: 0x10, 0x003000: 0x20}
 
 
 def protected(one, two, size):
-    """Returns the range that these status registers protect, and whether it is inverted (datasheet, 7.1.10)."""
+    """Returns the start and the end of the range that BP, TB and SEC select, and whether CMP is set, which protects
+    everything except this range (datasheet, 7.1.10)."""
     bp = one >> 2 & 7
     if bp == 0:
         length = 0
@@ -26,7 +27,8 @@ def protected(one, two, size):
 
 
 class Winbond(Flash):
-    """A W25Q64FV with these status bytes. Both are non-volatile, and copied into the volatile ones at power-up."""
+    """A W25Q64FV whose non-volatile status bytes are `status` at first. At power-up, the chip copies them into the
+    volatile ones."""
 
     id = bytes.fromhex("ef4017")
     size = 1 << 23
@@ -45,7 +47,8 @@ class Winbond(Flash):
 
     def cut_power(self):
         super().cut_power()
-        # The supply's lock-down ends with the supply. With SRP0 it is one-time.
+        # If SRP1 is set and SRP0 is clear (power supply lock-down), a loss of power clears SRP1. If both are set, SRP1
+        # stays set for ever.
         if self.stored[1] & SRP1 and not self.stored[0] & SRP0:
             self.stored[1] &= ~SRP1
         self.now = list(self.stored)
@@ -67,7 +70,7 @@ class Winbond(Flash):
         self.volatile = True
 
     def write_status(self, out):
-        # With one byte QE, CMP and SRP1 are cleared, as in chips that have one register.
+        # A status write of only one byte clears QE, CMP and SRP1, because older chips have only one status register.
         two = out[2] if len(out) == 3 else self.now[1] & LB
         self.store(out[1], two)
 
@@ -75,13 +78,14 @@ class Winbond(Flash):
         self.store(self.now[0], out[1])
 
     def store(self, one, two):
-        """Writes both registers, if they may be written. A one-time bit that is set stays set."""
+        """Writes both registers, if 06h or 50h was sent before and SRP1 is clear. A one-time bit that is set stays
+        set."""
         may, lasting = self.latch or self.volatile, self.latch
         self.volatile = False
         if not may or self.now[1] & SRP1:
             return
         one, two = one & KEPT_1, two & KEPT_2
-        # A volatile write has no effect on the one-time bits.
+        # A volatile write doesn't change the one-time bits.
         fixed = LB if lasting else LB | SRP1
         two = two & ~fixed | self.now[1] & fixed | (two & LB if lasting else 0)
         for bit in (SRP1, 0x08, 0x10, 0x20):
@@ -93,7 +97,7 @@ class Winbond(Flash):
             self.settle()
 
     def select(self, out, replies):
-        # 75h is the only instruction that a chip takes while an erase or a program is in progress. 7Ah ends the pause.
+        # Apart from reads of the status, a busy chip accepts only 75h, which suspends the operation. 7Ah resumes it.
         if bytes(out) == b"\x75" and not replies and self.busy and not self.asleep:
             self.busy, self.is_suspended = 0, True
         if bytes(out) == b"\x7a" and not replies and self.is_suspended:
@@ -109,7 +113,8 @@ class Winbond(Flash):
         return begin < high and end > low
 
     def enter_qpi(self, _):
-        # On one line a chip in this mode takes four clocks for what was one bit, so it understands nothing any more.
+        # In QPI mode the chip reads four data lines at each clock, so it understands no instruction that is sent on one
+        # line.
         self.deaf = self.deaf or bool(self.now[1] & QE)
 
     def register(self, out):
@@ -137,7 +142,8 @@ class Winbond(Flash):
             page[:] = bytes([BLANK]) * 256
 
     def program_quad(self, out):
-        # The data lines of a quad program have no defined levels here, so the page may get any bytes.
+        # A quad program reads four data lines, of which this programmer drives only one, so the page may get any bytes.
+        # This model stores 00h in all of them.
         at = self.address(out) % self.size // 256 * 256
         if self.now[1] & QE and self.operate(at, at + 256):
             self.data[at : at + 256] = bytes(256)

@@ -1,11 +1,15 @@
 #!/usr/bin/env python3
-"""A program with faults that the sweep must find, for self.py. WRONG names them; without it the program is right.
+"""Is a program with mistakes, which Wire must detect (self.py). The environment variable WRONG names the mistakes;
+without it the program is right.
 
-It knows only enough of serprog to identify a chip, to set SRP0 with --wp-enable, to protect a range with --wp-range,
-and to restore the status bytes with --restore. `together`: the first poll is sent with the status write. `syncnop`: the
-first byte of a run is 10h. `lies`: it prints what a job that succeeded prints, whatever the programmer replies.
-`quiet`: a restore that leaves QE clear names it, and ends with status 0. `erases`: such a restore erases sector 0, and
-reports that all bytes are restored.
+The program implements only parts of flashnor-serprog: it sets SRP0 with --wp-enable, protects a range with --wp-range,
+and restores the status bytes with --restore. These are the mistakes:
+
+- together: The first poll is sent together with the status write.
+- syncnop: The first byte of a run is 10h.
+- lies: The program prints the line of a successful job even if a reply of the programmer is wrong or missing.
+- quiet: A restore that leaves QE clear names this bit, but ends with exit status 0.
+- erases: A restore that leaves QE clear erases sector 0, and reports that all bytes are restored.
 """
 import os
 import sys
@@ -27,7 +31,7 @@ class Port:
         self.file = os.open(name, os.O_RDWR | os.O_NOCTTY)
 
     def ask(self, data, wanted):
-        """Sends bytes, and returns as many bytes of the reply as are wanted."""
+        """Sends `data`, and returns `wanted` bytes of the reply."""
         os.write(self.file, data)
         found = b""
         while len(found) < wanted:
@@ -45,7 +49,7 @@ class Port:
 
 
 def drain(port):
-    """Takes what an earlier run left."""
+    """Reads and drops the replies that an earlier run left."""
     while os.read(port.file, 4096):
         pass
 
@@ -64,7 +68,7 @@ def status(port):
 
 
 def change(port, out):
-    """Sends a write enable and this instruction, and polls."""
+    """Sends a write enable and the instruction `out`, and polls the chip."""
     both = frame([0x06]) + frame(out)
     poll = frame([0x05], 1)
     if "together" in WRONG:
@@ -88,7 +92,7 @@ def protect(port):
 
 
 def restore(port):
-    """Restores the status bytes. QE stays as it is."""
+    """Restores the status bytes from the journal, except QE, which stays as it is."""
     one, two = JOURNAL.read_bytes()
     found = status(port)
     wanted = [one, two & ~QE | found[1] & QE]

@@ -1,7 +1,7 @@
-"""Descriptions of chips for models.py, by maker.
+"""This package describes chips for models.py, with one module per maker or group of makers.
 
-**All of it is from memory of the datasheets: no page was at hand, and no chip was tried.** `sources` names the sections
-in which each fact is to be looked up. A chip may have another revision with another SFDP.
+**The descriptions were written from memory of the datasheets, without a page at hand, and no chip was tried.**
+`sources` names the datasheet sections in which to check them. Another revision of a chip may have another SFDP.
 """
 from chips import gigadevice, issi, macronix, micron, spansion, various, winbond
 

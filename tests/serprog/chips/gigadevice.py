@@ -1,6 +1,8 @@
-"""GigaDevice GD25Q. Registers: SRP0 BP4 BP3 BP2 BP1 BP0 WEL WIP; SUS1 CMP LB3 LB2 LB1 SUS2 QE SRP1; status 3.
+"""This module describes GigaDevice's GD25Q chips.
 
-BP4 and BP3 are SEC and TB of Winbond. 01h writes status 1 only, 31h status 2, 11h status 3. 4Bh replies 16 bytes.
+From bit 7 to bit 0, status 1 has SRP0 BP4 BP3 BP2 BP1 BP0 WEL WIP, and status 2 has SUS1 CMP LB3 LB2 LB1 SUS2 QE SRP1.
+BP4 and BP3 correspond to Winbond's SEC and TB. 01h writes only status 1, 31h writes status 2, and 11h writes status 3.
+4Bh returns a unique ID of 16 bytes.
 """
 from chips.common import BASE, ERASES, M8, M16, RESET, SFDP, STATUS_2, STATUS_3, UNIQUE, WRITE_1, sleeps
 from models import Description

@@ -1,4 +1,8 @@
-"""ISSI IS25LP. Status: SRWD QE BP3 BP2 BP1 BP0 WEL WIP. The function register (48h, 42h) has TBS. 35h enters QPI."""
+"""This module describes ISSI's IS25LP chips.
+
+From bit 7 to bit 0, the status has SRWD QE BP3 BP2 BP1 BP0 WEL WIP. The function register, which 48h reads and 42h
+writes, has TBS; the model leaves it out. 35h enters QPI mode.
+"""
 from chips.common import BASE, ERASES, M8, M16, RESET, SFDP, UNIQUE, WRITE_1, sleeps
 from models import Description, by_blocks
 from sfdp import BY_35, BY_F5, BY_RESET, K4, K32, K64, QE_IN_STATUS_1, Modes, basic, build

@@ -1,7 +1,8 @@
-"""Micron N25Q and MT25Q. Status: SRWD BP3 TB BP2 BP1 BP0 WEL WIP, without QE: quad modes are in registers of their own.
+"""This module describes Micron's N25Q and MT25Q chips.
 
-4Bh reads the one-time area (OTP), whose bytes are FFh when it was never programmed. After the ID follow 17 bytes: their
-number, two bytes of the device, and a unique ID of 14 bytes.
+From bit 7 to bit 0, the status has SRWD BP3 TB BP2 BP1 BP0 WEL WIP. There is no QE, because other registers select the
+quad modes. 4Bh reads the one-time area (OTP), whose bytes are FFh if they were never programmed. 9Fh returns 17 bytes
+after the ID: the number of the other 16, two bytes about the device, and a unique ID of 14 bytes.
 """
 from chips.common import BASE, ERASES, M8, M16, RESET, SFDP, WRITE_1, sleeps
 from models import Description, by_blocks
@@ -21,7 +22,8 @@ def one(name, number, size, opcodes, sfdp):
 
 
 CHIPS = (
-    # The 3 V part has no 32 KiB erase, no 60h and no deep power-down: ABh is ignored. No command enters QPI.
+    # This chip, which needs 3 V, has no 32 KiB erase, no 60h and no deep power-down, so it ignores ABh. No command
+    # enters QPI mode.
     one("N25Q064A", "20ba17", M8, {0x52: None, 0x60: None}, build(0, basic(M8, (K4, K64)))),
     one("MT25QL128", "20ba18", M16, {0x35: ("qpi",), **sleeps(0x17)},
         build(6, basic(M16, (K4, K32, K64), Modes(True, BY_35, BY_F5), minor=6, quad=NO_QE))),

@@ -1,4 +1,8 @@
-"""Winbond W25Q. Registers: SRP0 SEC TB BP2 BP1 BP0 WEL BUSY; SUS CMP LB3 LB2 LB1 - QE SRP1; status 3 with WPS (JV)."""
+"""This module describes Winbond's W25Q chips.
+
+From bit 7 to bit 0, status 1 has SRP0 SEC TB BP2 BP1 BP0 WEL BUSY, and status 2 has SUS CMP LB3 LB2 LB1 - QE SRP1. Bit
+2 of status 3 (JV) is WPS.
+"""
 from chips.common import ERASES, BASE, M2, M8, M16, M32, RESET, SFDP, STATUS_2, STATUS_3, UNIQUE, WRITE_2, WRITE_2_CLEARS, \
     sleeps
 from models import Description, with_own_locks
@@ -6,7 +10,7 @@ from sfdp import BY_38, BY_FF, BY_RESET, K4, K32, K64, QE_KEPT, Modes, basic, bu
 
 TYPES = (K4, K32, K64)
 OPCODES = {**BASE, **ERASES, **SFDP, **STATUS_2, **UNIQUE, **RESET}
-# W25Q64FV and W25Q128FV: 38h enters QPI if QE is set, which no case here does.
+# On W25Q64FV and W25Q128FV, 38h enters QPI mode if QE is set. The model leaves this out, because no case does it.
 FV = {**OPCODES, **WRITE_2_CLEARS, **sleeps(0x16)}
 JV = {**OPCODES, **WRITE_2, **STATUS_3, 0x31: ("write", (1,)), 0x11: ("write", (2,))}
 WRITABLE, ONCE = (0xFC, 0x7B, 0x64), (0, 0x38, 0)
@@ -20,14 +24,15 @@ def one(name, number, size, opcodes, sfdp, **chosen):
                        idle=(0x05, 0x35, 0x15), **chosen)
 
 
-# JESD216A, revision 1.5: one table with 16 double words at 80h.
+# The SFDP follows JESD216A, revision 1.5: it has one table with 16 double words at 80h.
 def later(size, **modes):
     return build(5, basic(size, TYPES, Modes(**modes), minor=5, at=0x80, quad=QE_KEPT))
 
 
 CHIPS = (
     one("W25Q64FV", "ef4017", M8, FV, build(0, basic(M8, TYPES, Modes(True), at=0x80))),
-    # It has no row: its smallest protected range is a 32nd of the chip, and that of the rows a 64th.
+    # The ID of this chip isn't in the program's table of chips, whose chips can protect a 64th of their size. On this
+    # chip the smallest protected range is a 32nd.
     one("W25Q16JV", "ef4015", M2, {**JV, **sleeps(0x14)}, later(M2), registers=(0, 0x02, 0x60),
         protected=with_own_locks),
     one("W25Q64JV", "ef4017", M8, {**JV, **sleeps(0x16)}, later(M8), registers=(0, 0x02, 0x60),
@@ -37,7 +42,7 @@ CHIPS = (
     one("W25Q64JV-M", "ef7017", M8, {**JV, **sleeps(0x16)},
         later(M8, has_qpi=True, enters=BY_38, leaves=BY_FF | BY_RESET), registers=(0, 0, 0x60),
         protected=with_own_locks, leaves_qpi=(0xFF,)),
-    # 32 MiB: addresses of three or four bytes.
+    # This chip has 32 MiB, and addresses of three or four bytes.
     one("W25Q256JV", "ef4019", M32, {**JV, **sleeps(0x18), 0xB7: ("four", True), 0xE9: ("four", False)},
         later(M32, addresses=1), registers=(0, 0x02, 0x60)),
 )
