@@ -44,7 +44,8 @@ all_of n = n.erases + n.programs + n.status_writes
 abbrev pub sending_these : Changes → Numbers → Limits
 sending_these changes n = sending changes n.erases n.programs n.status_writes
 
--- Holds after some parts of `apply` succeeded, which left the bytes `bytes` and the protection bits `code` on the chip.
+-- Holds after some parts of `apply` succeeded. If `CanApply` held on a well-behaved bus, these parts left the bytes
+-- `bytes` and the protection bits `code` on the chip.
 pub record SoFar (changes : Changes) (wanted bytes : ℕ → ℕ) (worn : ℕ → Bool) (code : ℕ) (numbers : Numbers)
     (readings : ℕ) (old now : BusState) (transactions : ℕ) : Type 0 where
   pub ran : Ran (sending_these changes numbers) readings old now

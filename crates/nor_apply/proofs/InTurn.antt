@@ -1,4 +1,4 @@
--- Lemmas about successive parts of a change on every bus: their targets, their transactions, and each exit.
+-- Lemmas about successive parts of a change, on any bus: their targets, their transactions, and what each exit leaves.
 use Rattle.std.proofs.Common.{◌≡◌, ◌≤◌, ◌+◌, ◌*◌, ◌∙◌, ℕ, true, List, [], ◌∷◌, ◌++◌, length, sym, ap, refl, arith}
 use Rattle.std.proofs.lemmas.List.{length-append, length_push, append_assoc, append-nil}
 use Rattle.std.specs.List.{All}

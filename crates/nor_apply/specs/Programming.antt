@@ -45,7 +45,7 @@ pub record DoesSector (readings : ℕ) (Can : Chip → Type 0) (sector : ℕ) (w
   pub counted : old.honest ≡ true → Can old.chip
       → tally.count ≡ count_below 16 (λ page. is_page_other old.chip.bytes (byte_of sector wanted) (16 * sector + page))
 
--- Holds if a sector was read into a buffer whose bytes were `bytes`. If `erased` is set, the buffer keeps its bytes.
+-- Holds if the sector was read into a buffer. With `erased`, holds if nothing was read and the buffer keeps `bytes`.
 pub record LoadsOk (sector : ℕ) (erased : Bool) (bytes bytes' : List ℕ) (old new : BusState) (reads : ℕ) : Type 0 where
   pub reads_once : reads ≡ (if erased then 0 else 1)
   pub added : AddsTransactions reads reads old.history new.history

@@ -10,8 +10,8 @@ use Rattle.nor_driver.specs.Polls.{AddsTransactions}
 use Rattle.nor_plan.specs.Planned.{holds_run}
 use Rattle.nor_apply.specs.declared.tally.Tally.{Tally}
 
--- True if erases and programs of `sectors` may target `s`: `s` is in the set, or the set has all sectors of a chip of
--- `size` bytes, and `s` lies past its end. (A chip erase, C7h, counts as targeting all 4,096 sectors.)
+-- True if erases and programs of `sectors` may target `s`: `s` is in `sectors`, or `sectors` has all sectors of a chip
+-- of `size` bytes and `s` lies past the chip's end. (A chip erase, C7h, counts as targeting all 4,096 sectors.)
 abbrev pub may_target : (sectors : ℕ → Bool) → (size s : ℕ) → Bool
 may_target sectors size s = sectors s || (nat_le (size / 4096) s && holds_run sectors 0 (size / 4096))
 

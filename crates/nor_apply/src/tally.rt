@@ -1,5 +1,5 @@
 //! Counts of operations and transactions.
-/// The number of operations (erases, page programs, status writes), and of all transactions, including reads and polls.
+/// The number of operations in `apply` or a part of it, and of all transactions there, including reads and polls.
 #[derive(Clone, Copy, Debug, PartialEq, Eq)]
 pub struct Tally {
     pub count: u32,

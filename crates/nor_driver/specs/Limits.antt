@@ -53,13 +53,13 @@ pub record SendsExactly (erases programs status_writes : ℕ) (old new : BusStat
   pub programmed : programs_of new.sent ≡ programs_of old.sent + programs
   pub wrote_status : status_writes_of new.sent ≡ status_writes_of old.sent + status_writes
 
--- Holds at every exit of a call in which a punctual bus carries out at most `most` transactions.
+-- Holds at every exit of a call in which a well-behaved punctual bus carries out at most `most` transactions.
 pub record Spends (most : ℕ) (old new : BusState) : Type 0 where
   pub nature : KeepsNature old new
   pub falls : old.honest ≡ true → Falls most old new
 
--- Holds at every exit of a call: its modifying commands are within `limits`, and a punctual bus carried out at most
--- `most` transactions. If `Can` held for the chip of a well-behaved bus, `May` relates the old to the new state.
+-- Holds at every exit of a call: its modifying commands are within `limits`, and a well-behaved punctual bus carried
+-- out at most `most` transactions. If `Can` held for the chip of a well-behaved bus, `May` relates the two states.
 pub record Leaves (most : ℕ) (limits : Limits) (Can : Chip → Type 0) (May : BusState → BusState → Type 0)
     (old new : BusState) : Type 0 where
   pub spends : Spends most old new

@@ -48,7 +48,8 @@ pub record OnlyReadsHonest (most : ℕ) (old new : BusState) : Type 0 where
   pub idle_latch : old.steady ≡ true → old.chip.busy ≡ 0 → new.chip.latch ≡ old.chip.latch
   pub falls : Falls most old new
 
--- Holds at every exit of a call that only reads, in which a punctual bus carries out at most `most` transactions.
+-- Holds at every exit of a call that only reads, in which a well-behaved, punctual bus carries out at most `most`
+-- transactions.
 pub record OnlyReads (most : ℕ) (old new : BusState) : Type 0 where
   pub nature : KeepsNature old new
   pub sent : new.sent ≡ old.sent
@@ -61,7 +62,8 @@ pub record HasRunOut (needed : ℕ) (old new : BusState) : Type 0 where
 abbrev pub RanOut : (needed : ℕ) → (old new : BusState) → Type 0
 RanOut needed old new = old.punctual ≡ true → HasRunOut needed old new
 
--- Holds if the bus stopped at a call's last transaction. A punctual bus had fewer than `needed` left before the call.
+-- Holds if the bus stopped at the last transaction of a call. Before the call, a well-behaved, punctual bus had fewer
+-- than `needed` transactions left.
 pub record HasStopped (needed : ℕ) (old new : BusState) : Type 0 where
   pub last : EndsStopped new.history
   pub ran_out : old.honest ≡ true → RanOut needed old new

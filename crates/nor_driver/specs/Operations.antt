@@ -32,7 +32,8 @@ is_operation_or_none (Erase start len) = true
 is_operation_or_none Ignored = true
 is_operation_or_none _ = false
 
--- Holds if `out` (at most 260 bytes) asks each chip for one operation or none, and each prefix for the same or none.
+-- Holds if the model knows `out` (at most 260 bytes), if `out` asks each chip for one operation or none, and if each
+-- prefix of `out` asks the chip for the same operation or none.
 pub record AsksForOperation (out : List ℕ) : Type 0 where
   pub known : is_unknown_to_model out ≡ false
   pub whole : (config : Config) → is_operation_or_none (command_of config out 0) ≡ true
@@ -71,7 +72,7 @@ abbrev pub operation_of : Chip → List ℕ → Command
 operation_of chip out = done_of (record chip { latch = true }) out 0
 
 -- Holds at every exit of an operation that the idle chip of a well-behaved bus can carry out. On a steady bus each byte
--- on which the operation works is as before or as after; on any other bus such a byte may have any value.
+-- on which the operation works is as before or after the operation; on any other bus such a byte may have any value.
 pub record MayOperate (command : Command) (sent : List ℕ) (old new : BusState) : Type 0 where
   pub config : new.chip.config ≡ old.chip.config
   pub bytes : ChangesOnly old.steady (is_in_work (running_after old.chip command))
@@ -91,9 +92,9 @@ abbrev pub HasOperated : Command → (sent : List ℕ) → (old new : BusState) 
 HasOperated command sent old =
     HasEnded (byte_after old.chip command sent) (kept_after old.chip command) (λ s. old.worn s || wears command s) old
 
--- An operation. A chip carries it out if `can` holds for the chip, and ignores it if `ignores` holds. If `can` held on
--- a well-behaved bus, `may` holds for the states before the operation and at every exit, and `has` for the states
--- before the operation and after its success.
+-- An operation, whose modifying commands are within `limits`. A chip carries the operation out if `can` holds for the
+-- chip, and ignores it if `ignores` holds. If `can` held on a well-behaved bus, `may` holds for the states before the
+-- operation and at every exit, and `has` for the states before the operation and after its success.
 pub record ChipOperation : Type 1 where
   pub limits : Limits
   pub can : Chip → Type 0

@@ -3,7 +3,8 @@ use Rattle.std.specs.List.{All}
 use Rattle.nor_model.specs.Exchange.{Exchange}
 use Rattle.nor_model.specs.History.{Continues, last_reply, names}
 
--- The reply to the last read (03h) from the start of the sector of `a`: `[]` without such a read or if the bus stopped.
+-- The reply to the last read (03h) from the start of the sector that contains the address `a`. The reply is `[]` if
+-- there was no such read or the bus stopped at it.
 abbrev pub sector_read : List Exchange → (a : ℕ) → List ℕ
 sector_read history a = last_reply (names 0x03 (4096 * (a / 4096))) history
 
@@ -30,13 +31,13 @@ pub record HaveBeenRead (Addresses : (a : ℕ) → Type 0) (old new : List Excha
   pub is : new ≡ later ++ old
   pub whole : (a : ℕ) → Addresses a → length (sector_read later a) ≡ 4096
 
--- Holds if only sectors were read after `old`, and the bytes last read at `addresses` are those of `target`.
+-- Holds if only successful reads of sectors follow `old`, and the bytes last read at `addresses` are those of `target`.
 pub record ReadsBack (addresses : ℕ → Bool) (target : ℕ → ℕ) (old new : List Exchange) : Type 0 where
   pub reads : AddsSectorReads old new
   pub each : (a : ℕ) → addresses a ≡ true → IsReadAs (target a) reads.later a
 
--- Holds if only sectors were read after `old`, and `address` is the lowest of `addresses` at which the byte last read
--- isn't that of `target`.
+-- Holds if only successful reads of sectors follow `old`, and `address` is the lowest of `addresses` at which the byte
+-- last read isn't that of `target`.
 pub record ReadsOther (addresses : ℕ → Bool) (target : ℕ → ℕ) (address : ℕ) (old new : List Exchange) : Type 0 where
   pub reads : AddsSectorReads old new
   pub is : addresses address ≡ true

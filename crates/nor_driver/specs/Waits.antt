@@ -52,8 +52,9 @@ abbrev pub EndsAt : OperationError → List Exchange → Type 0
 EndsAt Stopped history = EndsStopped history
 EndsAt (Timeout address) history = EndsBusy history
 
--- Holds if a call that waits returned `error`, and sent nothing after the transaction that caused the error. A punctual
--- bus had fewer than `needed` transactions left before the call.
+-- Holds if a call that waits returned `error`, and sent nothing after the transaction that caused the error. On a
+-- well-behaved bus the error is `Stopped`; if the bus is also punctual, it had fewer than `needed` transactions left
+-- before the call.
 pub record OperationFails (needed : ℕ) (old new : BusState) (error : OperationError) : Type 0 where
   pub last : EndsAt error new.history
   pub stopped : old.honest ≡ true → error ≡ Stopped

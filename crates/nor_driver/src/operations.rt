@@ -53,7 +53,7 @@ pub fn erase<B: Bus>(bus: &mut B, erase: Erase) -> Result<u32, OperationError>
 
 /// Writes the status registers (01h; W25Q64FV datasheet, Write Status Register), and waits until the chip is ready.
 /// Sends the protection bits `code` (below 64), all other non-volatile bits as in `status`, and BUSY, WEL and SUS as 0.
-/// Returns the number of transactions, even if the chip ignores the write because it is busy or has SRP0 or SRP1 set.
+/// Returns the number of transactions, even if the write is ignored because the chip is busy or SRP0 or SRP1 is set.
 pub fn write_status<B: Bus>(bus: &mut B, status: Status, code: u8) -> Result<u32, OperationError>
     requires { code < 64 }
     ensures leaves { LeavesOperation (status_write status code) (B.state bus.old) (B.state bus.new) }

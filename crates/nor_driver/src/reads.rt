@@ -47,8 +47,8 @@ pub fn read_unique<B: Bus>(bus: &mut B) -> Result<[u8; 8], Stopped>
 }
 
 /// Fills `bytes` (at most 4,096) with the SFDP bytes from `address` on (5Ah; JESD216). `address` must be below 16 MiB,
-/// and the chip takes it modulo its size. The bytes are correct if the bus is well-behaved and the chip idle. If a
-/// punctual bus stops, `bytes` is unchanged.
+/// and a modelled chip takes it modulo its size. The bytes are correct if the bus is well-behaved and the chip idle. If
+/// a well-behaved, punctual bus stops, `bytes` is unchanged.
 pub fn read_parameters<B: Bus>(bus: &mut B, address: u32, bytes: &mut [u8]) -> Result<(), Stopped>
     requires reachable { address < 2 ^ 24 }
     requires short { length bytes.old ≤ 4096 }
@@ -65,7 +65,7 @@ pub fn read_parameters<B: Bus>(bus: &mut B, address: u32, bytes: &mut [u8]) -> R
 
 /// Reads the sector with the number `sector` (below 4,096) into `bytes`, which must have 4,096 bytes (03h; W25Q64FV
 /// datasheet, Read Data). The result is correct if the bus is well-behaved and the chip is idle and has the sector.
-/// If a punctual bus stops, `bytes` is unchanged.
+/// If a well-behaved, punctual bus stops, `bytes` is unchanged.
 pub fn read_sector<B: Bus>(bus: &mut B, sector: u32, bytes: &mut [u8]) -> Result<(), Stopped>
     requires reachable { sector < 4096 }
     requires whole { length bytes.old ≡ 4096 }

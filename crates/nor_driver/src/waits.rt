@@ -51,8 +51,8 @@ pub struct Waited {
     pub polls: u32,
 }
 
-/// Polls until a reply shows that the chip is ready. `address` is reported in `OperationError::Timeout`: pass the
-/// address of the command that the wait follows, or 0.
+/// Polls until a reply shows that the chip is ready, at most 65,536 times. `address` is reported in
+/// `OperationError::Timeout`: pass the address of the command that the wait follows, or 0.
 pub fn wait<B: Bus>(bus: &mut B, address: u32) -> Result<Waited, OperationError>
     ensures leaves { OnlyReads 65536 (B.state bus.old) (B.state bus.new) }
     ensures does { IfOk result (Waits (B.state bus.old) (B.state bus.new)) }

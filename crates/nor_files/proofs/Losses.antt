@@ -37,7 +37,7 @@ all_lost (was ∷ old) (now ∷ new) name many each =
     let later = all_lost old new name (omega (arith, many)) (λ k d within. each (suc k) d (omega (arith, within))) in
     grind arith
 
--- Holds if `new` is what an interruption may leave of the files `old`, and a later host crash can't change these files.
+-- Holds if `new` is what an interruption may leave of the files `old`, and a later host crash can't change `new`.
 pub record AreLeft (old new : List Stored) (left : ℕ) (borrowed : Option Name) : Type 0 where
   pub at_rest : AreAtRest (files_state new left borrowed)
   pub allowed : (name : Name) → MayLeave (file_named old name) (file_named new name).seen

@@ -4,7 +4,8 @@ use Rattle.std.specs.Prelude.{drop, is_some, length, max, option_map, replicate,
 use Rattle.nor_journal.specs.Vault.{VaultState}
 use Rattle.nor_files.specs.Files.{AllStay, FilesState, Found, IsKnownFile, IsDurable, Name, OthersStay, KeepsFile, View}
 
--- Holds if the file isn't known, or if `found` is its first `most` bytes, or if it is missing and `found` is `None`.
+-- If the file is known (`IsKnownFile`), holds if `found` is its first `most` bytes, or `None` for a missing file.
+-- Otherwise, always holds.
 abbrev pub ReadsFile : Name → ℕ → Found → View → Type 0
 ReadsFile name most found view = IsKnownFile name view → found ≡ option_map (take most) (view.seen name)
 
@@ -20,14 +21,15 @@ abbrev pub Counts : {T E : Type 0} → Result T E → (old new : FilesState) →
 Counts (Ok _) old new = Succeeds old new
 Counts (Err _) old new = Fails old new
 
--- Holds if the call was counted, no vault was lent or taken back, and files with names apart from `name` stay.
+-- Holds if `Counts` holds, no vault was lent or taken back, and files with names apart from `name` didn't change.
 pub record WorksOn {T E : Type 0} (name : Name) (result : Result T E) (old new : FilesState) : Type 0 where
   pub counts : Counts result old new
   pub borrowed : new.borrowed ≡ old.borrowed
   pub out : new.view.out name ≡ old.view.out name
   pub others : OthersStay name old new
 
--- Holds if the call was counted, each file is as it was, and a success returned whether the file (if known) exists.
+-- Holds if `Counts` holds, no vault was lent or taken back, each file is as it was, and a success returned whether the
+-- file (if known) exists.
 pub record Holds {E : Type 0} (name : Name) (result : Result Bool E) (old new : FilesState) : Type 0 where
   pub counts : Counts result old new
   pub borrowed : new.borrowed ≡ old.borrowed
@@ -40,7 +42,8 @@ pub record IsSynced (name : Name) (old new : FilesState) : Type 0 where
   pub leaves : (left : Found) → new.may_leave name left
       → (left ≡ old.view.seen name) ⊎ ((left ≡ None) × old.may_leave name None)
 
--- Holds if a read returns the same as before, and a host crash can neither remove the file nor create it.
+-- Holds if a read returns the same as before, and a host crash can leave only what it could leave before, but can
+-- neither remove the file nor create it.
 pub record IsPlaced (name : Name) (old new : FilesState) : Type 0 where
   pub seen : new.view.seen name ≡ old.view.seen name
   pub leaves : (left : Found) → new.may_leave name left
@@ -84,13 +87,14 @@ written_over bytes had = bytes ++ drop (length bytes) had
 abbrev pub with_length : ℕ → List ℕ → List ℕ
 with_length len had = take len had ++ replicate (len - length had) 0
 
--- Holds if a success overwrote the file and, in any case, a host crash leaves old contents or a mix with `bytes`.
+-- Holds if a success overwrote the file and, even after a failure, a host crash leaves only what `LeavesMixes` allows.
 pub record WritesOver {T E : Type 0} (name : Name) (bytes : List ℕ) (result : Result T E)
     (old new : FilesState) : Type 0 where
   pub seen : (any : T) → result ≡ Ok any → new.view.seen name ≡ option_map (written_over bytes) (old.view.seen name)
   pub leaves : LeavesMixes name bytes old new
 
--- Holds if a success set the length and, in any case, a host crash leaves only old contents, perhaps with length `len`.
+-- Holds if a success set the length and, even after a failure, a host crash leaves only contents that it could leave
+-- before, perhaps with their length set to `len`.
 pub record SetsLength {T E : Type 0} (name : Name) (len : ℕ) (result : Result T E) (old new : FilesState) : Type 0 where
   pub seen : (any : T) → result ≡ Ok any → new.view.seen name ≡ option_map (with_length len) (old.view.seen name)
   pub leaves : (left : Found) → new.may_leave name left → old.may_leave name left
@@ -111,12 +115,13 @@ pub record Borrows (name : Name) (old new : FilesState) : Type 0 where
   pub out : new.view.out name ≡ true
   pub others : OthersStay name old new
 
--- Holds if a call that lends a vault failed. A host crash leaves a known file as before or, if it was missing, empty.
+-- Holds if a call that lends a vault failed, and a host crash leaves of a known file only what `LeavesOrEmpty` allows.
 pub record BorrowsNone (name : Name) (old new : FilesState) : Type 0 where
   pub fails : Fails old new
   pub leaves : IsKnownFile name old.view → LeavesOrEmpty name old new
 
--- Holds if the file has exactly the bytes of the faithful vault that was taken back, durably if the vault is sealed.
+-- Holds if the file has exactly the bytes of the faithful vault that was taken back, durably if the vault is sealed,
+-- and files with names apart from `name` didn't change.
 pub record TakesBack (name : Name) (vault : VaultState) (old new : FilesState) : Type 0 where
   pub borrowed : new.borrowed ≡ None
   pub in_store : new.view.out name ≡ false

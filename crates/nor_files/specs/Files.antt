@@ -1,4 +1,4 @@
--- The files of a run, by their names, as contracts see them.
+-- The state of a run's files in contracts. Each file is referred to by a name.
 use Rattle.std.specs.Prelude.{◌≡◌, ℕ, Bool, true, false, List, Option}
 
 abbrev pub Name : Type 0
@@ -27,7 +27,7 @@ pub data Failure : Type 0 where
   -- the file is a regular file to which the program prints
   Printed : Name → Failure
 
--- The properties of a store of files that never change.
+-- The properties that a store of files keeps in all calls.
 pub record Nature : Type 0 where
   -- whether the files obey the contract
   pub lawful : Bool

@@ -10,7 +10,8 @@ use Rattle.nor_files.specs.Stored.{MayLeave}
 use Rattle.nor_files.specs.declared.memory.Memory.{Memory}
 use Rattle.nor_files.specs.declared.stored.Stored.{Stored}
 
--- True for each failure that calls on files in memory may find. Others lock no file; each file can be overwritten.
+-- True for each failure that calls on files in memory may find. No other process locks these files, and each can be
+-- overwritten.
 abbrev pub memory_fails : Failure → Bool
 memory_fails (Unheld name) = false
 memory_fails (Busy name) = false

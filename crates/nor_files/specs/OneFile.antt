@@ -2,7 +2,7 @@ use Rattle.std.specs.Prelude.{◌≡◌, ◌⊎◌, true, false}
 use Rattle.nor_files.specs.Files.{FilesState, Found, Name, Nature, is_lawful}
 use Rattle.nor_files.specs.Files.Failure.{Shared}
 
--- Holds if a store of this nature treats the two names as names of one file.
+-- Holds if a store of this nature may treat the two names as names of one file.
 abbrev pub MayBeOneFile : Nature → (one other : Name) → Type 0
 MayBeOneFile nature one other = (nature.apart one other ≡ false) ⊎ (nature.fails (Shared one other) ≡ true)
 

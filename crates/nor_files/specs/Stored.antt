@@ -1,4 +1,4 @@
--- A file in memory, as contracts see it, what a host crash may leave of it, and the effects of calls on it.
+-- The state of a file in memory, what a host crash may leave of the file, and the effects of calls on it.
 use Rattle.std.specs.Prelude.{◌≡◌, ◌⊎◌, ◌&&◌, ◌||◌, ⊤, ℕ, Bool, true, false, List, [], ◌∷◌, Option, None, Some}
 use Rattle.std.specs.Prelude.{Result, Ok, Err, if◌then◌else◌, is_some, not, option_map}
 use Rattle.std.proofs.Common.{refl, inl, inr}

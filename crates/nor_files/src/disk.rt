@@ -27,10 +27,12 @@ struct Unseen {
 
 /// The system's files. That each call works on the named file and obeys the contract of `Store` is assumed, and tested.
 ///
-/// A file opened by `hold`, `share` or `make` stays open and locked until the store is dropped. Later reads, writes and
-/// syncs of its name work on this file. If the name then refers to another file, `sync` returns `NotFound`. `make`
-/// returns `NotFound` for a name that wasn't passed to `hold` or `share`; `sync`, `write_over` and `set_len` return
-/// `NotFound` for a name without an open file.
+/// A file opened by `hold`, `share` or `make` stays open (and locked, if the file system has locks) until the store is
+/// dropped. Later reads, writes and syncs of its name work on this file. If the name then refers to another file,
+/// `sync` returns `NotFound`.
+///
+/// `make` returns `NotFound` for a name that wasn't passed to `hold` or `share` before. `sync`, `write_over` and
+/// `set_len` return `NotFound` for a name without an open file.
 #[derive(Drop)]
 pub struct Disk<'a, R: Files> {
     files: &'a R,
@@ -291,7 +293,7 @@ pub fn read_up_to<F: Read + OpenFile + Drop>(
         Ok(metadata) => metadata.len().min(most),
         Err(_) => 0,
     };
-    // One byte more than expected, so that the read that finds the end of the file needs no further allocation.
+    // One byte more than the expected length, so the read that finds the end of the file needs no further allocation.
     let room = (length as usize).saturating_add(1);
     let mut bytes = Vec::with_capacity(alloc, room)?;
     file.take(most).read_to_end(&mut bytes)?;

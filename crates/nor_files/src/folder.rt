@@ -7,7 +7,7 @@ use std::path::Path;
 use std::rt::Files;
 
 /// Syncs the directory of this file, so that a host crash neither removes a file created in it nor restores a removed
-/// one. Succeeds without a sync if the directory is missing, may not be opened for reading, or can't be synced.
+/// one. Succeeds without a sync if the directory is missing, may not be opened for reading, or doesn't support syncs.
 pub fn sync_folder<R: Files>(files: &R, name: &str) -> io::Result<()> {
     let folder = match File::open(files, folder_of(name)) {
         Ok(folder) => folder,

@@ -1,4 +1,4 @@
-//! The files that `hold`, `share` and `make` of a `Disk` keep open and locked until the run ends.
+//! The files that `hold`, `share` and `make` of a `Disk` keep open and locked until the `Disk` is dropped.
 
 use crate::identity::is_same;
 use crate::locks::LockFile;
@@ -15,7 +15,7 @@ use std::{fs, io};
 pub struct Held<F> {
     pub name: String,
     pub file: Option<F>,
-    /// The length that the file must have at a sync, if the run set its length and hasn't written to it since.
+    /// The length that `check_under` requires, if the run set the file's length and hasn't written to the file since.
     pub len: Option<u64>,
 }
 

@@ -12,8 +12,9 @@ use std::os::unix::fs::OpenOptionsExt;
 use std::rt::Files;
 use std::{fs, io};
 
-/// Creates the named file with the permissions `mode`, and locks it. The error is `There` if a file or link of this
-/// name exists, `Busy` if another process locks the file first, and `Unmade` if the file can't be created or locked.
+/// Creates the named file with the permissions `mode` (limited by the umask), and locks it. The error is `There` if a
+/// file or link of this name exists, `Busy` if another process locks the file first, and `Unmade` if the file can't be
+/// created or locked.
 pub fn make_new<R: Files>(files: &R, name: &str, mode: u32) -> Result<R::File, CreateFault>
 where
     R::File: LockFile,
@@ -23,8 +24,9 @@ where
     make_alone(files, name, &mut options, mode)
 }
 
-/// Creates and locks the file of a journal (errors: see `make_new`). Each write appends to the file. If another program
-/// truncates the file, it stays too short, which `VaultedFile::check` detects, instead of getting a gap of zero bytes.
+/// Creates and locks the file of `vault_in_new` (errors: see `make_new`). Each write appends to the file. If another
+/// program truncates the file, the next write leaves no gap of zero bytes, so `VaultedFile::check` finds the file too
+/// short.
 pub fn make_journal<R: Files>(files: &R, name: &str, mode: u32) -> Result<R::File, CreateFault>
 where
     R::File: LockFile,
@@ -52,7 +54,8 @@ where
     Ok(file)
 }
 
-/// Creates or truncates the named file, but opens a FIFO, a device or a terminal as it is. Fails as `open_log` does.
+/// Creates or truncates the named file, but opens a FIFO, a device or a terminal as it is. Fails if `open_log` fails,
+/// or with `Unmade` if the file can't be truncated.
 pub fn make_empty<R: Files>(files: &R, name: &str) -> Result<R::File, CreateFault>
 where
     R::File: LockFile,
@@ -64,7 +67,7 @@ where
     }
 }
 
-/// Creates or opens the named file for a log. A regular file is locked, and the `LogFile` truncates it later. For a
+/// Creates or opens the named file for a log. A regular file is locked, and the `LogFile` may truncate it later. For a
 /// journal, the error is `There`, because a journal may be the only way to restore a chip. A FIFO, a device or a
 /// terminal is opened as it is, without a lock.
 pub fn open_log<R: Files>(files: &R, name: &str) -> Result<LogFile<R::File>, CreateFault>
@@ -144,7 +147,8 @@ impl<F: OpenFile> LogFile<F> {
 }
 
 impl<F: OpenFile + Read + Seek> LogFile<F> {
-    /// Returns whether the file is empty, or begins with these bytes. A FIFO, a device or a terminal counts as empty.
+    /// Returns whether the file is empty, or begins with these bytes. A FIFO, a device or a terminal counts as empty,
+    /// and so does a file after `append`, a write or a flush.
     pub fn is_empty_or_begins(&mut self, start: &[u8]) -> io::Result<bool> {
         if !self.is_old {
             return Ok(true);

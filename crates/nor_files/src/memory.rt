@@ -11,12 +11,13 @@ use std::alloc::{AllocError, Global};
 use std::io::{ErrorKind, Sink};
 use std::{io, mem};
 
-/// Files in memory that obey the contract of `Store`. At most `left` counted calls succeed, which are calls of `hold`,
-/// `sync`, `sync_folder`, `write_over`, `set_len`, `make`, `vault_in_new`, `vault_in` and `log_in`.
+/// Files in memory that obey the contract of `Store`. At most `left` counted calls succeed. The counted calls are
+/// `hold`, `sync`, `sync_folder`, `write_over`, `set_len`, `make`, `vault_in_new`, `vault_in` and `log_in`.
 ///
 /// A host crash may leave each byte as it was at the last sync of the file, or as any later change made it. A file
-/// whose vault or log was borrowed since that sync may have any bytes. A file created by `make`, `vault_in` or `log_in`
-/// can be missing only until its directory is synced.
+/// whose vault or log was borrowed since that sync may have any bytes. A host crash may remove a file created by
+/// `make`, `vault_in` or `log_in` only until its directory is synced. Taking back a sealed vault counts as a sync of
+/// the file and of its directory, `make` as a sync of the file, and `vault_in_new` as a sync of the directory.
 #[derive(Drop)]
 pub struct Memory {
     alloc: Global,
@@ -64,7 +65,7 @@ impl Memory {
     }
 
     /// Interrupts the run now, and returns the files that are left, on which at most `left` counted calls succeed. Each
-    /// file is left as a host crash might have left it, and a later host crash leaves it as it then is.
+    /// file is left as a host crash might have left it. Until a call changes the files, a host crash can't change them.
     pub fn lose(self, loss: Loss, left: u64) -> Memory
         ensures left { (memory_state result).left ≡ left }
         ensures at_rest { AreAtRest (memory_state result) }

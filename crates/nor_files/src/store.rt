@@ -127,8 +127,8 @@ pub trait Store: AllocGlobal {
     type Log: Write + Drop;
 
     /// Returns true if the two names are equal, if they refer to the same file of the system, or if neither file exists
-    /// yet and the names have the same last part in the same directory. If one of two different names can't be looked
-    /// up, returns this name as the error. If the result is false, the names are apart.
+    /// yet and the names have the same last part in the same existing directory. If one of two different names can't be
+    /// looked up, returns this name as the error. If the result is false, the names are apart.
     fn is_one_file<'n>(&self, one: &'n str, other: &'n str) -> Result<bool, &'n str>
         ensures shared { IfOk result (λ is_one. is_one ≡ true
             → (state self.now).view.nature.fails (Shared one.now other.now) ≡ true) }
@@ -146,8 +146,8 @@ pub trait Store: AllocGlobal {
         ensures unseen { IfErr result (λ unseen. (unseen.now ≡ name.now)
             × ((state self.now).view.nature.fails (Unread name.now) ≡ true)) };
 
-    /// Returns the system's error if this name or, for a missing file, its directory can't be looked up. A missing file
-    /// or directory is no error: the result is then `None`. No clause says anything about the result.
+    /// Returns the system's error if this name or, for a missing file, its directory can't be looked up, otherwise
+    /// `None`. That the file or directory is missing isn't such an error. No clause says anything about the result.
     fn look_up_error(&self, name: &str) -> Option<io::Error>;
 
     /// Returns the name of a `Stream` that can't be looked up, or `None`. Such a stream can't be compared with files.
@@ -160,11 +160,11 @@ pub trait Store: AllocGlobal {
     /// error, unless `hold`, `share` or `make` opened the file. Fails only if memory runs out.
     fn look_ahead(&self, name: &str) -> Result<(), AllocError>;
 
-    /// Returns whether a file or a link of this name exists.
+    /// Returns whether a look-up finds a file or a link of this name. If the look-up fails, returns false.
     fn is_there(&self, name: &str) -> bool
         ensures { result ≡ true → (state self.now).view.nature.fails (There name.now) ≡ true };
 
-    /// Returns whether a read of the named file may block forever, as a read of a FIFO or a terminal may.
+    /// Returns whether a read of the named file may block forever. A `Disk` assumes it of a FIFO or a character device.
     fn is_waiting(&self, name: &str) -> bool
         ensures { result ≡ true → (state self.now).view.nature.fails (Unread name.now) ≡ true };
 
@@ -204,7 +204,7 @@ pub trait Store: AllocGlobal {
         ensures fails { OnErr result ((state self.old).view.nature.fails (Unwritten name.now) ≡ true) };
 
     /// Syncs the directory of the named file. For lawful files without a borrowed vault or log, a read of each file
-    /// returns the same as before. After success, a host crash can neither remove the named file nor create it.
+    /// returns the same as before and, after success, a host crash can neither remove the named file nor create it.
     fn sync_folder(&mut self, name: &str) -> io::Result<()>
         ensures nature { (state self.new).view.nature ≡ (state self.old).view.nature }
         ensures alone { is_lawful (state self.old).view ≡ true
@@ -236,9 +236,9 @@ pub trait Store: AllocGlobal {
             → SetsLength name.now len result (state self.old) (state self.new) }
         ensures fails { OnErr result ((state self.old).view.nature.fails (Unwritten name.now) ≡ true) };
 
-    /// Returns false if a later run would not find what this run wrote to the named file. A `Disk` checks that the name
-    /// still refers to the file that `hold`, `share` or `make` opened, and that the file has the length of the last
-    /// `set_len`, unless a `write_over` followed. Without an open file of this name, a `Disk` returns false.
+    /// Returns false if the store detects that a later run would not find what this run wrote to the named file. A
+    /// `Disk` checks that the name still refers to the file that `hold`, `share` or `make` opened, and that its length
+    /// is that of the last `set_len`, unless a `write_over` followed. Without such a file, a `Disk` returns false.
     fn still_has(&self, name: &str) -> bool
         ensures { result ≡ false → (state self.now).view.nature.fails (Unwritten name.now) ≡ true };
 
@@ -253,8 +253,8 @@ pub trait Store: AllocGlobal {
         ensures fails { OnErr result ((state self.old).view.nature.fails (Unwritten name.now) ≡ true) };
 
     /// Creates the named file, and lends a vault in it, which `return_vault` takes back. `Disk` syncs the directory. If
-    /// the file exists, the error is `There` (a `Disk` may return `Memory` instead). After a failure for lawful files
-    /// without a borrowed vault or log, a host crash can leave only what it could leave before, or an empty new file.
+    /// the file exists, the error is `There` (a `Disk` may return another). After a failure for lawful files without a
+    /// borrowed vault or log, a host crash can leave only what it could leave before, or an empty new file.
     fn vault_in_new(&mut self, name: &str) -> Result<Self::Filed, CreateFault>
         ensures nature { (state self.new).view.nature ≡ (state self.old).view.nature }
         ensures fresh { IfOk result (λ vault. IsFresh (Self.Filed.state vault)) }
@@ -271,7 +271,7 @@ pub trait Store: AllocGlobal {
         ensures unmade { IfErr result (IsCreateFault (state self.old).view.nature name.now) };
 
     /// Creates or truncates the named file, and lends a vault in it, which `return_vault` takes back. A `Disk` refuses
-    /// to truncate a journal.
+    /// to truncate a journal, and opens a FIFO, a device or a terminal as it is.
     fn vault_in(&mut self, name: &str) -> Result<Self::Filed, CreateFault>
         ensures nature { (state self.new).view.nature ≡ (state self.old).view.nature }
         ensures fresh { IfOk result (λ vault. IsFresh (Self.Filed.state vault)) }
@@ -291,8 +291,8 @@ pub trait Store: AllocGlobal {
         ensures takes { is_lawful (state self.old).view ≡ true → (name : Name) → (state self.old).borrowed ≡ Some name
             → TakesBack name (Self.Filed.state vault) (state self.old) (state self.new) };
 
-    /// Returns false if the vault that was taken back last was sealed, but a later run would not find its file. A
-    /// `Disk` checks the name and the length of the file, and only if `vault_in_new` created the file.
+    /// Returns false if the vault that was taken back last was sealed, but the store detects that a later run would not
+    /// find its file. A `Disk` checks the file's name and length, but only if `vault_in_new` created the file.
     fn is_kept(&self, name: &str) -> bool
         ensures { result ≡ false → (state self.now).view.nature.fails (Unwritten name.now) ≡ true };
 

@@ -14,7 +14,7 @@ use std::{io, mem};
 #[derive(Drop)]
 pub enum Content {
     Plain(Vec<u8>),
-    /// The bytes of a vault that was taken back.
+    /// The bytes of a vault that was lent in this file and then taken back (`Store::return_vault`).
     Vaulted(MemVault),
 }
 
@@ -40,7 +40,8 @@ pub enum Loss {
     /// Nothing: only the process was killed.
     Nothing,
     /// The host crashed. Changes since the last sync are lost, and so is a created file whose directory wasn't synced.
-    /// A never synced file that was created for a vault or log keeps its bytes, if its directory was synced.
+    /// A file that was created for a vault or log, and never synced, keeps its bytes if its directory was synced. The
+    /// comment on `Memory` says which other calls count as these syncs.
     Unsynced,
 }
 
@@ -50,7 +51,7 @@ pub struct Stored {
     content: Option<Content>,
     // The changes since the last sync, newest first.
     steps: Vec<Step>,
-    // Whether a host crash may remove the file: it was created, and its directory wasn't synced since.
+    // Whether a host crash may remove the file, because its directory wasn't synced after the file was created.
     unplaced: bool,
     // Whether a vault or a log in the file is borrowed.
     out: bool,

@@ -1,4 +1,4 @@
--- Lemmas about `any_below` (whether any number below a bound passes a test) and `count_below` (how many of them do).
+-- Lemmas about `any_below` (whether a number below a bound passes a test) and `count_below` (how many numbers do).
 use Rattle.std.proofs.Common.{◌≡◌, ◌<◌, ◌≤◌, ◌+◌, ℕ, suc, Bool, true, false, cond, get_or, add-one, refl, sym, ap, ◌∙◌, inl, inr, arith}
 use Rattle.std.specs.Prelude.{MatchBool, if◌then◌else◌}
 use Rattle.std.specs.List.{range_with_len}

@@ -130,8 +130,8 @@ pub text_opened : (c : Content) → text c ≡ front c ++ (end_mark ++ sha256 (b
 unfolding text body
 text_opened c = rw append_assoc
 
--- Let `x` begin with no valid record that may follow those of `c`, and `y` with none that may follow those of `d`. If
--- `front c ++ x` equals `front d ++ y`, then `c` equals `d`, and `x` equals `y`.
+-- Let `c` and `d` be valid. Let `x` begin with no valid record that may follow those of `c`, and `y` with none that may
+-- follow those of `d`. If `front c ++ x` equals `front d ++ y`, then `c` equals `d`, and `x` equals `y`.
 pub same_fronts : (c d : Content) (x y : List ℕ) → IsContent c → IsContent d
     → NoRecord (c.size / 4096) (next_number c) x → NoRecord (d.size / 4096) (next_number d) y
     → front c ++ x ≡ front d ++ y → (c ≡ d) × (x ≡ y)

@@ -31,8 +31,8 @@ HeaderFault bytes Size = (unique : Option (List ℕ)) × (take 8 bytes ≡ magic
     × (is_chip_size (number_at (drop (header_length unique - 4) bytes)) ≡ false)
 HeaderFault bytes _ = ⊥
 
--- Holds if the record at the beginning of `rest` has this fault. The record's number must be at least `least` and below
--- `sectors`.
+-- Holds if the record at the beginning of `rest` has this fault (`Short` also if `rest` has fewer than four bytes). The
+-- number of a record without a fault is at least `least` and below `sectors`.
 abbrev pub RecordFault : (sectors least : ℕ) → (rest : List ℕ) → JournalFault → Type 0
 RecordFault sectors least rest Short =
     (length rest < 4) ⊎ ((least ≤ number_at rest) × (number_at rest < sectors) × (length rest < 4100))
@@ -40,7 +40,8 @@ RecordFault sectors least rest Place = (4 ≤ length rest) × (take 4 rest ≢ e
 RecordFault sectors least rest Order = (4 ≤ length rest) × (number_at rest < sectors) × (number_at rest < least)
 RecordFault sectors least rest _ = ⊥
 
--- Holds if `rest` begins with the end mark, and the digest after that is incomplete, followed by bytes, or wrong.
+-- Holds if `rest` begins with the end mark, and the digest after it has this fault: `Short` if the digest is
+-- incomplete, `Long` if bytes follow the digest, or `Digest` if the digest is wrong.
 abbrev pub EndFault : (before rest : List ℕ) → JournalFault → Type 0
 EndFault before rest Short = (take 4 rest ≡ end_mark) × (length rest < 36)
 EndFault before rest Long = (take 4 rest ≡ end_mark) × (36 < length rest)
@@ -48,7 +49,7 @@ EndFault before rest Digest =
     (take 4 rest ≡ end_mark) × (length rest ≡ 36) × (drop 4 rest ≢ sha256 (before ++ end_mark))
 EndFault before rest _ = ⊥
 
--- Holds if `rest`, the bytes after the header and records of `c`, begins with a record or an end that has this fault.
+-- Holds if `rest`, the bytes after the header and records of `c`, has this fault in its first record or its digest.
 abbrev pub NextFault : Content → List ℕ → JournalFault → Type 0
 NextFault c rest fault = RecordFault (c.size / 4096) (next_number c) rest fault ⊎ EndFault (front c) rest fault
 

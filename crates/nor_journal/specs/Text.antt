@@ -29,7 +29,8 @@ AreRising sectors least [] = ⊤
 AreRising sectors least (s ∷ rest) =
     IsSectorBelow sectors s × (least ≤ s.number) × AreRising sectors (s.number + 1) rest
 
--- Holds if the content is valid: its fields have the right lengths, and the saved sectors are complete and ascend.
+-- Holds if the content is valid: the IDs and the status have the right lengths, the size is that of a chip, and the
+-- saved sectors are complete sectors of this chip in ascending order.
 pub record IsContent (c : Content) : Type 0 where
   pub id : length c.id ≡ 3
   pub unique : IfSome c.unique (λ unique. length unique ≡ 8)
@@ -50,7 +51,7 @@ record_text s = number_text s.number ++ s.bytes
 unfoldable pub records_text : (saved : List SavedSector) → List ℕ
 records_text saved = flat_map record_text saved
 
--- the four bytes FFh after the last record; no sector has the number that they encode
+-- the four bytes FFh after the records, if any; no sector has the number that these bytes encode
 unfoldable pub end_mark : List ℕ
 end_mark = 0xFF ∷ 0xFF ∷ 0xFF ∷ 0xFF ∷ []
 
@@ -60,7 +61,7 @@ front c = head c ++ records_text c.saved
 unfoldable pub body : Content → List ℕ
 body c = front c ++ end_mark
 
--- The encoding of a journal: the header, the records, the end mark, and the SHA-256 of all these.
+-- The encoding of a journal: the header, the records, the end mark, and the SHA-256 of all the bytes before it.
 unfoldable pub text : Content → List ℕ
 text c = body c ++ sha256 (body c)
 

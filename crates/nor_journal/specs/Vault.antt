@@ -6,8 +6,8 @@ use Rattle.nor_journal.specs.declared.vault.VaultFault.{VaultFault}
 pub record VaultState : Type 0 where
   -- true for a faithful vault, which holds exactly the bytes that it accepted
   pub telling : Bool
-  -- The accepted bytes, in order. If the vault isn't faithful, contracts know only that they aren't empty after a byte
-  -- was accepted and before the seal.
+  -- The accepted bytes, in order. For a vault that isn't faithful, the contracts of `put` and `seal` promise only that
+  -- this list isn't empty from the first accepted byte until the seal.
   pub bytes : List ℕ
   pub sealed : Bool
   pub failures : ℕ
@@ -65,13 +65,13 @@ pub record IsFresh (vault : VaultState) : Type 0 where
   pub empty : vault.bytes ≡ []
   pub unsealed : vault.sealed ≡ false
 
--- Holds if the vault accepted all pieces of a call, so no refusal was counted.
+-- Holds if the vault accepted all pieces that a call put in it, so no refusal was counted.
 pub record Accepted (old new : VaultState) : Type 0 where
   pub telling : new.telling ≡ old.telling
   pub sealed : new.sealed ≡ old.sealed
   pub failures : new.failures ≡ old.failures
 
--- Holds if the vault accepted every piece of a call that succeeded, or refused a piece of a call that failed.
+-- Holds if a call of `Writer` succeeded and the vault accepted every piece, or failed and the vault refused a piece.
 abbrev pub PutsOn : {T : Type 0} → VaultState → Result T VaultFault → VaultState → Type 0
 PutsOn old (Ok _) new = Accepted old new
 PutsOn old (Err _) new = Refused old new
@@ -81,7 +81,7 @@ pub record Completed (old new : VaultState) : Type 0 where
   pub sealed : new.sealed ≡ true
   pub failures : new.failures ≡ old.failures
 
--- Holds if the call succeeded and the vault is sealed, or the call failed and the vault refused a piece or the seal.
+-- Holds if `end` succeeded and the vault is sealed, or `end` failed and the vault refused a piece or the seal.
 abbrev pub Completes : {T : Type 0} → VaultState → Result T VaultFault → VaultState → Type 0
 Completes old (Ok _) new = Completed old new
 Completes old (Err _) new = Refused old new

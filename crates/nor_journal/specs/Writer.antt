@@ -20,7 +20,7 @@ pub record HasPut {V : Type 0} (state : V → VaultState) (writer : Writer V) (b
   pub hashed : Holds256 writer.hasher bytes
   pub held : (vault_seen state writer).telling ≡ true → (vault_seen state writer).bytes ≡ bytes
 
--- Holds if the content is valid, and exactly its header and its records were written to the vault.
+-- Holds if the content is valid, and exactly its header and its records were written (`HasPut`).
 pub record HasWritten {V : Type 0} (state : V → VaultState) (writer : Writer V) (content : Content) : Type 0 where
   pub is : IsContent content
   pub put : HasPut state writer (front content)

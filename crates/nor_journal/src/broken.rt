@@ -1,11 +1,11 @@
-//! A vault that refuses one call, for tests of sessions whose vault fails.
+//! A vault that refuses a chosen call, for tests of sessions whose vault fails.
 ghost use Rattle.std.specs.Prelude.{◌≡◌, ◌≢◌, ◌↔◌, ◌-◌, IsTrue, false, IsErr, IsErrAnd};
 ghost use Rattle.nor_journal.specs.Vault.{Puts, Seals, one_more_failure};
 ghost use Rattle.nor_journal.specs.BrokenVault.{inner_vault, calls_left, kept_of, Broke};
 
 use crate::vault::{Vault, VaultFault};
 
-/// A vault that passes calls on to an inner vault, but refuses one of them.
+/// A vault that passes calls on to an inner vault, but refuses the call that was chosen, if any.
 #[derive(Drop)]
 pub struct BrokenVault<V: Vault> {
     inner: V,
@@ -16,9 +16,9 @@ pub struct BrokenVault<V: Vault> {
 }
 
 impl<V: Vault> BrokenVault<V> {
-    /// Returns a vault over `inner` that refuses its `nth` call, or no call if `nth` is 0. Calls of `put` and `seal`
-    /// are counted together, from 1. A refused `put` first writes the first `kept` bytes of the piece to `inner`, or
-    /// all of a shorter piece.
+    /// Returns a vault over `inner` that refuses its `nth` call (none if `nth` is 0), and each call that `inner`
+    /// refuses. Calls of `put` and `seal` are counted together, from 1. If the `nth` call is a `put`, it first puts the
+    /// first `kept` bytes of the piece in `inner`, or all of a shorter piece.
     pub fn new(inner: V, nth: u64, kept: usize) -> BrokenVault<V>
         ensures state { ⟦<BrokenVault<V> as Vault>⟧.state result ≡ record (V.state inner) { failures = 0 } }
         ensures inner { inner_vault result ≡ inner }
@@ -46,7 +46,7 @@ impl<V: Vault> BrokenVault<V> {
         inner
     }
 
-    /// Returns the number of refusals, including those of the inner vault, modulo 2^64.
+    /// Returns the number of calls since `new` that this vault or the inner vault refused, modulo 2^64.
     pub fn failures(&self) -> u64
         ensures { result ≡ (⟦<BrokenVault<V> as Vault>⟧.state self.now).failures }
     {

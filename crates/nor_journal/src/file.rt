@@ -10,10 +10,10 @@ pub trait VaultFile {
     ghost use Rattle.std.specs.Io.{WritesAtMost};
     ghost use Rattle.nor_journal.specs.FileVault.{SyncsFile};
 
-    // The contents of the file, if known.
+    // The contents of the file, or `None` if contracts don't know them.
     ghost contents: { Self → Option (List ℕ) };
 
-    // The contents that the last successful sync made durable, if known.
+    // Directly after a successful `sync`, the durable contents, if known. No clause uses this value at other times.
     ghost synced: { Self → Option (List ℕ) };
 
     /// Appends a prefix of `piece`, and returns its length, which may be 0. If the call fails, known contents don't

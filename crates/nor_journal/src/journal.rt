@@ -43,7 +43,7 @@ impl<'a> Journal<'a> {
         ensures kept { (head : Content) (old : ℕ → ℕ) (saved : ℕ → Bool)
             → JournalSaves head old saved bytes.now
             → IsOkAnd result (λ journal. SameHeader head journal × Saves old saved journal) }
-        // No proper prefix of `bytes` is a journal.
+        // If `bytes` are a journal, no proper prefix of `bytes` is a journal.
         ensures whole { OnOk result ((c : Content) (n : ℕ) → IsContent c → take n bytes.now ≡ text c
             → length bytes.now ≤ n) }
         ensures fault { IfErr result (HasFault bytes.now) }
@@ -161,7 +161,8 @@ pub fn one_fault()
     ensures { (bytes : List ℕ) (f g : JournalFault) → HasFault bytes f → HasFault bytes g → f ≡ g }
 {}
 
-/// A law: `saved_in` finds `bytes` for a sector of a valid content if and only if a record has its number and `bytes`.
+/// A law: `saved_in` finds `bytes` for a sector in a valid content if and only if the content has a record with the
+/// sector's number and `bytes`.
 pub fn one_record()
     ensures { (c : Content) (sector : ℕ) (bytes : List ℕ) → IsContent c
         → saved_in c.saved sector ≡ Some bytes ↔ HasRecord c sector bytes }

@@ -70,7 +70,7 @@ pub fn record_bytes(number: u32, bytes: &[u8; SECTOR_LEN as usize]) -> [u8; RECO
     record
 }
 
-/// Returns the sector number and the bytes of the record with index `i`, all of which `records` must contain.
+/// Returns the sector number and the bytes of the record with index `i`. `records` must contain this whole record.
 pub fn record_at(records: &[u8], i: usize) -> (u32, &[u8])
     requires { 4100 * i + 4100 ≤ length records.now }
     ensures { record { number = result.0; bytes = result.1.now } ≡ sector_at records.now i }

@@ -23,14 +23,15 @@ impl fmt::Display for VaultFault {
 
 impl Error for VaultFault {}
 
-/// A sink that receives the bytes of a journal piece by piece, and is then sealed. The clauses say which bytes the
-/// vault holds only if it is faithful (`telling`).
+/// A sink that receives the bytes of a journal piece by piece, and is then sealed. The clauses say which bytes a
+/// faithful (`telling`) vault holds, but not which bytes any other vault holds.
 pub trait Vault {
     ghost use Rattle.nor_journal.specs.Vault.{VaultState, Puts, Seals};
 
     ghost state: { Self → VaultState };
 
-    /// Appends `piece` to the unsealed vault. If this fails, the vault accepted only the first `kept` bytes of `piece`.
+    /// Appends `piece` to the vault, which must be unsealed. If the call fails, the vault accepted the first bytes of
+    /// `piece`, possibly none or all. The error contains the number of these bytes (`kept`).
     fn put(&mut self, piece: &[u8]) -> Result<(), VaultFault>
         requires { (state self.old).sealed ≡ false }
         ensures { Puts (state self.old) piece.now result (state self.new) };

@@ -15,8 +15,8 @@ use crate::vault::{Vault, VaultFault};
 use nor_geometry::SECTOR_LEN;
 use sha2::{Digest, Sha256};
 
-/// A writer of a journal of format 2: first the header, then the sectors in ascending order, then the end. The writer
-/// borrows the vault until the journal is complete. A call fails only if the vault refuses a piece or the seal.
+/// A writer of a journal of format 2: first the header, then the sectors in ascending order, then the end mark and the
+/// digest. The writer borrows the vault. A call fails only if the vault refuses a piece or the seal.
 #[derive(Drop)]
 pub struct Writer<'a, V: Vault> {
     vault: &'a mut V,
@@ -162,8 +162,8 @@ impl<'a, V: Vault> Writer<'a, V> {
         Ok(())
     }
 
-    /// Writes the header, for which `start` describes the arguments. Must be called once, before any sector is written.
-    /// If the call fails, a faithful vault that was empty holds a prefix of the header.
+    /// Writes the header. The arguments are those of `start`, except `vault`. For a valid journal, call `header` once,
+    /// before any sector is written. If the call fails, a faithful vault that was empty holds a prefix of the header.
     pub fn header(
         &mut self,
         id: [u8; 3],
@@ -186,8 +186,8 @@ impl<'a, V: Vault> Writer<'a, V> {
     }
 
     /// Appends a record with a sector's number and its 4,096 bytes. For a valid journal, `number` must be greater than
-    /// the numbers before it, and less than the chip's number of sectors. If this fails after a header and ascending
-    /// sectors, a faithful vault holds a prefix of the journal.
+    /// the numbers before it, and less than the chip's number of sectors. If the call fails after a header and
+    /// ascending sectors of the chip, a faithful vault has a prefix of the header and all records, including this one.
     pub fn add(&mut self, number: u32, bytes: &[u8; SECTOR_LEN as usize]) -> Result<(), VaultFault>
         requires { (vault_seen V.state self.old).sealed ≡ false }
         ensures same_vault { (vault_of self.new).ghost_name ≡ (vault_of self.old).ghost_name }
@@ -204,8 +204,9 @@ impl<'a, V: Vault> Writer<'a, V> {
         self.piece(&record_bytes(number, bytes))
     }
 
-    /// Writes the end mark and the digest, and seals the vault. After a header and ascending sectors, a faithful vault
-    /// then holds exactly the journal or, if the call fails, a prefix of the journal, which may be all of it.
+    /// Writes the end mark and the digest, and seals the vault. After a header and ascending sectors of the chip, a
+    /// faithful vault then holds exactly the journal or, if the call fails, a prefix of the journal, which may be all
+    /// of it.
     pub fn end(self) -> Result<(), VaultFault>
         requires { (vault_seen V.state self).sealed ≡ false }
         ensures vault { Completes (vault_seen V.state self.entry) result (V.state self.exit.0.now) }

@@ -1,4 +1,5 @@
--- No set can have the addresses of more than 64 disjoint spans, because no shorter list of such spans has them.
+-- If more than 64 spans neither overlap nor are adjacent, no set has their addresses, because no shorter list of such
+-- spans has the same addresses.
 use Rattle.std.proofs.Common.{◌≡◌, ℕ, ◌+◌, ◌<◌, ◌≤◌, true, ◌&&◌, ltb, List, [], ◌∷◌, length, inl, inr, arith}
 use Rattle.std.proofs.lemmas.Bool.{false≢true, or_cases}
 use Rattle.std.proofs.lemmas.Bool.Decides.{nat_tests}

@@ -32,7 +32,8 @@ join a b = record { first = min a.first b.first; last = max a.last b.last }
 abbrev pub EndBelow : (done : ℕ) → List Span → Type 0
 EndBelow done spans = (address : ℕ) → done ≤ address → contains spans address ≡ false
 
--- Holds if `next` lies in `spans`, reaches `done`, and begins at or below each address of `spans` from `done` on.
+-- Holds if `next` isn't empty and lies in `spans`, reaches `done`, and begins at or below each address of `spans` from
+-- `done` on.
 pub record IsNext (done : ℕ) (spans : List Span) (next : Span) : Type 0 where
   pub forward : next.first ≤ next.last
   pub reaches : done ≤ next.last

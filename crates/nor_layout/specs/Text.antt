@@ -8,7 +8,7 @@ use Rattle.nor_layout.specs.declared.fault.LayoutFault.{LayoutFault}
 use Rattle.nor_layout.specs.declared.fault.LayoutFault.TheVariants.{InLine, TooMany, Memory}
 use Rattle.nor_layout.specs.Line.{line_says}
 
--- The lines of a text, without their line feeds. The bytes after the last line feed, even none, are one more line.
+-- The lines of a text, without their line feeds. The bytes after the last line feed are one more line, even if empty.
 abbrev pub lines_of : List ℕ → List (List ℕ)
 lines_of text = slice_split (λ b. b == 10) text
 

@@ -37,7 +37,7 @@ impl fmt::Display for LineFault {
 
 impl Error for LineFault {}
 
-/// A fault of a layout text, or of the names given to `Layout::include`.
+/// A fault of a layout text or of the names given to `Layout::include`, or `Memory` if an allocation failed.
 #[derive(Clone, Copy, Debug, PartialEq, Eq)]
 pub enum LayoutFault {
     /// A line has a fault. Lines are counted from 1, including empty lines.
@@ -62,7 +62,7 @@ impl LayoutFault {
         }
     }
 
-    /// Returns the number of the line with the fault, counted from 1, or `None` if the fault isn't in one line.
+    /// Returns the number of the line with the fault, counted from 1, or `None` if the fault isn't `InLine`.
     pub fn line(self) -> Option<usize>
         ensures { result ≡ line_of_fault self }
     {

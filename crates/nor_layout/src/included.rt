@@ -60,7 +60,7 @@ pub fn fill_excluded(included: Option<&Ranges>, sector: u32, bytes: &mut [u8], o
     }
 }
 
-/// Sets the bytes of the sector whose addresses aren't included to FFh. `bytes` must have 4,096 bytes.
+/// Sets the bytes at those addresses of `sector` that aren't included to FFh. `bytes` must have 4,096 bytes.
 pub fn blank_excluded(included: Option<&Ranges>, sector: u32, bytes: &mut [u8])
     requires long { length bytes.old ≡ 4096 }
     ensures { (i : ℕ) → i < 4096 → slice_index bytes.new i

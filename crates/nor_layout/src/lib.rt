@@ -1,5 +1,5 @@
-//! Layout files, which name regions of a flash chip, and the sets of addresses that a request includes: those of the
-//! named regions or, if the request has no ranges, the whole chip.
+//! Layout files, which name regions of a flash chip, and the sets of addresses that a request includes: those in its
+//! ranges (of named regions, for example) or, if the request has no ranges, the whole chip.
 //!
 //! ```rust
 //! use nor_layout::{Layout, LayoutFault, Ranges, Span};

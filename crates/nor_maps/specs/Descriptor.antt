@@ -46,7 +46,8 @@ base_of entry = entry % 2 ^ 15
 abbrev pub limit_of : (entry : ℕ) → ℕ
 limit_of entry = entry / 2 ^ 16 % 2 ^ 15
 
--- True if an entry describes no region: its base is above its limit, it is FFFFFFFFh, or it is 0 and not entry 0.
+-- True if an entry describes no region: its base is above its limit, or its value is FFFFFFFFh, or its value is 0 and
+-- its index isn't 0.
 abbrev pub is_unused : (index entry : ℕ) → Bool
 is_unused index entry =
     nat_lt (limit_of entry) (base_of entry) || entry == 2 ^ 32 - 1 || (entry == 0 && not (index == 0))
@@ -75,7 +76,7 @@ abbrev pub descriptor_says : (size : ℕ) → (image : List ℕ) → Result (Lis
 descriptor_says size image =
     if nat_lt (length image) 4096 then Err Short else entries_say size image (signature_at image)
 
--- Holds if reading a descriptor may have this fault: none about names, or about too many regions (it has at most 16).
+-- Holds if reading a descriptor may have this fault: any fault except those about a name and about too many regions.
 abbrev pub IsDescriptorFault : MapFault → Type 0
 IsDescriptorFault (InRecord index Name) = ⊥
 IsDescriptorFault (InRecord index Twice) = ⊥

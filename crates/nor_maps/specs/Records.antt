@@ -18,7 +18,7 @@ abbrev pub with_found : (size : ℕ) → List Region → (number : ℕ) → Regi
 with_found size regions number region =
     if nat_lt region.end size then in_record number (with_region regions region) else Err (Outside number)
 
--- A function that reads a record: it returns the earlier regions and then the record's, if any, or the record's fault.
+-- A function that reads a record: it returns the earlier regions and then the region of the record, if any, or a fault.
 abbrev pub Reading : Type 0
 Reading = List Region → ℕ → List ℕ → Result (List Region) MapFault
 
@@ -50,7 +50,7 @@ ReadsTable said asks (Ok regions) = said ≡ Ok regions
 ReadsTable said asks (Err (InRecord number Memory)) = asks number
 ReadsTable said asks (Err fault) = said ≡ Err fault
 
--- Holds if reading a record had the result `said` (the regions `new`), or memory ran out before a region was added.
+-- Holds if reading a record may have this result: the defined one (`said`), or `Memory` if the record adds a region.
 abbrev pub AddsRecord : (old new : List Region) → (number : ℕ) → Result ⊤ MapFault
     → (said : Result (List Region) MapFault) → Type 0
 AddsRecord old new number (Ok x) said = said ≡ Ok new

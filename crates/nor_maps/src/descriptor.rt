@@ -117,6 +117,7 @@ fn read_entries(alloc: Global, table: &[u8], count: u16, size: u32) -> Result<La
 /// programming guides of Intel's chipsets; flashrom's manual page, `--ifd`). The regions have flashrom's names: `fd`,
 /// `bios`, `me`, `gbe`, `pd`, `reg5`, `bios2`, `reg7`, `ec`, `reg9`, `ie`, `10gbe`, and `reg12` to `reg15`. If 16
 /// entries fit before the masters' section, the table has 16. Otherwise it has the stated number, but at least five.
+/// Unused entries add no region.
 ///
 /// Returns `Short` if there are fewer than 4,096 bytes or the table runs past the descriptor, and `Missing` if the
 /// signature is at neither 10h nor 0. Otherwise returns the fault of the first entry that has one: `Outside`, or

@@ -13,7 +13,8 @@ use std::fmt;
 pub enum MapFault {
     /// The image has no flash descriptor, or no FMAP.
     Missing,
-    /// The image ends before the descriptor or the FMAP ends, or the region table runs past the end of the descriptor.
+    /// For a descriptor: the image has fewer than 4,096 bytes, or the region table runs past the end of the descriptor.
+    /// For an FMAP: the image ends before the last area does.
     Short,
     /// A region reaches past the end of the chip.
     Outside { record: u16 },

@@ -1,4 +1,4 @@
-//! Reads numbers and names in an image, and adds the region of a record to a layout.
+//! Reads numbers and names in a flash descriptor or FMAP, and adds the region of an entry or area to a layout.
 
 ghost use Rattle.std.specs.Prelude.{◌≡◌, ◌≤◌, ◌+◌, drop, length};
 ghost use Rattle.byteorder.specs.Endian.{little_from};

@@ -8,7 +8,8 @@ pub record IsSectorRange (size start len : ℕ) : Type 0 where
   pub not_empty : 0 < len
   pub within : start + len ≤ size
 
--- Holds for a program or a read at an address below `size`, an erase of whole sectors of the chip, and other commands.
+-- Holds for a program or a read of data or SFDP if its address is below `size`, for an erase if it covers one or more
+-- whole sectors within `size` bytes, and for every other command.
 abbrev pub HasValidAddress : ℕ → Command → Type 0
 HasValidAddress size (Program at) = at < size
 HasValidAddress size (ReadData at) = at < size

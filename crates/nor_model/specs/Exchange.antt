@@ -1,4 +1,4 @@
--- A transaction over a bus, with its reply.
+-- A transaction over a bus, with its reply or stop.
 use Rattle.std.specs.Prelude.{ℕ, List, Option}
 use Rattle.std.specs.Coded.{Coded, code_by, coded×, coded_list, coded_option, coded_ℕ}
 use Rattle.std.proofs.Common.{refl}

@@ -1,4 +1,4 @@
--- The history of a bus: its transactions, each with its reply, the last one first.
+-- The history of a bus: its transactions, each with its reply or stop, the last one first.
 use Rattle.std.specs.Prelude.{◌≡◌, ◌+◌, ◌*◌, ◌/◌, ◌%◌, ◌==◌, ◌&&◌, ◌++◌, ℕ, Bool, true, false, List, [], ◌∷◌, Option, Some, None, Result, Ok, Err, if◌then◌else◌}
 use Rattle.nor_model.specs.Exchange.{Exchange}
 use Rattle.nor_model.specs.declared.bus.Stopped.{Stopped}

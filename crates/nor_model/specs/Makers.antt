@@ -15,7 +15,8 @@ pub record HasParts (with_id : List ℕ) (with_size : ℕ) (with_kinds : Kinds) 
   pub unique : config.unique ≡ replicate 8 0
   pub sfdp : config.sfdp ≡ with_sfdp ++ replicate (256 - length with_sfdp) 255
 
--- Holds if the configuration has these properties. Its SFDP bytes name all erase types, even if `with_kinds` lacks one.
+-- Holds if the configuration has these properties and a unique ID of zeros. Its SFDP bytes describe the erase types
+-- 20h, 52h and D8h, even if `with_kinds` lacks one.
 abbrev pub IsEmulatedWith : (with_id : List ℕ) → (with_size : ℕ) → Kinds → (with_scheme : Bool) → Config → Type 0
 IsEmulatedWith with_id with_size with_kinds with_scheme =
     HasParts with_id with_size with_kinds with_scheme (sfdp_with (8 * with_size - 1))

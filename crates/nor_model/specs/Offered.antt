@@ -5,7 +5,7 @@ use Rattle.nor_model.specs.Offer.{IsLeastCode}
 abbrev pub size_of : Offered → ℕ
 size_of walk = walk.size
 
--- The first code that the iterator has not passed.
+-- The first code that the iterator has not passed, or 64 if it has passed all codes.
 abbrev pub next_code : Offered → ℕ
 next_code walk = walk.next
 

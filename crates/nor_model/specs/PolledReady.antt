@@ -1,4 +1,5 @@
--- Whether the last poll showed that the chip is ready. (W25Q64FV datasheet, Read Status Register-1.)
+-- Whether the last poll that received a byte showed that the chip is ready. (W25Q64FV datasheet, Read Status
+-- Register-1.)
 use Rattle.std.specs.Prelude.{◌-◌, ◌%◌, ◌==◌, ◌&&◌, ℕ, Bool, false, List, [], ◌∷◌, Option, Some, None, length, nat_lt, slice_index, if◌then◌else◌}
 use Rattle.nor_model.specs.Exchange.{Exchange}
 

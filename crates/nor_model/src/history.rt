@@ -6,8 +6,8 @@ ghost use Rattle.nor_model.specs.Exchange.{Exchange, exchanges_code, numbers_cod
 use crate::Stopped;
 use std::marker::Model;
 
-/// The history of a bus: the transactions over it with their replies, and the allowances that were set, the last one
-/// first. Only contracts can read it: it takes no memory, and its functions do nothing at run time.
+/// The history of a bus: its transactions, each with its reply or stop, and the allowances that were set. Both lists
+/// begin with the last one. Only contracts can read a history. It takes no memory and does nothing at run time.
 #[derive(Drop)]
 pub struct History {
     pub ghost exchanges: { List Exchange } by { exchanges_code },

@@ -1,4 +1,4 @@
-//! The opcodes of the commands that this project sends, except erases. (W25Q64FV datasheet, instruction set table.)
+//! The opcodes of the commands that the engine sends, except erases. (W25Q64FV datasheet, instruction set table.)
 
 pub const WRITE_STATUS: u8 = 0x01;
 

@@ -34,8 +34,8 @@ bitflag_items! {
         const LB1 = 0x08;
         const LB2 = 0x10;
         const LB3 = 0x20;
-        /// If set, the addresses outside the selected range are protected instead of those inside it. A value of the
-        /// protection bits that the datasheets don't define protects every address.
+        /// If set, the addresses outside the selected range are protected instead of those inside it. In the model, a
+        /// value of the protection bits that the datasheets don't define protects every address.
         const CMP = 0x40;
         const SUS = 0x80;
     }

@@ -1,5 +1,5 @@
--- No list of erases that covers the set is shorter than the planned one. The planned erases begin at different sectors,
--- and each covering list has an erase that begins at each of these sectors.
+-- No list of erases that covers a set on a chip (`IsPlannable`) is shorter than the planned one. The planned erases
+-- begin at different sectors, and each covering list has an erase that begins at each of these sectors.
 use Rattle.std.proofs.Common.{ℕ, ◌≡◌, ◌<◌, ◌≤◌, ◌+◌, ◌-◌, ◌%◌, ◌&&◌, Bool, true, false, cond, nat_eq, List, length, map, filter, get_or, refl, sym, ap, ◌∙◌, arith}
 use Rattle.std.specs.List.{range_with_len, list_any, IsDistinct}
 use Rattle.std.proofs.lemmas.Cmp.{nat_eq_equiv}

@@ -9,7 +9,7 @@ use Rattle.std.proofs.lemmas.Nat.Bits.{bit_at-zero, bit_at-trailing_zeros, bit_a
 use Rattle.nor_plan.specs.Mask.{IsMask}
 use Rattle.std.proofs.lemmas.Simd.{tops_compared, mask_l-lt, mask_l-mod, bit_mask_l, length-zip2, get_or-zip2}
 
--- The mask of the comparison `t`: each lane becomes all ones or 0, and the mask has the top bit of each lane.
+-- The mask whose bit `i` is the top bit of a lane that is 255 if `t` is true for byte `i` of both lists, otherwise 0.
 abbrev pub compared : (ℕ → ℕ → Bool) → List ℕ → List ℕ → ℕ
 compared t xs ys = mask_l (map (top 7) (zip2 (λ a b. cond (t a b) (2 ^ 8 - 1) 0) xs ys)) % 2 ^ 64
 

@@ -1,4 +1,4 @@
--- A plan that `Plan::of` returns for two slices is also the plan of two contents that have the bytes of these slices.
+-- The plan for two slices is also the plan (`IsPlan`) for two functions from positions to the bytes of these slices.
 use Rattle.std.proofs.Common.{ℕ, ◌≡◌, ◌<◌, Bool, true, false, List, length, get_or, bit_and, sym, ap, ◌∙◌, arith}
 use Rattle.std.specs.Prelude.{MatchBool}
 use Rattle.nor_plan.specs.declared.plan.SectorPlan.{SectorPlan}

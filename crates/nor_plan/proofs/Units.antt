@@ -53,8 +53,8 @@ first_of-holds total Block64 s below = (omega arith, omega arith)
 first_of-holds total Chip s below = (omega arith, omega arith)
 
 module _ (whole : Bool) (kinds : Kinds) (set : ℕ → Bool) where
-  -- True for a sector `s` of the set if the aligned block of this kind with `s` may be erased: the chip has its erase
-  -- type, and the block lies in the set.
+  -- For a sector `s` of `set`: true if the chip supports erase blocks of the given kind, and the aligned block of this
+  -- kind with `s` lies in `set`. For the kind `Chip`: true if `whole` is true.
   abbrev pub is_fit : ℕ → EraseBlock → Bool
   is_fit s Sector = true
   is_fit s Block32 = kinds.k32 && holds_block set 8 s

@@ -13,8 +13,8 @@ holds_run set from count = list_all set (range_with_len from count)
 abbrev pub holds_block : (ℕ → Bool) → (count sector : ℕ) → Bool
 holds_block set count sector = holds_run set (sector - sector % count) count
 
--- The kind of erase block for `sector`, which is in `set`: the whole chip if `whole` is true, otherwise the largest
--- kind (64, 32 or 4 KiB) that the chip has, and whose block with `sector` lies in the set.
+-- The kind of erase block that is planned for a `sector` of `set`: the whole chip if `whole` is true. Otherwise the
+-- largest kind (64, 32 or 4 KiB) that the chip supports and whose aligned block with `sector` lies in `set`.
 unfoldable pub planned_block : Bool → Kinds → (ℕ → Bool) → ℕ → EraseBlock
 planned_block whole kinds set sector =
     if whole then Chip
@@ -32,7 +32,8 @@ unfoldable pub planned_from : Bool → Kinds → (ℕ → Bool) → ℕ → List
 planned_from whole kinds set from =
     map (erase_at whole kinds set) (filter (begins_block whole kinds set) (range_with_len from (4096 - from)))
 
--- Holds if `head` is the first planned erase from sector `from` on, with the sector where the rest begins, or `None`.
+-- Holds if `head` is the first planned erase from sector `from` on and a sector from which the others are planned, or
+-- `None` if no erase is planned from `from` on.
 abbrev pub HeadsPlanned : Bool → Kinds → (ℕ → Bool) → ℕ → Option (Erase × ℕ) → Type 0
 HeadsPlanned whole kinds set from head =
     MatchOption head (planned_from whole kinds set from ≡ [])

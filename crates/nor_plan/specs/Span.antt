@@ -31,7 +31,8 @@ spans_from old target page = spans_in old target page (page_count old - page)
 abbrev pub spans_of : (old target : List ℕ) → List PageSpan
 spans_of old target = spans_from old target 0
 
--- Holds if `head` is the first span from the page `page` on, with the page where the rest begins, or `None`.
+-- Holds if `head` is the first span from `page` on and a page from which the other spans follow, or `None` if no page
+-- from `page` on has a span.
 abbrev pub HeadsSpans : (old target : List ℕ) → ℕ → Option (PageSpan × ℕ) → Type 0
 HeadsSpans old target page head =
     MatchOption head (spans_from old target page ≡ [])

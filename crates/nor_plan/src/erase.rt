@@ -21,8 +21,8 @@ pub use iter::Erases;
 
 /// Returns the fewest erases that together erase exactly the sectors of `set`, on a chip of `size` bytes with the erase
 /// types `kinds`. All sectors of `set` must lie on the chip. If the set contains all sectors of the chip, the result is
-/// one chip erase (C7h). Otherwise the erases are in ascending order: D8h for each aligned 64 KiB block in the set, 52h
-/// for each such 32 KiB block of the rest, if the chip has these erase types, and 20h for each other sector.
+/// one chip erase (C7h). Otherwise the erases are in ascending order: D8h (if in `kinds`) for each aligned 64 KiB block
+/// in the set, 52h (if in `kinds`) for each aligned 32 KiB block of the other sectors, and 20h for each sector left.
 pub fn erases(set: &SectorSet, kinds: Kinds, size: u32) -> Erases
     requires { LiesBelow set.now (size / 4096) }
     ensures covers { Covers kinds (size / 4096) (erases_left result) (has set.now) }
@@ -37,8 +37,8 @@ pub fn erases(set: &SectorSet, kinds: Kinds, size: u32) -> Erases
     Erases::new(*set, kinds, whole)
 }
 
-/// States that `fewest_erases` is the length of a shortest list of erases that together erase exactly the sectors of a
-/// set on a chip of at most 4,096 sectors.
+/// States that `fewest_erases` is the length of a shortest list of erases that the chip supports and that together
+/// erase exactly the sectors of a set, if all sectors of the set lie on the chip, which has at most 4,096 sectors.
 #[tactic(auto, using(crate::proofs::Fewest::fewest_least))]
 pub fn fewest_is_least()
     ensures { (kinds : Kinds) (total : ℕ) (set : ℕ → Bool) → total ≤ 4096

@@ -19,7 +19,7 @@ pub fn differs(a: &[u8], b: &[u8]) -> bool
     blocks_differ(a, b) || first_from(a, b, a.len() / BLOCK * BLOCK).is_some()
 }
 
-// Combines the differences of all blocks and tests them at the end, which for equal slices avoids a test per block.
+// Compares the whole 256-byte blocks. Tests the combined differences once, at the end, instead of once per block.
 fn blocks_differ(a: &[u8], b: &[u8]) -> bool
     requires { length a.now ≡ length b.now }
     ensures { MatchBool result (SomeDiffer a.now b.now) (AgreeWithin a.now b.now 0 (length a.now / 256 * 256)) }
@@ -31,7 +31,7 @@ fn blocks_differ(a: &[u8], b: &[u8]) -> bool
     changes.reduce_or() != 0
 }
 
-/// Returns the positions of the first and the last byte that differs, or `None`. The slices must have equal lengths.
+/// Returns the positions of the first and last differing byte, or `None` if no byte differs. The lengths must be equal.
 pub fn bounds(old: &[u8], target: &[u8]) -> Option<(usize, usize)>
     requires { length old.now ≡ length target.now }
     ensures none { IfNone result (AllAgree old.now target.now) }

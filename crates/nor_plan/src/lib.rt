@@ -1,5 +1,5 @@
-//! Plans how to change sectors: whether a sector must be written or erased, which span of each of its pages must be
-//! programmed, and which erases are the fewest for a set of sectors.
+//! Plans how to change sectors: whether a sector must be written or erased, which span of each page that differs must
+//! be programmed, and which erases are the fewest for a set of sectors.
 //!
 //! ```rust
 //! use nor_plan::{PageSpan, raises, spans};

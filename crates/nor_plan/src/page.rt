@@ -1,4 +1,4 @@
-//! Finds the spans of a sector. One page program writes each span.
+//! Finds the spans of a sector: for each page that differs, the bytes that one page program writes.
 
 ghost use Rattle.std.specs.Prelude.{◌≡◌, ◌*◌, ◌<◌, length};
 ghost use Rattle.nor_plan.specs.Span.{page_span, spans_of, HeadsSpans};
@@ -19,8 +19,8 @@ pub struct PageSpan {
     pub last: usize,
 }
 
-/// Returns the spans of two slices of equal length, in ascending order: for each page of 256 bytes that differs, from
-/// its first to its last differing byte.
+/// Returns the spans of two slices of equal length, in ascending order: for each page of 256 bytes (the last may be
+/// shorter) that differs, from its first to its last differing byte.
 pub fn spans<'a>(old: &'a [u8], target: &'a [u8]) -> Spans<'a>
     requires { length old.now ≡ length target.now }
     ensures pages { spans_left result ≡ spans_of old.now target.now }

@@ -11,7 +11,8 @@ use Rattle.nor_probe.specs.Known.{part_in, pointer_in, sfdp_part}
 use Rattle.nor_probe.specs.Sfdp.{sfdp_says}
 use Rattle.nor_probe.specs.Table.{part_for}
 
--- Holds if the last three transactions read the SFDP header, the first parameter header, and that header's table.
+-- Holds if the last three transactions read the SFDP header, the first parameter header, and the table at the address
+-- that the first parameter header contains.
 pub record RepliedSfdp (history : List Exchange) (header first table : List ℕ) : Type 0 where
   pub before : List Exchange
   pub at_header : List Exchange
@@ -20,7 +21,8 @@ pub record RepliedSfdp (history : List Exchange) (header first table : List ℕ)
   pub read_first : Answered (names 0x5A 8) at_header at_first first
   pub read_table : Answered (names 0x5A (pointer_in first)) at_first history table
 
--- Holds if three transactions in a row read SFDP bytes that describe the size and erase types of `part`.
+-- Holds if three transactions in a row read SFDP bytes that describe the size and erase types of `part`, which has the
+-- name `Sfdp` and no block protection.
 pub record IsTypeBySfdp (history : List Exchange) (part : Part) : Type 0 where
   pub read : List Exchange
   pub later : Continues read history

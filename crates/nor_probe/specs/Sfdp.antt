@@ -39,7 +39,7 @@ is_chip_size_in_bits bits = bits % 8 == 0 && is_chip_size (bits / 8)
 abbrev pub is_erase_type_at : (exponent opcode : ℕ) → (table : List ℕ) → (at : ℕ) → Bool
 is_erase_type_at exponent opcode table at = slice_index table at == exponent && slice_index table (at + 1) == opcode
 
--- True if one of the four erase types in double words 8 and 9 has this exponent of its size and this opcode.
+-- True if one of the four erase types in double words 8 and 9 erases 2 ^ `exponent` bytes with this opcode.
 unfoldable pub has_erase_type : (exponent opcode : ℕ) → (table : List ℕ) → Bool
 has_erase_type exponent opcode table =
     is_erase_type_at exponent opcode table 28 || is_erase_type_at exponent opcode table 30

@@ -33,7 +33,8 @@ chips =
     ∷ winbond W25Q128FV (0xEF ∷ 0x40 ∷ 0x18 ∷ []) 16777216
     ∷ []
 
--- The further rows. Their chips have the instructions and the block protection of the chips of the table.
+-- The further rows, which apply only on a bus with further types. Their chips take the commands that the engine sends,
+-- and have the block protection of the chips in `chips`.
 abbrev pub further_chips : List Part
 further_chips =
     winbond W25Q32FV (0xEF ∷ 0x40 ∷ 0x16 ∷ []) 4194304
@@ -55,7 +56,8 @@ abbrev pub row_or : (other : Option Part) → Option Part → Option Part
 row_or other (Some part) = Some part
 row_or other None = other
 
--- The row that applies to a chip with this ID: that of the table or, if the bus has further types, the further row.
+-- The row that applies to a chip with this ID: the row of `chips` or, if `chips` has none and `further` is true, the
+-- further row.
 abbrev pub part_for : (further : Bool) → (of_id : List ℕ) → Option Part
 part_for false of_id = part_with_id of_id
 part_for true of_id = row_or (further_with_id of_id) (part_with_id of_id)

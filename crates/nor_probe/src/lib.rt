@@ -1,5 +1,5 @@
-//! Identifies the chip on a bus: by a table of IDs or, if the ID isn't in the table, by the chip's SFDP (JESD216). The
-//! crate sends only polls and reads of the ID and SFDP.
+//! Identifies the chip on a bus: by the row that applies to its ID or, if no row applies, by the chip's SFDP (JESD216).
+//! The crate sends only polls and reads of the ID and SFDP.
 //!
 //! ```rust
 //! use nor_chip::{Config, Delays, Meter, SimBus};

@@ -1,4 +1,4 @@
-//! SFDP (JESD216): decodes the size of a chip and its erase types.
+//! SFDP (JESD216): decodes the size of a chip and those of its erase types that this project uses.
 
 ghost use Rattle.std.specs.Prelude.{◌≡◌, ◌<◌, ◌≤◌, ◌+◌, ◌*◌, ◌-◌, ◌/◌, true, IsTrue};
 ghost use Rattle.std.specs.Prelude.{IfSome, IfOk};
@@ -13,7 +13,7 @@ use byteorder::{ByteOrder, LittleEndian};
 use nor_model::Kinds;
 use thiserror::Error;
 
-/// The size and the erase types that an accepted SFDP describes.
+/// The size, and the erase types of `Kinds`, that an accepted SFDP describes.
 #[derive(Clone, Copy, Debug, PartialEq, Eq)]
 pub struct Geometry {
     /// The size in bytes. `read_sfdp` returns a power of two from 65,536 to 16,777,216.
@@ -69,9 +69,9 @@ const LEAST_BITS: u32 = 1 << 19;
 // The binary logarithm of the largest supported size in bits: 16 MiB has 2^27 bits.
 const MOST_EXPONENT: u32 = 27;
 
-/// Decodes the SFDP of a chip (JESD216). Returns the chip's size and erase types, or the first fault in the order of
-/// `SfdpFault`. `header` has the bytes of the SFDP at 0 to 7, `first` those at 8 to 15, and `table` the 36 bytes at the
-/// address that `first` contains.
+/// Decodes the SFDP of a chip (JESD216). Returns the chip's `Geometry`, or the first fault in the order of `SfdpFault`.
+/// `header` has the bytes of the SFDP at 0 to 7, `first` those at 8 to 15, and `table` the 36 bytes at the address that
+/// `first` contains.
 pub fn read_sfdp(header: &[u8; 8], first: &[u8; 8], table: &[u8; 36]) -> Result<Geometry, SfdpFault>
     ensures says { result ≡ sfdp_says header.now first.now table.now }
     ensures sized { IfOk result (λ geometry. is_chip_size geometry.size ≡ true) }

@@ -12,7 +12,7 @@ use nor_request::{Refusal, Report};
 /// Waits until the chip is ready, and identifies it by its ID or SFDP. Sends at most 65,540 transactions on a punctual
 /// bus.
 ///
-/// Returns error 1 (no chip), 2 (unknown chip), 3 (its name isn't `named`, if given), 12 (the bus stopped) or 13 with
+/// Returns error 1 (no chip), 2 (unknown chip), 3 (the chip's name isn't `named`), 12 (the bus stopped) or 13 with
 /// address 0 (the chip stayed busy; not on a well-behaved bus).
 pub fn find<B: Bus>(bus: &mut B, named: Option<ChipName>) -> Result<Probed, Refusal>
     ensures leaves { OnlyReads most_probe (B.state bus.old) (B.state bus.new) }

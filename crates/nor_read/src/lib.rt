@@ -18,7 +18,7 @@
 //! ```
 //!
 //! `specs/Reading.antt`, `specs/Verifying.antt` and `specs/Protecting.antt` define what each call promises and what its
-//! own errors mean, and `specs/Finding.antt` what the errors mean that all calls share.
+//! own errors mean. `specs/Finding.antt` defines the meaning of the errors that all calls share.
 #![tactic(auto)]
 
 mod finding;

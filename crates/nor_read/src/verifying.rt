@@ -110,7 +110,8 @@ fn compare_part<B: Bus>(
     Ok(Compared { first, reads: 1 })
 }
 
-// Returns the first included address at which `bytes` and the image differ. Overwrites the bytes at excluded addresses.
+// Returns the sector's first included address, if any, at which `bytes` and the image differ. Overwrites the bytes at
+// excluded addresses.
 fn first_other(
     image: &[u8],
     included: Option<&Ranges>,

@@ -9,7 +9,7 @@ use Rattle.nor_probe.specs.Found.{ProbeErrors}
 use Rattle.nor_request.specs.declared.refusal.Refusal.{Refusal}
 use Rattle.nor_request.specs.declared.refusal.Refusal.TheVariants.{NoChip, UnknownChip, OtherName, Stopped, Timeout, Mismatch}
 
--- Holds if identification, which needs at most `most` transactions, may have failed with this error.
+-- Holds if an identification of at most `most` transactions may have failed with the given error.
 abbrev pub IdentificationErrors : (most : ℕ) → Option ChipName → (old new : BusState) → Refusal → Type 0
 IdentificationErrors most named old new NoChip = old.honest ≡ true → ProbeErrors named old new Probes.NoChip
 IdentificationErrors most named old new (UnknownChip fault) =

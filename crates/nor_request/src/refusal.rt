@@ -10,12 +10,13 @@ use nor_probe::{ProbeFault, SfdpFault};
 use std::error::Error;
 use std::fmt;
 
-/// The error of a failed call. A session returns the lowest of errors 1 to 10 that applies if none of 11 to 13 occurs.
+/// The error of a failed call. On a modelled bus, if none of errors 11 to 13 occurs, a session returns the lowest of
+/// errors 1 to 10 that applies, if any.
 #[derive(Clone, Copy, Debug, PartialEq, Eq)]
 pub enum Refusal {
     /// 1: the ID reads `FF FF FF` or `00 00 00`, as it does if nothing drives the bus.
     NoChip,
-    /// 2: no row applies to the ID, and the chip's SFDP is refused for the given reason.
+    /// 2: no row of the table of chips applies to the ID, and the chip's SFDP is refused for the given reason.
     UnknownChip(SfdpFault),
     /// 3: the name of the chip isn't the requested one.
     OtherName,
@@ -23,11 +24,11 @@ pub enum Refusal {
     ImageSize { chip: u32, image: usize },
     /// 5: an included address isn't on the chip.
     RegionOutside,
-    /// 6: the chip has no block protection, which a protection range and `wp_status` (nor_read) need.
+    /// 6: the chip has no block protection, but the call needs block protection.
     NoProtection,
     /// 7: the chip has block protection, and the datasheets don't define which range its protection bits select.
     UndefinedProtection,
-    /// 8: no value of the protection bits that the datasheets define protects exactly the requested range.
+    /// 8: no value that the datasheets define for the protection bits protects exactly the requested range.
     RangeNotOffered,
     /// 9: the status registers must be written, but SRP0 or SRP1 is set, so they count as locked.
     StatusLocked,
@@ -37,7 +38,7 @@ pub enum Refusal {
     Vault,
     /// 12: the bus stopped.
     Stopped,
-    /// 13: 65,536 polls in a row showed BUSY. `address` is the one in the command before them, or 0 if there is none.
+    /// 13: 65,536 polls in a row showed BUSY. `address` is that of the operation before them (0 if there is none).
     Timeout { address: u32 },
     /// 14: bytes that were read differ from the expected ones. `address` is the first address at which they differ.
     Mismatch { address: u32 },
@@ -45,7 +46,7 @@ pub enum Refusal {
     BadJournal(JournalFault),
     /// 16: the chip's ID or size differs from the journal's.
     OtherChip,
-    /// 17: a non-volatile status bit, except protection bits of a chip that has them, differs from the journal's.
+    /// 17: a non-volatile status bit differs from the journal's. (Protection bits count only without block protection.)
     StatusDiffers,
     /// 18: memory ran out.
     Memory,
@@ -93,7 +94,7 @@ impl Refusal {
     }
 }
 
-// `Display` is implemented by hand, because a derived `Display` has no contract.
+// `Display` is implemented by hand, because a `Display` made by `derive(Error)` has no contract.
 impl fmt::Display for Refusal {
     ghost use Rattle.nor_request.specs.Texts.{refusal_text};
 

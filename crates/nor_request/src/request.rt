@@ -17,7 +17,7 @@ pub enum What {
     WpRange { start: u32, len: u32 },
 }
 
-/// A request for a session. A new one accepts any chip, includes all addresses, and neither unlocks nor verifies.
+/// A request for a session. A new request accepts any chip and includes all addresses; `unlock` and `verify` are false.
 #[derive(Clone, Debug, Drop)]
 pub struct Request {
     pub what: What,

@@ -52,8 +52,8 @@ pub record AreRight (wanted content : ℕ → ℕ) (seen : ℕ → Bool) (scanne
 abbrev pub sectors_below : (n s : ℕ) → Bool
 sectors_below n s = nat_lt s n
 
--- Holds after one sector was scanned. `bytes` is the reply to its read. The plan, and the image's part afterwards
--- (`part'`), are right for each content that has these bytes.
+-- Holds after the scan of a sector whose read returned `bytes`. If these are the chip's bytes, the sector's part of the
+-- image has the target bytes after the scan (`part'`), and `plan` says whether the sector is touched and raised.
 pub record ScansSector (request : Request) (size sector : ℕ) (part part' bytes : List ℕ)
     (old new : BusState) (plan : SectorPlan) : Type 0 where
   pub needed : plan.raised ≡ true → plan.touched ≡ true
@@ -75,8 +75,8 @@ abbrev pub IsScanned : Request → (size : ℕ) → (a : ℕ) → Type 0
 IsScanned request size a = (is_data request.what ≡ true) × (a / 4096 < size / 4096)
     × (has_in_sector (includes request.included) (a / 4096) ≡ true)
 
--- Holds after a scan. The marks and the target bytes are right for the bytes that were read and, on a well-behaved bus
--- with an idle chip of this size, for the chip's bytes.
+-- Holds after a scan. The touched and raised sectors, and the target bytes of touched sectors in `image'`, are right
+-- for the bytes that were read and, on a well-behaved bus with an idle chip of this size, for the chip's bytes.
 pub record Scans (request : Request) (size : ℕ) (image image' : List ℕ) (old new : BusState)
     (scanned : Scanned) : Type 0 where
   pub marks : AreMarks (size / 4096) scanned
@@ -100,13 +100,13 @@ ScanErrors most old new Stopped = HasStopped most old new
 ScanErrors most old new Vault = ⊤
 ScanErrors most old new _ = ⊥
 
--- Holds if the vault has refused a call after error 11, and has accepted every call otherwise.
+-- Holds if the vault refused a call and the result is error 11, or it accepted every call and the result is another.
 abbrev pub ScanPuts : {T : Type 0} → Result T Refusal → (old new : VaultState) → Type 0
 ScanPuts (Err Vault) old new = Refused old new
 ScanPuts _ old new = Accepted old new
 
--- Holds if a faithful vault (`telling`) has a prefix of the journal with this header that saves exactly the touched
--- sectors below `total`, with their bytes in `old`.
+-- Holds if a faithful vault (`telling`) has a prefix of a journal with the header of `head`. This journal saves exactly
+-- the touched sectors below `total`, with their bytes in `old`.
 abbrev pub HoldsCut : VaultState → (head : Content) → (old : ℕ → ℕ) → (touched : ℕ → Bool) → (total : ℕ) → Type 0
 HoldsCut vault head old touched total = vault.telling ≡ true
     → IsJournalPrefix head old (λ s. nat_lt s total && touched s) vault.bytes

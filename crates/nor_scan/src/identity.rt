@@ -5,7 +5,8 @@ ghost use Rattle.nor_model.specs.Size.{is_chip_size};
 use nor_model::Status;
 use nor_probe::Found;
 
-/// The result of the identification: the chip that was found (with its status 1), its status 2 and its unique ID.
+/// The result of the identification: the chip (with its status 1), its status 2 and unique ID, and the number of
+/// transactions that were sent. `sized` is a proof that the size is that of a chip.
 #[derive(Clone, Copy)]
 pub struct Identity {
     pub found: Found,

@@ -62,7 +62,8 @@ pub fn judge_identity(request: &Request, identity: &Identity, image: usize) -> R
     }
 }
 
-/// Returns the first sector of `touched` that has a protected address, according to the status that was read.
+/// Returns the first sector of `touched` that has a protected address, according to the status that was read, or `None`
+/// if there is no such sector or the chip has no block protection.
 #[tactic(auto, using(crate::proofs::Held::code_same))]
 pub fn first_protected(touched: &SectorSet, identity: &Identity) -> Option<u32>
     ensures held { FindsProtected (has touched.now) identity.now result }
@@ -100,8 +101,8 @@ fn needs_status(
 /// Checks a request against the touched sectors, where `code` is the result of `judge_identity`. Returns whether
 /// protection must be lifted.
 ///
-/// Returns error 9 if the status registers must be written and are locked. Otherwise returns error 10, with the address
-/// of the first protected touched sector, if there is one and the request doesn't unlock.
+/// If the status registers must be written and are locked, returns error 9. Otherwise, if a touched sector is protected
+/// and the request doesn't unlock, returns error 10 with the address of the first such sector.
 #[tactic(auto, using(crate::proofs::OneVerdict::scan_judged, crate::proofs::OneVerdict::scan_accepted))]
 pub fn judge_scan(
     request: &Request,

@@ -1,5 +1,5 @@
 //! The part of a session before the first modifying command: identifies the chip, checks the request, scans the
-//! sectors, and saves the touched sectors in the journal. `save_whole` saves a whole chip, for backups.
+//! sectors of the request, and saves the touched ones in the journal. `save_whole` saves a whole chip, for backups.
 //!
 //! ```rust
 //! use nor_chip::{Config, Delays, Meter, SimBus};

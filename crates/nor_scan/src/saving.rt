@@ -1,4 +1,4 @@
-//! The call `save`, which scans the chip, checks the touched sectors, and seals the journal.
+//! The call `save`, which scans the chip, checks the request against the touched sectors, and seals the vault.
 ghost use Rattle.std.specs.Prelude.{◌≡◌, ◌/◌, true, length, IfOk, IfErr, OnOk, OnErr};
 ghost use Rattle.nor_model.specs.History.{KeepsReplies, begins_with};
 ghost use Rattle.nor_journal.specs.Saved.{JournalSaves};
@@ -17,7 +17,7 @@ use nor_journal::{Vault, Writer};
 use nor_model::Bus;
 use nor_request::{Refusal, Request};
 
-/// The result of `save`, after which the journal is sealed.
+/// The result of a successful `save`, which has sealed the vault.
 #[derive(Clone, Copy)]
 pub struct SavedScan {
     pub scanned: Scanned,
@@ -25,17 +25,18 @@ pub struct SavedScan {
     pub unlock: bool,
 }
 
-/// Scans the chip, writes the touched sectors to the vault, checks the request against them, and seals the vault.
-/// `vault` must be empty and unsealed, `code` is the result of `judge_identity`, and for a write or an erase `image`
-/// must be as long as the chip that was found. Sends no modifying command.
+/// Scans the chip, writes the touched sectors to a journal in `vault`, checks the request against these sectors, and
+/// seals `vault`. Sends no modifying command. `vault` must be empty and unsealed before the call. `code` is the result
+/// of `judge_identity`. For a write or an erase, `image` must be as long as the chip that was found.
 ///
 /// After success on any bus, a faithful vault (`telling`) holds a journal of exactly the sectors in `scanned.touched`.
 /// Each record has the bytes of the last reply to a read of its sector. On a well-behaved bus with an idle chip that
-/// `identity` describes, these are the touched sectors of the request, and the image has their target bytes.
+/// `identity` describes, `scanned.touched` has exactly the sectors that the request touches, and `image` has their
+/// target bytes.
 ///
 /// Returns error 9 (the status registers must be written and are locked), 10 (a touched sector is protected, and the
 /// request doesn't unlock), 11 (the vault failed) or 12 (the bus stopped). After an error the vault is unsealed; if the
-/// bus and its chip are as above, a faithful vault holds a prefix of the chip's journal.
+/// bus and its chip are as above, a faithful vault holds a prefix of the journal of the touched sectors.
 pub fn save<B: Bus, V: Vault>(
     bus: &mut B,
     vault: &mut V,

@@ -1,4 +1,4 @@
-//! The scan, which writes the sectors that a session will touch to the journal.
+//! The scan for a write or an erase: it reads the sectors with an included address, and journals the touched ones.
 ghost use Rattle.std.specs.Prelude.{◌≡◌, ◌≢◌, ◌<◌, ◌≤◌, ◌+◌, ◌*◌, ◌/◌, ℕ, Bool, true, false, length, IfOk, IfErr, OnOk, OnErr, IsTrue};
 ghost use Rattle.nor_model.specs.Size.{is_chip_size};
 ghost use Rattle.nor_model.specs.History.{KeepsReplies, begins_with};
@@ -22,7 +22,7 @@ use nor_plan::{Plan, SectorPlan, SectorSet};
 use nor_request::{Refusal, Request, What};
 
 /// The result of a scan: the touched and the raised sectors, the number of touched sectors (`count`), and the number of
-/// sectors that were read (`reads`). A rewrite reads no sector, and sets both numbers to that of the saved sectors.
+/// sectors that were read (`reads`). A rewrite scans no sector, and sets both numbers to the number of saved sectors.
 #[derive(Clone, Copy)]
 pub struct Scanned {
     pub touched: SectorSet,
@@ -43,8 +43,8 @@ impl Scanned {
         }
     }
 
-    /// Records whether `sector` is touched and raised, as `plan` says, and counts one read. `sector` and `reads` must
-    /// be below 4,096, and `count` must be at most `reads`.
+    /// Adds `sector` to the touched and to the raised sectors, as `plan` says. Increments `reads` and, if the sector is
+    /// touched, `count`. `sector` and `reads` must be below 4,096, and `count` must be at most `reads`.
     pub fn mark(&mut self, sector: u32, plan: SectorPlan)
         requires reachable { sector < 4096 }
         requires room { self.old.count ≤ self.old.reads }

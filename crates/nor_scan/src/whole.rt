@@ -1,4 +1,4 @@
-//! The call `save_whole`, which saves a whole chip in a journal, and changes nothing.
+//! The call `save_whole`, which saves a whole chip in a journal, and doesn't change the chip.
 ghost use Rattle.std.specs.Prelude.{◌≡◌, ◌/◌, ℕ, true, false, IfErr, OnOk, OnErr, IsTrue};
 ghost use Rattle.nor_model.specs.Size.{is_chip_size};
 ghost use Rattle.nor_model.specs.History.{KeepsReplies, begins_with};
@@ -21,8 +21,8 @@ use nor_journal::{Vault, Writer};
 use nor_model::Bus;
 use nor_request::Refusal;
 
-/// Saves every sector of the identified chip to a journal, and seals the vault, which must be empty and unsealed. Sends
-/// at most one read for each sector, and no other transaction.
+/// Saves every sector of the identified chip in a journal, and seals the vault. Sends at most one read for each sector,
+/// and no other transaction. The vault must be empty and unsealed before the call.
 ///
 /// After success on any bus, a faithful vault (`telling`) holds a journal of all sectors of a chip of the size that was
 /// found. Each record has the bytes of the last reply to a read of its sector.

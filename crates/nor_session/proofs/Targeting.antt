@@ -72,7 +72,8 @@ coded_only IsCode journal status code one two small fixed is written =
       clear2 = omega (arith, second);
     }
 
--- Holds if the changes are for a chip of the journal's size, touch only saved sectors, and write only allowed bits.
+-- Holds if the changes are for a chip of the journal's size, touch only saved sectors, raise only touched ones, and
+-- write only allowed bits.
 pub record AreOfJournal (IsCode : ℕ → Type 0) (journal : Content) (changes : Changes) : Type 0 where
   pub sized : journal.size ≡ changes.size
   pub saved : (s : ℕ) → touched_in changes s ≡ true → is_saved journal s ≡ true

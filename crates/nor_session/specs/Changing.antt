@@ -59,7 +59,8 @@ CheckRefuses changes wanted old new _ = ⊥
 abbrev pub HasBytes : (sectors : ℕ → Bool) → (wanted : ℕ → ℕ) → Chip → Type 0
 HasBytes sectors wanted chip = (a : ℕ) → sectors (a / 4096) ≡ true → chip.bytes a ≡ wanted a
 
--- Holds at every exit of the changes and their check, whose modifying commands are within the limits `most_sent`.
+-- Holds at every exit of the changes and their check. The modifying commands are within the limits `most_sent` and, if
+-- `CanApply` held on a well-behaved bus, the chip changed only as `MayChange` allows.
 abbrev pub LeavesChange : Changes → (wanted : ℕ → ℕ) → (old new : BusState) → Type 0
 LeavesChange changes wanted =
     Leaves (most_changed changes) (most_sent changes) (CanApply changes wanted)

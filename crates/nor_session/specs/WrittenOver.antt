@@ -3,7 +3,7 @@ use Rattle.std.specs.Prelude.{◌≡◌, ◌⊎◌, ℕ}
 use Rattle.nor_model.specs.Chip.{Chip}
 
 -- Holds if the chip `opened` can be opened from files that held the chip `old` and were being overwritten with the chip
--- `new`. Each byte, and the non-volatile bits of each status byte, are those of `old` or of `new`.
+-- `new`. Each byte, and the non-volatile bits of each status byte, are those of `old` or of `new`. `opened` is idle.
 pub record IsWrittenOver (old new opened : Chip) : Type 0 where
   pub config : opened.config ≡ old.config
   pub bytes : (a : ℕ) → (opened.bytes a ≡ old.bytes a) ⊎ (opened.bytes a ≡ new.bytes a)

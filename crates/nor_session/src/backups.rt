@@ -1,4 +1,4 @@
-//! The call `backup`, which saves the whole chip in a journal and changes nothing.
+//! The call `backup`, which saves the whole chip in a journal and doesn't change the chip.
 ghost use Rattle.std.specs.Prelude.{◌≡◌, true};
 ghost use Rattle.nor_journal.specs.Vault.{IsFresh};
 ghost use Rattle.nor_probe.specs.Known.{IsModelled};
@@ -11,7 +11,7 @@ use nor_probe::ChipName;
 use nor_request::{Refusal, Report};
 use nor_scan::{identify, save_whole};
 
-/// Saves every sector of the chip, its non-volatile status bits and its unique ID to `vault`, and changes nothing.
+/// Saves every sector of the chip, its non-volatile status bits and its unique ID to `vault`. Doesn't change the chip.
 /// `vault` must be empty and unsealed. If `named` is given, the chip must have that name.
 ///
 /// After success on a modelled bus, a `telling` vault holds a journal from which `restore` can restore the chip, even

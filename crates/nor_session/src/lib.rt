@@ -13,7 +13,7 @@
 //!
 //! let mut image = before.clone()?;
 //! image[0] = 0x5A;
-//! let wanted = image.clone()?; // `session` uses the image up
+//! let wanted = image.clone()?; // `session` may change the image
 //! let request = Request::write().verified();
 //! let mut vault = MemVault::new(rt.alloc());
 //! session(&mut bus, &mut vault, &mut image, &request)?;

@@ -18,7 +18,7 @@ use nor_journal::{Journal, MemVault, Vault};
 use nor_model::{Bus, Meter};
 
 /// The result of a rehearsal: whether the session succeeded (`ended`) or was stopped, whether its vault was sealed, and
-/// the number of restores that were run. The last restore succeeded, and all others were stopped.
+/// the number of restores that were run. The last restore, if any, succeeded, and all others were stopped.
 #[derive(Clone, Copy, Debug, PartialEq, Eq)]
 pub struct Rehearsal {
     pub ended: bool,
@@ -27,8 +27,8 @@ pub struct Rehearsal {
 }
 
 /// Runs a session and, if its vault is sealed, restores from its journal until one succeeds. `stops` has the allowances
-/// of the session, the first restore, and so on. A call without an entry has an allowance that is enough for every
-/// session and restore. The rehearsal ends at the first error; a stop of a call that has an entry isn't an error.
+/// of the session, the first restore, and so on. A call without an entry has an allowance that is enough on a
+/// well-behaved, punctual bus. The rehearsal ends at the first error; a stop of a call with an entry isn't an error.
 ///
 /// `stops` must have at most 64 entries, `vault` must be empty and unsealed, and `image` and `request` are as for
 /// `session`.

@@ -1,4 +1,4 @@
-//! The calls `restore` and `rewrite`, which write what a journal saved back to the chip.
+//! The calls `restore` and `rewrite`, which write the saved sectors and protection bits of a journal to the chip.
 ghost use Rattle.std.specs.Prelude.{◌≡◌, ◌≤◌, ℕ, true, OnOk};
 ghost use Rattle.nor_model.specs.Bus.{BusState};
 ghost use Rattle.nor_plan.specs.SectorSet.{has};
@@ -69,15 +69,16 @@ pub fn restore_announced<B: Bus, F: FnOnce(Announcement) + Drop>(
     change_chip(bus, journal, &prepared, announce)
 }
 
-/// Restores the saved sectors and the protection bits of `journal` as `restore` does, but erases and programs every
+/// Restores the saved sectors and the protection bits of `journal` as `restore` does, but erases and rewrites every
 /// saved sector, even if the sector has its saved bytes already, and then verifies all of them.
 ///
 /// After an erase or a program was interrupted, a memory cell may be read correctly once and wrongly later. `restore`
 /// can leave such a cell, because it doesn't write a sector that is read with its saved bytes.
 ///
-/// If a rewrite is stopped, `rewrite` can be run again, or `restore` instead. The errors are those of `restore`, in the
-/// same order. Error 9 is also returned if a locked status protects a saved sector that has its saved bytes. The
-/// journal of a session on a modelled bus saves no such sector (`session_can_be_rewritten`).
+/// If a rewrite is stopped on a modelled bus, and the journal could restore a chip at the start, `rewrite` can be run
+/// again, or `restore` instead. The errors are those of `restore`, in the same order. Error 9 is also returned if a
+/// locked status protects a saved sector that has its saved bytes. The journal of a session on a modelled bus saves no
+/// such sector (`session_can_be_rewritten`).
 pub fn rewrite<B: Bus>(bus: &mut B, journal: &Journal<'_>) -> Result<Report, Refusal>
     ensures restores_original { IsModelled (B.state bus.old)
         → RewritesOriginal journal.now (B.state bus.old) (B.state bus.new) result }

@@ -1,4 +1,4 @@
-//! Finds the sectors whose checksums differ between two tables.
+//! Finds the sectors whose checksum differs, or is missing, in a second table of checksums.
 ghost use Rattle.std.specs.Prelude.{◌≡◌, ◌<◌, ℕ, false};
 ghost use Rattle.nor_sums.specs.Sums.{Agree, entry_of};
 
@@ -9,7 +9,7 @@ const NAMED: usize = 4;
 #[derive(Clone, Copy, Default)]
 pub struct Changed {
     pub count: u32,
-    /// The numbers of the first sectors that differ. If `count` is less than 4, the entries from `count` on are unused.
+    /// The numbers of the first sectors given to `add`. If `count` is less than 4, entries from `count` on are unused.
     pub first: [u32; NAMED],
 }
 

@@ -1,5 +1,5 @@
-//! Checksums (called sums) of a chip's sectors before a change, and the encoding of a table of these checksums. Two
-//! different sectors have the same checksum only with a probability of 2^-64.
+//! Checksums (called sums) of a chip's sectors, and the encoding of a table of these checksums. Two different sectors
+//! have the same checksum only with a probability of 2^-64.
 #![tactic(auto)]
 
 mod changed;

@@ -73,7 +73,7 @@ pub fn decode(alloc: Global, bytes: &[u8]) -> Result<Option<Sheet>, AllocError>
     }
 }
 
-// Reads the fields. Checks only the length: `decode` checks the magic, the first byte of each entry, and the digest.
+// Reads the fields, and checks only the length. `decode` checks the bytes, by encoding the fields again.
 fn read_fields(alloc: Global, bytes: &[u8]) -> Result<Option<Sheet>, AllocError> {
     if bytes.len() != SHEET_LEN {
         return Ok(None);
@@ -96,6 +96,7 @@ fn read_fields(alloc: Global, bytes: &[u8]) -> Result<Option<Sheet>, AllocError>
 
 impl Sheet {
     /// Returns whether the table has the journal's ID and unique ID, and the checksum of each sector in the journal.
+    /// For a journal of format 1, which has no unique ID, returns false.
     pub fn fits(&self, journal: &Journal<'_>) -> bool {
         let is_same = journal.id() == self.id && journal.unique() == Some(self.unique);
         is_same

@@ -21,7 +21,8 @@ pub struct Erases {
 }
 
 impl Erases {
-    // Returns the iterator for `set`. `whole` must be true if and only if all sectors of the chip are in the set.
+    // Returns the iterator over the erases of `set`. `whole` must be true if and only if the set has all sectors of the
+    // chip.
     #[tactic(auto, unfolding(crate::specs::Erases::erases_left))]
     pub(super) fn new(set: SectorSet, kinds: Kinds, whole: bool) -> Self
         ensures { erases_left result ≡ planned_from whole kinds (has set) 0 }

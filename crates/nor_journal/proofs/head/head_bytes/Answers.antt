@@ -5,7 +5,7 @@ use Rattle.nor_journal.specs.Text.{head}
 use Rattle.nor_journal.proofs.Heads.{length-put, put_after}
 use Rattle.nor_journal.proofs.head.head_bytes.Goals as goal
 
--- If parts are written into a buffer one after another, the buffer contains them in this order.
+-- If the parts of a header are written into a buffer one after another, the buffer begins with them in this order.
 written : (magic left id unique status size : List ℕ) → length magic ≡ 8 → length id ≡ 3 → length unique ≡ 8
     → length status ≡ 2
     → put_mid 21 4 (put_mid 19 2 (put_mid 11 8 (put_mid 8 3 (magic ++ left) id) unique) status) size

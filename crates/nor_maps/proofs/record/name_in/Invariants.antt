@@ -2,7 +2,7 @@ use Rattle.std.proofs.Common.{◌≡◌, ◌+◌, ◌≤◌, ◌++◌, length}
 use Rattle.nor_maps.specs.Records.{before_nul}
 use Rattle.nor_maps.proofs.record.name_in.Given as goal
 
--- The name so far has no NUL. It consists of the bytes of the field before `rest`.
+-- The name in the whole field is `name`, followed by the bytes of `rest` before its first NUL.
 abbrev pub invariant-loop-rest : goal.invariant-loop-rest
 invariant-loop-rest l = record {
   same : before_nul l.field ≡ l.name.items ++ before_nul l.rest;
