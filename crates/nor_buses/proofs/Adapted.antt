@@ -1,4 +1,4 @@
--- A bus that changes replies of other makers' chips changes no reply of a chip with a row and a unique ID.
+-- Lemmas: over a well-behaved bus, an `OtherMakers` changes no reply of a chip with an ID of `rows` and a unique ID.
 use Rattle.std.proofs.Common.{◌≡◌, ◌∙◌, ◌&&◌, ℕ, Bool, true, false, List, [], ◌∷◌, length, refl, sym, ap, subst, arith}
 use Rattle.std.specs.Prelude.{◌==◌, not, bytes_eq}
 use Rattle.std.proofs.lemmas.Bool.{false≢true, and_parts, eqb-true}
@@ -68,7 +68,7 @@ unique_step opcode w x y z raw {old} {new} is idle len step =
     (subst (λ (is : Bool). Does (read_of is ReadUnique) (z ∷ []) old raw new)
     (ap (λ (n : ℕ). n == 0) idle) read)
 
--- If the chip has a unique ID, but a read of the unique ID returned none (`raw`), the chip is busy.
+-- If the chip has a unique ID, but a read of the unique ID returned eight bytes FFh or 00h (`raw`), the chip is busy.
 pub unique_busy : (rows : List (List ℕ)) (out raw : List ℕ) (old new : Chip) → is_unique_read out ≡ true
     → is_missing raw ≡ true → keeps_replies rows old.config ≡ true → Step old out raw new → old.busy ≡ 0 → ⊥
 unique_busy rows [] raw old new reads missing keeps step idle = false≢true reads

@@ -1,5 +1,5 @@
--- Lemmas: after a read of the ID over a well-behaved bus, a `KnownStatus2` knows the chip if the chip's ID is one of
--- `ids` or is `before`.
+-- Lemmas: once a read of the ID over a well-behaved bus returned another value than FFFFFFh, a `KnownStatus2` knows the
+-- chip if the chip's ID is one of `ids` or is `before`.
 use Rattle.std.proofs.Common.{◌≡◌, ◌∙◌, ◌||◌, ◌&&◌, ℕ, Bool, true, false, Option, List, [], ◌∷◌, length, refl, sym, ap, subst, inl, inr, arith}
 use Rattle.std.proofs.lemmas.Bool.{false≢true, and_parts, eqb-true}
 use Rattle.nor_model.specs.declared.config.Config.{Config}

@@ -1,4 +1,4 @@
--- Lemmas on reads of data: a read returns the data of the chip, and does not change them.
+-- Lemmas: a read of data returns the data of the chip, or only FFh if the chip is busy, and does not change the data.
 use Rattle.std.proofs.Common.{◌≡◌, ◌∙◌, ◌<◌, ◌≤◌, ◌+◌, ◌*◌, ◌/◌, ◌%◌, ℕ, Bool, true, false, List, [], ◌∷◌, length, sym, ap, subst, arith}
 use Rattle.std.specs.Prelude.{◌==◌, if◌then◌else◌, slice_index}
 use Rattle.std.proofs.Math.Nat.{mod-add-mod}

@@ -37,7 +37,7 @@ chip_unique config =
 abbrev pub keeps_replies : (rows : List (List ℕ)) → Config → Bool
 keeps_replies rows config = is_id_listed rows (chip_id config) && not (is_missing (chip_unique config))
 
--- Holds if `id` is the chip's ID, or FFFFFFh if the chip is busy. Always holds if the bus isn't well-behaved.
+-- Holds if `id` is the ID of the chip or, if the chip is busy, FFFFFFh. Always holds if the bus isn't well-behaved.
 pub record IsIdOf (id : List ℕ) (inside : BusState) : Type 0 where
   pub idle : inside.honest ≡ true → inside.chip.busy ≡ 0 → id ≡ chip_id inside.chip.config
   pub busy : inside.honest ≡ true → (inside.chip.busy ≡ 0 → ⊥) → id ≡ unanswered
@@ -69,6 +69,6 @@ shown_table all table =
 abbrev pub is_small_page : (table : List ℕ) → Bool
 is_small_page table = nat_lt (slice_index table 40 / 16) 8
 
--- The 36 bytes that the bus returns for 44 bytes of the chip's SFDP table.
+-- The 36 bytes that an `OtherMakers` returns if it read the 44 bytes `table` of an SFDP table.
 abbrev pub judged_table : (table : List ℕ) → List ℕ
 judged_table table = shown_table (is_uneven table || is_small_page table) (take 36 table)

@@ -22,7 +22,8 @@ pub record DiffersInSector (image : List ℕ) (at : ℕ) (answer : List ℕ) (i 
 abbrev pub data_read : (address : ℕ) → List ℕ
 data_read address = 0x03 ∷ address_bytes address
 
--- Holds if the transaction read a part of `answer` again with the same bytes, in sectors that differ from the image.
+-- Holds if the transaction read a part of `answer` again and returned the same bytes, and if each byte of this part is
+-- in a sector that differs from the image (`DiffersInSector`).
 pub record IsReadAgain (image : List ℕ) (at : ℕ) (answer : List ℕ) (exchange : Exchange) : Type 0 where
   pub from : ℕ
   pub len : ℕ
@@ -72,7 +73,9 @@ pub record CarriesDiffering (image out answer : List ℕ) (old new : BusState) :
   pub first : Carries out answer old between
   pub again : CarriesEach repeats.later between new
 
--- Holds if since `old` each of the first `n` bytes of `answer` that isn't expected was read again. The fields say more.
+-- Holds if since `old` each of the first `n` bytes of `answer` that isn't expected (`IsExpected`) was read again. Only
+-- bytes in sectors that differ from the image were read again. A well-behaved bus that takes a read as long as `answer`
+-- carried out each of these second reads.
 pub record RepeatsBelow (image : List ℕ) (at : ℕ) (answer : List ℕ) (n : ℕ) (old new : BusState) : Type 0 where
   pub later : List Exchange
   pub is : new.history ≡ later ++ old.history

@@ -1,4 +1,4 @@
--- A bus that reads ahead, as contracts see it.
+-- The fields and the state of a `ReadAhead`. This bus reads data ahead, and keeps one block of it in memory.
 use Rattle.std.specs.Prelude.{ℕ, List}
 use Rattle.nor_model.specs.Bus.{BusState}
 use Rattle.nor_model.specs.Exchange.{Exchange}

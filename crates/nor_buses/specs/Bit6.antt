@@ -12,8 +12,8 @@ use Rattle.nor_buses.specs.SomeChips.{chip_id}
 abbrev pub keeps_bit6 : (rows : List (List ℕ)) → (hides : Bool) → Config → Bool
 keeps_bit6 rows hides config = not hides || is_id_listed rows (chip_id config)
 
--- Holds if `hides` or `is_judged` is true, and `has_quad` is false on a well-behaved bus to a chip whose bit 6 is never
--- hidden (`keeps_bit6`).
+-- Holds if `hides` or `is_judged` is true, and `has_quad` is false. The second condition applies only if the bus is
+-- well-behaved and bit 6 of its chip is never hidden (`keeps_bit6`).
 pub record IsPlain (rows : List (List ℕ)) (hides has_quad is_judged : Bool) (inside : BusState) : Type 0 where
   pub shown : hides ≡ false → is_judged ≡ true
   pub none : inside.honest ≡ true → keeps_bit6 rows hides inside.chip.config ≡ true → has_quad ≡ false

@@ -1,4 +1,4 @@
--- The blocks of a bus that reads ahead, and its state.
+-- The state of a bus that reads ahead, and the data in its block.
 use Rattle.std.specs.Prelude.{◌≡◌, ◌<◌, ◌+◌, ◌&&◌, ◌||◌, ℕ, Bool, true, List, take, nat_le}
 use Rattle.nor_model.specs.Bus.{BusState}
 use Rattle.nor_model.specs.Exchange.{Exchange}

@@ -1,4 +1,4 @@
--- A bus that detects a lost chip, reads status registers twice and checks status writes, as contracts see it.
+-- The fields and the state of a `CheckedStatus`. This bus checks IDs, status registers and status writes.
 use Rattle.std.specs.Prelude.{ℕ, Bool, List, Option}
 use Rattle.nor_model.specs.Bus.{BusState}
 use Rattle.nor_buses.specs.ReadsAs.{beside}
@@ -32,6 +32,6 @@ check_fault_of checked = checked.fault
 abbrev pub history_of : {B : Type 0} {over : Ghosts B} → CheckedStatus B over → List Exchange
 history_of checked = checked.history.exchanges
 
--- The state of a `CheckedStatus`. A refused status write is in its history, so this status write counts as sent.
+-- The state of a `CheckedStatus`. A refused modifying command is in its history, so this command counts as sent.
 abbrev pub checked_state : {B : Type 0} {over : Ghosts B} → CheckedStatus B over → BusState
 checked_state checked = beside (inner_state checked) (history_of checked)

@@ -1,4 +1,4 @@
--- The effect of any number of transactions on the chip of a well-behaved bus.
+-- Three effects on a chip and its erased sectors: nothing changes, a read stops, or one transaction is carried out.
 use Rattle.std.specs.Prelude.{◌≡◌, ◌⊎◌, ◌||◌, ℕ, true, List, length}
 use Rattle.nor_model.specs.Power.{PowerLost}
 use Rattle.nor_model.specs.Step.{Step, done_of, wears}
@@ -8,7 +8,7 @@ pub record KeepsAll (old new : BusState) : Type 0 where
   pub chip : new.chip ≡ old.chip
   pub worn : (s : ℕ) → new.worn s ≡ old.worn s
 
--- Holds if no sector was erased and the chip is as it was or, on a bus that isn't steady, lost its power.
+-- Holds if the erased sectors are the same, and the chip is as it was or, on a bus that isn't steady, lost its power.
 pub record StopsUnread (old new : BusState) : Type 0 where
   pub chip : (new.chip ≡ old.chip) ⊎ PowerLost old.chip new.chip
   pub worn : (s : ℕ) → new.worn s ≡ old.worn s

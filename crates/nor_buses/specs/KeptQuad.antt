@@ -1,4 +1,4 @@
--- A bus that hides bit 6 of status 1 if it is QE, as contracts see it.
+-- The fields and the state of a `KeptQuad`. This bus hides bit 6 of status 1 if bit 6 is QE.
 use Rattle.std.specs.Prelude.{ℕ, Bool, List}
 use Rattle.nor_model.specs.declared.bus.Bus.{Ghosts}
 use Rattle.nor_model.specs.Bus.{BusState}

@@ -36,9 +36,9 @@ pub record KeepsKnown (known : Known) (out sent : List ℕ) : Type 0 where
   pub idle : one % 4 ≡ 0
   pub awake : two / 128 ≡ 0
 
--- Holds for a poll that returned `status`, which shows that the chip is ready. Before the first modifying command, and
--- until a status write is read back, the bus inside was polled twice, and otherwise once. After a status write, status
--- 2 was also read twice, and all non-volatile bits are those that were sent.
+-- Holds for a poll that returned `status` (of a ready chip) and made these transactions over the bus inside: two polls
+-- and a read of the ID after each, if no modifying command was passed on before; otherwise one poll. If a status write
+-- (`sent`) isn't read back yet, the transactions are those of `AgreesWithSent`, and the status must agree with `sent`.
 pub record PollAgrees (known known' : Known) (status : ℕ) (old new : List Exchange) : Type 0 where
   pub unchanged : known.is_changing ≡ false → known.written ≡ None → IsReadTwice (pair status) known'.id old new
   pub changing : known.is_changing ≡ true → known.written ≡ None → new ≡ pair status ∷ old
@@ -62,14 +62,15 @@ pub record KeepsStatus (old new : Known) : Type 0 where
   pub written : new.written ≡ old.written
   pub locks : new.locks ≡ old.locks
 
--- Holds if the bus inside sent nothing that may modify the chip, or only the transaction `out`, once. If `out` is a
--- status write that isn't allowed (`IsStatusAllowed`), the bus inside sent nothing.
+-- Holds if no transaction that may modify the chip was sent over the bus inside, except perhaps `out`, once. If `out`
+-- is a status write that isn't allowed (`IsStatusAllowed`), nothing at all was sent.
 pub record SendsKept (locks : Bool) (out : List ℕ) (old new : BusState) : Type 0 where
   pub sent : (new.sent ≡ old.sent) ⊎ (new.sent ≡ with_sent out old.sent)
   pub kept : begins_status_write out ≡ true → (new ≡ old) ⊎ IsStatusAllowed locks out old.history
 
--- Holds for a transaction that succeeded, if a status that it returned is confirmed (`PollAgrees`, `IsReadTwice`), and
--- `known'` records the bytes of a status write and whether a modifying command was passed on.
+-- Holds for a successful transaction if the status that it returned as its only byte is confirmed (`PollAgrees` for a
+-- status 1 of a ready chip, `IsReadTwice` for a status 2), and if `known'` records the bytes of a status write, and
+-- whether a modifying command was passed on.
 pub record BelievesStatus (out answer : List ℕ) (known known' : Known) (old new : List Exchange) : Type 0 where
   pub poll : out ≡ 0x05 ∷ [] → length answer ≡ 1 → slice_index answer 0 % 2 ≡ 0
       → PollAgrees known known' (slice_index answer 0) old new

@@ -1,4 +1,4 @@
--- A bus that reads status 2 (35h) only from a chip that is known to have this command, as contracts see it.
+-- The fields and the state of a `KnownStatus2`. This bus sends 35h only to a chip that is known to return status 2.
 use Rattle.std.specs.Prelude.{ℕ, Bool, Option, List}
 use Rattle.nor_model.specs.declared.bus.Bus.{Ghosts}
 use Rattle.nor_model.specs.Bus.{BusState}

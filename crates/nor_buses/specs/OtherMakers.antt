@@ -1,4 +1,4 @@
--- The bus `OtherMakers`, which may change two replies (the unique ID, the SFDP table), as contracts see it.
+-- The fields and the state of an `OtherMakers`, and how this bus changes two replies: the unique ID and the SFDP table.
 use Rattle.std.specs.Prelude.{◌≡◌, ◌&&◌, ℕ, Bool, true, false, List, [], ◌∷◌, length, replicate, if◌then◌else◌, bytes_eq}
 use Rattle.nor_model.specs.Bus.{BusState}
 use Rattle.nor_model.specs.Exchange.{Exchange}
@@ -17,7 +17,8 @@ rows_of other = other.rows.now
 abbrev pub missing_as : {B : Type 0} → OtherMakers B → ℕ
 missing_as other = other.missing
 
--- True if all erase opcodes are hidden for a chip without a row that has small pages or can't erase 4 KiB everywhere.
+-- True if the bus hides all erase opcodes of a chip that has pages below 256 bytes or can't erase 4 KiB everywhere, and
+-- that has no row in the table of known chips.
 abbrev pub refuses_uneven : {B : Type 0} → OtherMakers B → Bool
 refuses_uneven other = other.refuses_uneven
 
@@ -43,14 +44,14 @@ other_makers_state inside other = beside (inside_adapted inside other) (history_
 abbrev pub looks_further : {B : Type 0} → OtherMakers B → Bool
 looks_further other = refuses_uneven other && has_word_11 other
 
--- Holds if `out` returned `raw`, then a read of the ID returned `id`, and `reply` is `raw` if `id` is FFFFFFh, and
--- otherwise consists only of bytes `missing` (as many as in `raw`).
+-- Holds if `out` returned `raw`, and then a read of the ID returned `id`. If `id` is FFFFFFh, `reply` must be `raw`.
+-- Otherwise `reply` must have the length of `raw`, with `missing` as each byte.
 pub record ReplacesUnique (missing : ℕ) (out raw reply : List ℕ) (old new : List Exchange) : Type 0 where
   pub id : List ℕ
   pub history : new ≡ replied (0x9F ∷ []) id ∷ replied out raw ∷ old
   pub shown : reply ≡ (if bytes_eq id unanswered then raw else replicate (length raw) missing)
 
--- Holds if `out` returned `raw`, and `reply` is `raw` or, if `raw` isn't a unique ID, as `ReplacesUnique` says.
+-- Holds if `out` returned `raw`, and `reply` is `raw` or, if `is_missing raw` is true, as `ReplacesUnique` says.
 pub record ShowsUnique (missing : ℕ) (out reply : List ℕ) (old new : List Exchange) : Type 0 where
   pub raw : List ℕ
   pub history : is_missing raw ≡ false → new ≡ replied out raw ∷ old
@@ -68,8 +69,8 @@ pub record ShowsShared (refuses : Bool) (out reply : List ℕ) (old new : List E
   pub history : new ≡ replied out raw ∷ old
   pub shown : reply ≡ shown_table (refuses && is_uneven raw) raw
 
--- Holds if the ID was read, and then the SFDP table, which was returned unchanged if the ID is FFFFFFh or one of
--- `rows`, and otherwise with some erase opcodes as 00h (`judged_table` or, if `looks` is false, `shown_table`).
+-- Holds if the ID was read, and then the SFDP table. If the ID is FFFFFFh or one of `rows`, the table was returned
+-- unchanged. Otherwise it was returned as `judged_table` if `looks` is true, and as `shown_table` if `looks` is false.
 pub record ShowsTable (rows : List (List ℕ)) (refuses looks : Bool) (out reply : List ℕ) (old new : List Exchange)
     : Type 0 where
   pub id : List ℕ

@@ -1,9 +1,9 @@
--- The pauses between polls that show BUSY. All times are in microseconds. `elapsed` is the time since the operation
--- began.
+-- The pauses before polls. All times are in microseconds. `elapsed` is the time since the last operation began.
 use Rattle.std.specs.Prelude.{◌+◌, ◌-◌, ◌*◌, ◌/◌, ◌^◌, ◌==◌, ◌||◌, nat_lt, ℕ, zero, suc, true, List, [], ◌∷◌, Option, None, Some, min, max, if◌then◌else◌}
 use Rattle.nor_model.specs.PolledReady.{polled_ready_after}
 
--- The number of polls in a row that showed BUSY, at most 2^64 - 1, after one more transaction (`before`: before it).
+-- The number of polls in a row that showed BUSY, counted after the transaction `out` and at most 2^64 - 1. `before` is
+-- this number before the transaction.
 abbrev pub busy_row_after : (out answer : List ℕ) → (before : ℕ) → ℕ
 busy_row_after out answer before = if polled_ready_after out answer true then 0 else min (before + 1) (2 ^ 64 - 1)
 

@@ -1,4 +1,4 @@
--- A bus that pauses between polls, as contracts see it.
+-- The fields of a `Paced`, a bus that pauses between polls.
 use Rattle.std.specs.Prelude.{ℕ}
 use Rattle.nor_buses.specs.declared.paced.Paced.{Paced}
 

@@ -46,7 +46,7 @@ pub record SplitsRead (most : ℕ) (out answer : List ℕ) (result : Result Unit
   pub parts : AreReadParts most out later
   pub whole : OnOk result (answer ≡ bytes_of_replies later)
 
--- The bytes to send for a program of `n` bytes of `bytes` from the index `from` on, if `bytes` begin at `address`.
+-- The bytes to send to program `n` bytes of `bytes`, from the index `from` on, if `bytes` begin at `address`.
 abbrev pub program_part : (address : ℕ) → (bytes : List ℕ) → (from n : ℕ) → List ℕ
 program_part address bytes from n = 0x02 ∷ address_bytes (address + from) ++ part bytes from n
 

@@ -1,4 +1,4 @@
--- A bus that reads the unique ID again before the first modifying command, as contracts see it.
+-- The fields and the state of a `SameChip`, and how it reads the unique ID again before the first modifying command.
 use Rattle.std.specs.Prelude.{◌≡◌, ◌==◌, ◌&&◌, ℕ, Bool, true, false, Option, None, Some, List, [], ◌∷◌, length}
 use Rattle.std.specs.Prelude.{if◌then◌else◌}
 use Rattle.nor_model.specs.Bus.{BusState}
@@ -37,15 +37,15 @@ reads_unique _ = false
 abbrev pub unique_after : (out reply : List ℕ) → (known : Option (List ℕ)) → Option (List ℕ)
 unique_after out reply known = if reads_unique out && length reply == 8 then Some reply else known
 
--- Holds if the unique ID was read again and was still `unique` or, if `unique` is `None` or a modifying command was
--- passed on before (`begun`), nothing was sent.
+-- Holds if the unique ID was read again and was still `unique`. If `unique` is `None`, or if a modifying command was
+-- passed on before (`begun`), holds if nothing was sent.
 pub record IsChecked (begun : Bool) (unique : Option (List ℕ)) (old new : List Exchange) : Type 0 where
   pub later : begun ≡ true → new ≡ old
   pub none : unique ≡ None → new ≡ old
   pub again : (bytes : List ℕ) → begun ≡ false → unique ≡ Some bytes → new ≡ replied unique_read bytes ∷ old
 
--- Holds if the remembered ID `unique` is `other.before`, and the unique ID was then read as the different
--- `other.found`.
+-- Holds if the remembered unique ID (`unique`) is `other.before`, and a second read of the unique ID returned
+-- `other.found`, which differs.
 pub record FindsOther (unique : Option (List ℕ)) (other : OtherChip) (old new : List Exchange) : Type 0 where
   pub before : unique ≡ Some other.before
   pub differs : other.found ≡ other.before → ⊥

@@ -1,4 +1,4 @@
--- A bus that splits transactions that exceed the limits of a programmer, as contracts see it.
+-- The fields and the state of a `SplittingBus`. This bus splits transactions that exceed the limits of a programmer.
 use Rattle.std.specs.Prelude.{◌&&◌, ◌-◌, ℕ, Bool, List, false, min, nat_le, if◌then◌else◌}
 use Rattle.nor_model.specs.Bus.{BusState}
 use Rattle.nor_model.specs.Exchange.{Exchange}
@@ -21,8 +21,8 @@ history_of splitting = splitting.history.exchanges
 abbrev pub takes_whole : (sends receives : ℕ) → Bool
 takes_whole sends receives = nat_le 260 sends && nat_le 4096 receives
 
--- The number of bytes by which a read may exceed 4,096 bytes: it has at most `receives` bytes, so that it isn't split,
--- and no more than the bus inside is well-behaved for (`unlimited`, `longer`).
+-- The greatest number of bytes by which a read can exceed 4,096 bytes if it isn't split (it has at most `receives`
+-- bytes) and the bus inside takes it (`unlimited`, `longer`).
 abbrev pub reads_longer : (receives : ℕ) → (unlimited : Bool) → (longer : ℕ) → ℕ
 reads_longer receives unlimited longer = if unlimited then receives - 4096 else min longer (receives - 4096)
 

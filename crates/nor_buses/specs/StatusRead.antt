@@ -1,4 +1,4 @@
--- How a `CheckedStatus` confirms what it reads, and which status writes keep the bits that were read.
+-- How a `CheckedStatus` confirms what it reads, and which status writes it may pass on.
 use Rattle.std.specs.Prelude.{◌≡◌, ◌/◌, ◌%◌, ◌&&◌, ◌||◌, ◌==◌, ℕ, Bool, true, false, List, [], ◌∷◌, Option, None}
 use Rattle.std.specs.Prelude.{Some, slice_index}
 use Rattle.nor_model.specs.Exchange.{Exchange}
@@ -40,15 +40,16 @@ pub record IsReadTwice (read : Exchange) (known : Option (List ℕ)) (old new : 
   pub knows : is_known known ≡ true
   pub is : new ≡ confirmed known (read ∷ confirmed known (read ∷ old))
 
--- Holds if status 2 was read twice after a status write of the bytes `sent`, and all non-volatile bits of status 1
--- (`one`) and status 2 are those that were sent.
+-- Holds if since `old` status 2 was read twice with the value `two`, and all non-volatile bits of status 1 (`one`) and
+-- status 2 (`two`) are as in `sent`, the two data bytes of a status write.
 pub record HasStored (sent : List ℕ) (one : ℕ) (known : Option (List ℕ)) (old new : List Exchange) : Type 0 where
   pub two : ℕ
   pub twice : IsReadTwice (second two) known old new
   pub first : one / 4 ≡ slice_index sent 0 / 4
   pub last : two % 128 ≡ slice_index sent 1 % 128
 
--- Holds if status 1 was read twice as `status`, and then status 2, and all non-volatile bits are those in `sent`.
+-- Holds if since `old` status 1 was read twice with the value `status`, and then status 2 was read twice, and all
+-- non-volatile bits of both registers are as in `sent`, the two data bytes of a status write.
 pub record AgreesWithSent (sent : List ℕ) (status : ℕ) (known : Option (List ℕ)) (old new : List Exchange)
     : Type 0 where
   pub between : List Exchange
@@ -78,7 +79,7 @@ abbrev pub ends_busy : (history : List Exchange) → Bool
 ends_busy [] = false
 ends_busy (last ∷ earlier) = begins_with 0x05 last.out && shows_busy (bytes_or_none last.reply)
 
--- True if the last transaction is a read of the ID, just after a poll that showed BUSY. A busy chip ignores this read.
+-- True if the last transaction is a read of the ID, and the one before it is a poll that showed BUSY (`ends_busy`).
 abbrev pub read_id_while_busy : (history : List Exchange) → Bool
 read_id_while_busy [] = false
 read_id_while_busy (last ∷ earlier) = has_read_id last && ends_busy earlier

@@ -1,4 +1,4 @@
--- A bus that carries out reads twice, as contracts see it.
+-- The fields and the state of a `ReadTwice`, and which reads it repeats. This bus carries out reads twice.
 use Rattle.std.specs.Prelude.{◌≡◌, ◌==◌, ◌||◌, ℕ, Bool, false, Option, None, Some, List, [], ◌∷◌}
 use Rattle.std.proofs.Common.{Vec, Global}
 use Rattle.nor_buses.specs.ReadsAs.{around}

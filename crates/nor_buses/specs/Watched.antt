@@ -1,4 +1,4 @@
--- A bus that detects that the chip lost contact or power while the chip seems to be busy, as contracts see it.
+-- The fields and the state of a `Watched`, and how it detects that a chip that seems to be busy lost contact or power.
 use Rattle.std.specs.Prelude.{◌≡◌, ◌==◌, ◌&&◌, ◌+◌, ℕ, Bool, true, false, List, [], ◌∷◌, nat_lt, nat_le, not}
 use Rattle.std.specs.Prelude.{if◌then◌else◌}
 use Rattle.nor_model.specs.Bus.{BusState}
@@ -35,7 +35,8 @@ is_undriven (opcode ∷ []) (a ∷ []) = opcode == 0x05 && a == 255
 is_undriven (opcode ∷ []) (a ∷ b ∷ []) = opcode == 0x05 && (a == 255 && b == 255)
 is_undriven _ _ = false
 
--- The number of polls in a row that returned only FFh, at most 256, after one more transaction (`row`: before it).
+-- The number of polls in a row that returned only FFh (`is_undriven`), counted after the transaction `out` and at most
+-- 256. `row` is this number before the transaction.
 abbrev pub row_after : (out reply : List ℕ) → (row : ℕ) → ℕ
 row_after out reply row = if is_undriven out reply then (if nat_lt row 256 then row + 1 else 256) else 0
 
@@ -46,7 +47,7 @@ status_after (opcode ∷ []) (a ∷ b ∷ []) known =
     if opcode == 0x05 && not (a == 255 && b == 255) then nat_lt b 252 else known
 status_after _ _ known = known
 
--- True if at least 256 polls in a row returned only FFh, and the last other status 1 was below FCh.
+-- True if at least 256 polls in a row up to this one returned only FFh, and the last other poll ended below FCh.
 abbrev pub looks_after : (out reply : List ℕ) → (row : ℕ) → (known : Bool) → Bool
 looks_after out reply row known = nat_le 256 (row_after out reply row) && status_after out reply known
 

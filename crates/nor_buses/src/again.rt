@@ -47,7 +47,7 @@ pub(crate) fn is_repeated<B: Bus>(
 }
 
 // Reads again the sectors of `reply` that differ from the image, neighbouring sectors with one transaction. `reply` was
-// read from `address` on. Returns false as soon as a second reply differs from the first reply, and otherwise true.
+// read from `address` on. Returns false as soon as a second reply differs from the first one, and true if none differs.
 pub(crate) fn is_repeated_or_expected<B: Bus>(
     bus: &mut B,
     image: &[u8],

@@ -13,14 +13,14 @@ use nor_geometry::SECTOR_LEN;
 use nor_model::opcodes::READ_DATA;
 use nor_model::{Bus, History, Stopped};
 
-// The greatest length of a block. The size of a chip is a multiple of it, so a block that lies between two multiples of
-// this length does not reach past the end of a chip.
+// The greatest length of a block, in bytes. The size of a chip is a multiple of this length, so a block between two
+// neighbouring multiples of this length does not reach past the end of a chip.
 const LONGEST_BLOCK: u32 = 1 << 16;
 
 /// A bus that reads data (03h) ahead if reads follow each other. It keeps the *block* in memory: the bytes that it last
 /// read over the bus inside. If the block contains all bytes of a read, they are returned from memory. Otherwise a new
 /// block is read from the address of the read on. If the last block ended at this address, the planned length of blocks
-/// doubles; otherwise it is the length of the read. The limits below may shorten a block, but never below the read.
+/// doubles; otherwise it is the length of the read. A block contains the whole read; the limits below may shorten it.
 ///
 /// A block ends at the next multiple of 64 KiB at the latest, or earlier (`end_blocks_at`), and is never longer than
 /// the bus inside can read. A transaction is passed on unchanged if it is no read of data, reads more than the longest
@@ -29,7 +29,7 @@ const LONGEST_BLOCK: u32 = 1 << 16;
 /// On any bus, if a read of data of at least one byte returns `Ok`, the last transaction over the bus inside is a read
 /// of data, and its reply contains the returned bytes at the same addresses.
 ///
-/// This bus is never punctual. It is proved to be well-behaved if the bus inside is, and is unlimited or takes reads as
+/// This bus is never punctual. It is proved to be well-behaved if the bus inside is well-behaved and takes reads as
 /// long as the longest block. While this bus is used, nobody else may modify the chip. The history also lists reads
 /// whose bytes came from memory.
 #[derive(Drop)]
@@ -95,7 +95,7 @@ impl<B: Bus + Drop> ReadAhead<B> {
 impl<B: Bus + Drop> ReadAhead<B> {
     ghost use Rattle.nor_buses.specs.Ahead.{begin, held, history_of, longest_of, inside_of, ahead_state};
 
-    // Makes one transaction. The clause `records` is about the state after the caller has added it to the history.
+    // Carries out `out`. The clause `records` is about the state after the caller has added `out` to the history.
     fn carry(&mut self, out: &[u8], reply: &mut [u8]) -> Result<(), Stopped>
         ensures records { Records out.now reply.new result (ahead_state self.old)
             (around (inside_of self.new) (exchange_of out.now reply.new result ∷ history_of self.old)) }

@@ -26,8 +26,8 @@ const CHANGES: [ChangedByte; 2] = [
 // at most half of the 256 values.
 const FEWEST_VALUES: usize = 192;
 
-// A value counts as changed only if `read_as` occurs at least this often. Most data is read twice, so this is usually
-// at least 32 bytes of the chip. If both values are equally likely, 32 bytes are all `read_as` in 1 of 2^32 cases.
+// A value counts as changed only if `read_as` occurs at least this often. Data may be read twice, so this may be only
+// 32 bytes of the chip. If both values are equally likely, 32 bytes are all `read_as` in 1 of 2^32 cases.
 const FEWEST_OCCURRENCES: u32 = 64;
 
 #[derive(Drop)]

@@ -17,18 +17,19 @@ const HEADER: [u8; 5] = [READ_SFDP, 0, 0, 0, 0];
 
 const FIRST_TABLE: [u8; 5] = [READ_SFDP, 0, 0, 8, 0];
 
-/// A bus that returns bit 6 of status 1 as 0 if this bit is QE. On Winbond's chips bit 6 is SEC, a protection bit. On
-/// chips of Macronix, ISSI and others it is QE, which lets the chip use four data lines and protects nothing.
+/// A bus that returns bit 6 of status 1 as 0 if it found that this is QE. On Winbond's chips bit 6 is SEC, a protection
+/// bit. On chips of Macronix, ISSI and others it is QE, which lets the chip use four data lines and protects nothing.
 ///
-/// When a poll (05h with one reply byte) first shows an idle chip with bit 6 set, this bus reads the ID and, unless the
-/// ID is one of `rows` (see `new`), the SFDP. If the SFDP's quad enable requirements, bits 22 to 20 of double word 15,
-/// are 010b (JESD216B, double word 15), bit 6 is QE. Otherwise bit 6 is passed on unchanged from then on.
+/// If `hides` is true when a poll (05h with one reply byte) first shows an idle chip with bit 6 set, this bus reads the
+/// ID and, unless the ID is one of `rows`, the SFDP. If the SFDP's quad enable requirements, bits 22 to 20 of double
+/// word 15, are 010b (JESD216B, double word 15), bit 6 is QE and is hidden in this and each later poll. Otherwise bit 6
+/// is passed on unchanged. `rows` and `hides` are the arguments of `new`.
 ///
 /// If QE is hidden, a status write returns `Stopped` and is not sent, so QE stays as it is. The engine sends no status
 /// write to a chip that has no row in the table of known chips.
 ///
-/// This bus is well-behaved if the bus inside is, and if the chip has an ID of `rows` or `hides` is false (see `new`),
-/// so that bit 6 is never hidden. This bus is never punctual.
+/// This bus is well-behaved if the bus inside is, and if the chip has an ID of `rows` or `hides` is false, so that bit
+/// 6 is never hidden. This bus is never punctual.
 #[derive(Drop)]
 pub struct KeptQuad<B: Bus + Drop> {
     bus: B,
@@ -183,8 +184,8 @@ impl<B: Bus + Drop> KeptQuad<B> {
         Ok(())
     }
 
-    // Clears bit 6 of the status byte in `reply` if bit 6 is QE. If this isn't decided yet, and `out` is only 05h and
-    // the byte shows an idle chip with bit 6 set, first finds out whether bit 6 is QE.
+    // Clears bit 6 of the status byte in `reply` if bit 6 was found to be QE. If this isn't decided yet, and `out` is
+    // only 05h and the byte shows an idle chip with bit 6 set, first finds out whether bit 6 is QE.
     fn hide(&mut self, out: &[u8], reply: &mut [u8]) -> Result<(), Stopped>
         requires len { length reply.old ≡ 1 }
         requires idle { (B.state (kept_by self.old)).honest ≡ true → length out.now ≡ 1

@@ -11,11 +11,12 @@ use nor_model::opcodes::WRITE_STATUS;
 #[derive(Clone, Copy, Debug, PartialEq, Eq)]
 pub enum CheckFault {
     /// Two reads of one status register (05h or 35h) had different replies: for example, one poll showed a ready chip
-    /// and the next one BUSY, or two reply bytes of one poll differ although both show a ready chip.
+    /// and the next one BUSY, or two reply bytes of one poll differ although both show a ready chip. After the first
+    /// modifying command, polls that differ don't stop the bus.
     Differs,
     /// A status write was not sent, because status 1 or 2 was not read twice before, or because the write doesn't have
-    /// exactly two data bytes, sets BUSY, WEL or SUS, or would change a bit that the bus keeps. The bus keeps all bits
-    /// except the protection bits (after `locking`, all bits except SRP0).
+    /// exactly two data bytes, sets BUSY, WEL or SUS, or would change a bit that the bus keeps. The bus keeps all
+    /// non-volatile bits except the protection bits (after `locking`, all non-volatile bits except SRP0).
     Refused,
     /// The status write of `sent` was not stored: afterwards the status registers contained `found`, which differs in a
     /// non-volatile bit.

@@ -18,19 +18,19 @@ const WORD_15: u32 = 56;
 
 /// A bus that sends 35h only to a chip that is known to return status 2 for 35h. On other makers' chips 35h may mean
 /// something else: Macronix MX25L12835F, ISSI IS25LP128 and Micron MT25QL128 enter QPI mode, and then ignore each
-/// command that is sent over one data line, until their power is off.
+/// command that is sent over one data line, until they are reset or their power is off.
 ///
 /// The chip is known if one of these conditions holds:
 ///
 /// - A read of the ID (9Fh with three reply bytes) returned an ID of the list `ids`, or the ID `before` (see `new`).
 /// - The quad enable requirements, bits 22 to 20 of double word 15 of the first SFDP parameter table, are 101b or 110b
-///   (JESD216B). When 35h is requested for a chip that isn't known, this bus reads double word 15 if the header of the
-///   table, at address 8, was read before and gives at least 15 double words.
+///   (JESD216B). When 35h is requested for a chip that isn't known, this bus reads double word 15 if the last read of
+///   the table's header, at address 8, gave at least 15 double words, and double word 15 was not read since.
 ///
 /// If the chip isn't known, 35h is not sent. Then 35h returns `Stopped` until an ID other than FFFFFFh was read, and
 /// later 00h as each reply byte. If the chip is known, 35h is passed on unchanged. Each other transaction is always
-/// passed on. The chip stays known, so the bus inside must stop if the ID changes, as a `CheckedStatus` does. That bus
-/// itself also sends 35h after a status write, but sends a status write only if 35h was passed on to it before.
+/// passed on. The chip stays known, so the bus inside must stop if the ID changes, as a `CheckedStatus` does. After a
+/// status write a `CheckedStatus` itself sends 35h, but it passes on a status write only if it received 35h before.
 ///
 /// This bus is well-behaved if the bus inside is, and the chip has an ID of `ids` or the ID `before`. It is never
 /// punctual.

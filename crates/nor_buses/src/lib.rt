@@ -2,9 +2,9 @@
 //! adds a feature, for example pauses or second reads. The program `flashnor-serprog` uses these buses; the program
 //! `flashnor` does not.
 //!
-//! In contracts, the chip of each of these buses is that of the bus inside. The modifying commands (`sent`) and the
-//! result of the last poll (`polled_ready`) are those of the wrapping bus's own history, except for `Paced`,
-//! `ReadAhead` and `ReadTwice`, which have those of the bus inside.
+//! In contracts, the chip of each of these buses is that of the bus inside. The transactions that may modify the chip
+//! (`sent`) and the result of the last poll (`polled_ready`) are those of the wrapping bus's own history, except for
+//! `Paced`, `ReadAhead` and `ReadTwice`, which have those of the bus inside.
 #![tactic(auto)]
 
 mod again;

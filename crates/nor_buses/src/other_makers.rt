@@ -15,7 +15,7 @@ use crate::known_status2::is_id_listed;
 use nor_model::opcodes::{READ_ID, READ_SFDP, READ_UNIQUE};
 use nor_model::{Bus, History, Stopped};
 
-// The ID (9Fh) that is read if the chip is busy or has no contact.
+// The ID (9Fh) that is read if the chip is busy, or if it has no contact and a pull-up holds the line high.
 const UNANSWERED: [u8; 3] = [0xFF; 3];
 
 // The number of bytes of the SFDP table that the engine reads from a chip: double words 1 to 9.
@@ -31,9 +31,9 @@ const WORDS: u8 = 11;
 /// passed on unchanged. `rows`, `missing` and `refuses` are the arguments of `new`.
 ///
 /// - A unique ID (4Bh with eight reply bytes) that is FFh or 00h in all bytes is no unique ID: the chip ignores 4Bh,
-///   and the line keeps the level to which it is pulled, which another clip may change. Then this bus reads the ID
-///   (9Fh) and, unless the ID is FFFFFFh, returns `missing` as each byte. FFFFFFh means that the chip is busy or has no
-///   contact.
+///   and the line keeps the level to which it is pulled (perhaps another level with another clip). Then this bus reads
+///   the ID (9Fh) and, unless the ID is FFFFFFh, returns `missing` as each byte. FFFFFFh means that the chip is busy or
+///   has no contact.
 /// - Before it reads an SFDP table (5Ah with 36 reply bytes), this bus reads the ID. If the ID is FFFFFFh or one of
 ///   `rows`, the table is returned unchanged. In other tables, opcodes of erase types are returned as 00h in the three
 ///   cases below, so that the engine doesn't use them.
@@ -42,10 +42,10 @@ const WORDS: u8 = 11;
 /// - If `refuses` is true, all four opcodes are returned as 00h unless bits 1 and 0 of double word 1 are 01b, which
 ///   means that the erase of 4 KiB is available everywhere (JESD216, double word 1). Spansion S25FL128S, for example,
 ///   has sectors of 4 KiB only at one end.
-/// - If `refuses` is true, all four opcodes are also 00h if a page has fewer than 256 bytes, because the 256 bytes that
-///   the engine programs at once would wrap. Bits 7 to 4 of double word 11 are the binary logarithm of the page size
-///   (JESD216A, double word 11). If the header of the table, at address 8, was read before and gives at least 11 double
-///   words, this bus reads 44 bytes instead of 36.
+/// - If `refuses` is true, all four opcodes are also 00h if a page has fewer than 256 bytes, because up to 256 bytes
+///   that the engine programs at once could wrap. Bits 7 to 4 of double word 11 are the binary logarithm of the page
+///   size (JESD216A, double word 11). If the header of the table, at address 8, was read before and gives at least 11
+///   double words, this bus reads 44 bytes instead of 36.
 ///
 /// This bus is well-behaved if the bus inside is, and if the chip has an ID of `rows` and a unique ID, so that no reply
 /// is changed. It is never punctual, because it may send a second transaction.
@@ -92,7 +92,8 @@ impl<B: Bus + Drop> OtherMakers<B> {
         &self.bus
     }
 
-    /// Returns whether, by the double word 11 of an SFDP table that was read last, a page has fewer than 256 bytes.
+    /// Returns whether the last double word 11 that this bus read from an SFDP table gives a page fewer than 256 bytes.
+    /// Returns false if this bus read none.
     pub fn has_small_pages(&self) -> bool
         ensures { result ≡ has_small_pages self.now }
     {
@@ -217,7 +218,7 @@ impl<B: Bus> OtherMakers<B> {
         }
     }
 
-    // Reads 44 bytes of an SFDP table, and fills `reply` with the 36 bytes that this bus returns.
+    // Reads 44 bytes of an SFDP table, records whether its pages are small, and fills the 36 bytes of `reply`.
     fn judge(&mut self, out: &[u8], reply: &mut [u8]) -> Result<(), Stopped>
         requires { length reply.old ≡ 36 }
         ensures history { history_of self.new ≡ history_of self.old }

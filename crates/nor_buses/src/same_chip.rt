@@ -24,7 +24,7 @@ pub struct OtherChip {
 ///
 /// The bus remembers the reply to the last read of the unique ID (4Bh with eight reply bytes), and reads the unique ID
 /// again before the first modifying command. The chip must be ready then, because a busy chip ignores 4Bh. If the reply
-/// differs, this and each later modifying command is refused (`Stopped`). Without an earlier reply nothing is compared.
+/// differs, this and each later modifying command is refused (`Stopped`). Without an earlier reply nothing is read.
 ///
 /// Two chips without unique ID that both return only FFh, or only 00h, can't be distinguished. A wrong bit looks like
 /// another chip, so put this bus around a bus that reads the unique ID twice (`ReadTwice`).

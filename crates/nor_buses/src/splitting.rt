@@ -19,15 +19,16 @@ use nor_model::{Bus, History, Stopped};
 ///   write enable (06h). The caller polls after the last part.
 ///
 /// Any other transaction that exceeds a limit returns `Stopped`, and nothing is sent. The same happens to a read that
-/// is too long and passes address FFFFFFh, and to a program that is too long and passes the end of its page.
+/// is too long and passes address FFFFFFh, and to a program that is too long and passes the end of its page or requests
+/// reply bytes.
 ///
 /// A program in parts stops if the bus inside stops, or after 65,536 polls in a row that show BUSY. Then perhaps only
 /// some of its bytes are programmed, as after an interrupted program. After a session, a restore can undo this.
 ///
 /// This bus is proved to be well-behaved if the bus inside is, and the limits allow a page program (260 bytes sent) and
 /// the read of a sector (4,096 bytes read). Then it is also punctual and steady if the bus inside is, and takes reads
-/// as long as `longest_read` and the bus inside allow. With narrower limits this bus is not well-behaved, because a
-/// program in parts that stops may leave the page partly programmed, the chip idle and its write enable latch set.
+/// as long as `longest_read` and the bus inside allow. With narrower limits this bus does not count as well-behaved:
+/// for example, a program in parts that stops may leave the page partly programmed, the chip idle and WEL set.
 ///
 /// The history has one entry for a transaction that was split, and lists a rejected transaction without a reply.
 #[derive(Drop)]
@@ -44,7 +45,8 @@ pub struct SplittingBus<B> {
 impl<B: Bus + Drop> SplittingBus<B> {
     ghost use Rattle.nor_buses.specs.Splitting.{split_of, sends_most, receives_most, history_of};
 
-    /// Returns a bus over `bus`. A transaction over `bus` can send `longest_write` bytes and read `longest_read` bytes.
+    /// Returns a bus over `bus`. A transaction of `bus` can send at most `longest_write` bytes and read at most
+    /// `longest_read` bytes.
     pub fn new(bus: B, longest_write: u32, longest_read: u32) -> SplittingBus<B>
         requires writes { 5 ≤ longest_write }
         requires reads { 1 ≤ longest_read }

@@ -1,4 +1,4 @@
-//! A bus that detects a lost chip, reads status registers twice, and checks each status write.
+//! A bus that checks IDs, status registers and status writes, and detects a chip that lost contact or power.
 ghost use Rattle.std.specs.Prelude.{◌≡◌, ◌⊎◌, ◌%◌, ◌||◌, ◌∷◌, [], true, false, length, ℕ, List, None, Some, OnOk, OnErr, IfOk};
 ghost use Rattle.std.specs.Option.{ForSome};
 ghost use Rattle.nor_model.specs.Bus.{IsHonestFor, SameNature, AtStop, Transfers};
@@ -20,17 +20,19 @@ use nor_model::{Bus, History, Status, Stopped, is_changing};
 
 const BUSY: u8 = 0x01;
 
-/// A bus that detects a lost chip, reads status registers twice, and reads each status write back. It refuses status
-/// writes that would change any bit except the protection bits (for a bus made with `locking`, any bit except SRP0).
+/// A bus that detects a chip without contact or power, checks reads of status registers, and reads status writes back.
+/// It refuses status writes that would change any bit except the protection bits (for a bus made with `locking`, any
+/// bit except SRP0).
 ///
 /// - If contact or power fails, each reply byte is FFh or 00h, however often it is read. Therefore the ID is read (9Fh
-///   with three reply bytes) after each reply on which a decision depends, except for polls that are believed at once.
-///   Each ID, even one that the caller reads, must equal the first ID; otherwise the call returns `Stopped`.
-/// - The ID is read after each successful read of data (03h), SFDP (5Ah) or the unique ID (4Bh).
+///   with three reply bytes) after each successful read of data (03h), SFDP (5Ah) or the unique ID (4Bh), and after
+///   reads of status registers as described below. Each ID that is read in this way, even by the caller, must equal the
+///   first ID; otherwise the call returns `Stopped`.
 /// - A poll (05h with one reply byte) is carried out with two reply bytes, since a chip repeats its status (W25Q64FV
 ///   datasheet, Read Status Register). If one byte shows BUSY, that byte is returned; otherwise both must be equal.
 ///   Before the first modifying command, and until a status write is read back, a poll that shows a ready chip is made
-///   twice. Both polls must have the same reply, and the ID is read after each. Other polls are believed at once.
+///   twice. Both polls must have the same reply, and the ID is read after each. Any other poll is made only once. After
+///   a modifying command, bytes or polls that differ count as BUSY, since the operation may just have ended.
 /// - Status 2 (35h with one reply byte) is read twice, and the ID is read after each read. Both replies must be equal.
 /// - A status write (01h) is passed on only if it has two data bytes with BUSY, WEL and SUS clear, and if both status
 ///   registers were read twice in this way before. The bits that it must not change must be as they were read.
@@ -39,11 +41,11 @@ const BUSY: u8 = 0x01;
 /// - If the serial port seems to change bytes (`changed_byte`), a bus made with `guarding` refuses the first modifying
 ///   command, because a journal of such data would be wrong.
 ///
-/// A busy chip ignores a read of its ID (W25Q64FV datasheet, Instructions), so it would count as lost. Therefore a poll
-/// that returns BUSY reads no ID, and the caller must read IDs, data, SFDP and status 2 only while the chip is ready.
+/// A busy chip ignores 9Fh (W25Q64FV datasheet, Instructions), so it would count as lost. Therefore no ID is read just
+/// after a poll that shows BUSY. The caller may read IDs, data, SFDP, unique IDs and status 2 only from a ready chip.
 ///
-/// This bus is never punctual, because it may stop after each of the transactions that it makes over the bus inside. It
-/// is proved to be well-behaved if the bus inside is, and steady if the bus inside is steady. If a transaction fails,
+/// This bus is never punctual, because it may make several transactions over the bus inside for one transaction. It is
+/// proved to be well-behaved if the bus inside is, and steady if the bus inside is steady. If a transaction fails,
 /// `reply` may contain bytes that were read. The history lists refused transactions, too, so these count as sent.
 #[derive(Drop)]
 pub struct CheckedStatus<B: Bus + Drop> {
@@ -52,7 +54,7 @@ pub struct CheckedStatus<B: Bus + Drop> {
     fault: Option<CheckFault>,
     history: History,
     counts: ByteCounts,
-    // True if this bus refuses the first modifying command over a port that seems to change bytes.
+    // True if this bus refuses the first modifying command when the port seems to change bytes (`changed_byte`).
     guards: bool,
     ghost one_read: { ForSome known.one (λ byte. was_read_twice 0x05 byte (B.state bus).history ≡ true) },
     ghost two_read: { ForSome known.two (λ byte. was_read_twice 0x35 byte (B.state bus).history ≡ true) },
@@ -134,8 +136,8 @@ impl<B: Bus + Drop> CheckedStatus<B> {
         self.fault
     }
 
-    /// Returns the byte value that the port seems to change: 0Dh or 0Ah, if this value does not occur in the data that
-    /// was read, the other of the two occurs at least 64 times, and at least 192 of the 256 values occur.
+    /// Returns the value (0Dh or 0Ah) that the port seems to change into the other, or `None`. In the data that was
+    /// read, this value does not occur, the other occurs at least 64 times, and at least 192 of the 256 values occur.
     pub fn changed_byte(&self) -> Option<ChangedByte> {
         self.counts.changed_byte()
     }

@@ -33,8 +33,8 @@ const ADDRESSES_END: usize = 1 << 24;
 /// may contain bytes that were read.
 ///
 /// This bus is never punctual, and it is proved to be well-behaved if the bus inside is. If the bus inside is
-/// well-behaved and punctual, a read of at most 65,536 bytes that the bus inside takes fails only if no transaction is
-/// left afterwards. The history has one entry for a repeated read.
+/// well-behaved and punctual, a read of at most 65,536 bytes that the bus inside takes fails only if the allowance of
+/// the bus inside is used up. The history has one entry for a repeated read.
 #[derive(Drop)]
 pub struct ReadTwice<B> {
     bus: B,
@@ -94,7 +94,7 @@ impl<B: Bus + Drop> ReadTwice<B> {
 }
 
 impl<B: Bus> ReadTwice<B> {
-    // Makes one transaction. The clause `records` is about the state after the caller has added it to the history.
+    // Carries out `out`. The clause `records` is about the state after the caller has added `out` to the history.
     fn carry(&mut self, out: &[u8], reply: &mut [u8]) -> Result<(), Stopped>
         ensures once { IsHonestFor out.now (length reply.old) (B.state (twice_of self.old))
             → begins_read out.now ≡ false
@@ -135,9 +135,9 @@ impl<B: Bus> ReadTwice<B> {
         Ok(())
     }
 
-    // Repeats the read `out`, whose first reply was `reply`. If an image is expected, a read of data up to address
-    // FFFFFFh repeats only the sectors that differ from the image. Returns whether the second replies equal the first
-    // ones. In the clauses, `before` is the state before the first read.
+    // Repeats the read `out`, whose first reply was `reply`, and returns whether the second bytes equal the first ones.
+    // If an image is expected, and `out` is a read of data that doesn't pass address FFFFFFh, only the sectors that
+    // differ from the image are read again. In the clauses, `before` is the state before the first read.
     fn is_confirmed(&mut self, out: &[u8], reply: &[u8]) -> Result<bool, Stopped>
         requires reads { begins_read out.now ≡ true }
         requires len { length reply.now ≤ 65536 }

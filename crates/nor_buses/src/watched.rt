@@ -21,7 +21,7 @@ const LOOK_AFTER: u32 = 256;
 // busy.
 const ALL_SET: u8 = 0xFC;
 
-/// A bus that stops if the chip lost contact or power while the caller polls it. Then a pull-up makes each reply FFh.
+/// A bus that stops if the chip lost contact or power while the caller polls it, and a pull-up makes each reply FFh.
 /// This looks like BUSY, so without this bus a wait uses up its 65,536 polls and takes minutes.
 ///
 /// After 256 polls (05h) in a row whose replies were one or two bytes FFh, this bus reads the ID (9Fh), except in the
@@ -30,8 +30,8 @@ const ALL_SET: u8 = 0xFC;
 ///
 /// A chip that is only busy also ignores 9Fh. But its status 1 is FFh only if SRP0 and the protection bits in status 1
 /// are set, which no erase and no program changes (W25Q64FV datasheet, Status Registers). Therefore this bus does not
-/// read the ID if the last status 1 other than FFh was FCh or more, or if no poll has returned another value than FFh
-/// yet. A status write may set all these bits, but it ends after at most 30 ms, before 256 polls over a `Paced`.
+/// read the ID if the last poll that didn't return only FFh ended with FCh or more, or if there was no such poll yet. A
+/// status write may set all these bits, but it ends after at most 30 ms, before 256 polls over a `Paced`.
 ///
 /// This bus is well-behaved if and only if the bus inside is. It is neither punctual nor steady, because it may stop
 /// after a poll that the chip carried out. It doesn't detect a line that is pulled low, which reads as 00h and looks
@@ -39,16 +39,16 @@ const ALL_SET: u8 = 0xFC;
 #[derive(Drop)]
 pub struct Watched<B> {
     bus: B,
-    // How many polls in a row up to now returned only FFh since this bus last read the ID; at most `LOOK_AFTER`.
+    // The number of polls in a row, up to now, that returned only FFh. At most `LOOK_AFTER`; 0 after a call of `look`.
     row: u32,
-    // True if the last poll whose reply wasn't only FFh returned a status 1 below `ALL_SET`.
+    // True if the reply to the last poll that didn't return only FFh ended with a status 1 below `ALL_SET`.
     has_status: bool,
     is_lost: bool,
     history: History,
 }
 
 impl<B: Bus + Drop> Watched<B> {
-    /// Returns a bus over `bus` that detects a lost chip.
+    /// Returns a bus over `bus` that stops if the chip lost contact or power while it is polled.
     pub fn new(bus: B) -> Watched<B>
         ensures bus { watched_by result ≡ bus }
         ensures lost { is_lost result ≡ false }

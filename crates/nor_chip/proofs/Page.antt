@@ -13,7 +13,8 @@ pub record ClearsFrom (from done : ℕ) (sent old new : List ℕ) : Type 0 where
   pub below : (a : ℕ) → a < from → slice_index new a ≡ slice_index old a
   pub above : (a : ℕ) → from + done ≤ a → slice_index new a ≡ slice_index old a
 
--- Holds if `sent` is `skipped` bytes without effect, `front` up to the page's end, and `back` from the page's start.
+-- Holds if `sent` is `skipped` bytes without effect, then `front` (at most up to the page's end), then `back` (from the
+-- page's start).
 pub record IsParted (at : ℕ) (sent : List ℕ) (skipped : ℕ) (front back : List ℕ) : Type 0 where
   pub skips : skipped ≡ length sent - 256
   pub front_len : length front ≡ min (length sent - skipped) (256 - (at + skipped) % 256)

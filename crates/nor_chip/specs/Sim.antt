@@ -64,7 +64,7 @@ pub record TearsOff (torn fill : Option ℕ) (out : List ℕ) (old new : Chip) :
   pub torn_off : TornTo torn out old reached
   pub lost : LostTo fill reached new
 
--- Holds if a transaction has these effects on the simulated bus, which the contract of a bus leaves open.
+-- Holds if a transaction that turns `old` into `new` has the effects below, which a bus's contract doesn't determine.
 pub record Simulates (out answer : List ℕ) (outcome : Result Unit Stopped) (old new : SimBus) : Type 0 where
   pub fill : fill_of new ≡ fill_of old
   pub torn : torn_of new ≡ torn_of old

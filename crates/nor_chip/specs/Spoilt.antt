@@ -20,8 +20,8 @@ history_of bus = bus.history.exchanges
 abbrev pub succeeded_of : {B : Type 0} → SpoiltBus B → ℕ
 succeeded_of bus = bus.sent
 
--- The state of a faulty bus, which isn't well-behaved: the chip is that of the inner bus, but the history is that of
--- the faulty bus, with dropped transactions.
+-- The state of a faulty bus: that of the inner bus, except that it isn't well-behaved, and that its history, and the
+-- fields that follow from it, are those of the faulty bus. Its history includes dropped transactions.
 abbrev pub spoilt_state : {B : Type 0} → (B → BusState) → SpoiltBus B → BusState
 spoilt_state state bus = record (state bus.bus) {
   honest = false;
@@ -54,7 +54,8 @@ pub record IsWithheld {B : Type 0} (byte : ℕ) (asked answer : List ℕ) (outco
   pub inner : new ≡ old
   pub replies : answer ≡ replicate (length asked) byte
 
--- Holds if each byte of `answer` is `byte_for` of the byte at the same index of `replied`, the reply of the inner bus.
+-- Holds if each byte of `answer` is `byte_for` of the byte at the same index of `replied`. A well-behaved inner bus
+-- that takes a transaction of this length replied with `replied`.
 pub record IsPassedOn (byte_for : ℕ → ℕ) (out asked answer : List ℕ) (old new : BusState) : Type 0 where
   pub replied : List ℕ
   pub as_many : length answer ≡ length replied

@@ -111,8 +111,8 @@ impl SimBus {
         self.fill = fill;
     }
 
-    /// Sets how many bytes are still sent when the bus stops at a transaction. With `Some(count)`, at most `count`
-    /// bytes, which the chip treats as a whole transaction without a reply; with `None`, as after `new`, none.
+    /// Sets how many bytes are still sent when the bus stops at a transaction. With `None`, as after `new`, no byte is
+    /// sent. With `Some(count)`, at most the first `count` are sent, and the chip treats them as a whole transaction.
     pub fn tear(&mut self, count: Option<u32>)
         ensures state { ⟦<SimBus as Bus>⟧.state self.new
             ≡ record (⟦<SimBus as Bus>⟧.state self.old) { steady = is_none (fill_of self.old) && is_none count } }

@@ -10,8 +10,8 @@ use std::io::{self, Write};
 
 const PIECE: usize = 64;
 
-/// A bus that passes transactions on to an inner bus, and logs a line for each transaction that succeeds: the bytes
-/// sent, in hexadecimal, and if bytes were received, ` > ` and these bytes or, for more than three, ` > N bytes`.
+/// A bus that passes transactions on to an inner bus, and logs one line for each transaction that succeeds: the bytes
+/// sent, in hexadecimal. If 1 to 3 bytes were received, ` > ` and these bytes follow; if more, ` > N bytes` follows.
 ///
 /// The bus buffers nothing. If each write to the log costs a system call, use a log with a buffer, such as `BufWriter`.
 #[derive(Drop)]

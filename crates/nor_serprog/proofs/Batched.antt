@@ -1,4 +1,4 @@
--- Over a well-behaved port, `IsSettledBatch` stays true, and each transaction makes one step of the chip or is cut.
+-- Over a well-behaved port, `IsSettledBatch` stays true, and each transaction makes one step or is interrupted.
 use Rattle.std.proofs.Common.{◌≡◌, ◌∙◌, ◌+◌, ◌≤◌, ◌++◌, ℕ, Bool, true, false, List, [], ◌∷◌, length, refl, sym, ap, subst, arith, inl, inr, length-append}
 use Rattle.std.specs.Prelude.{Result, Ok, Err, OnOk, OnErr}
 use Rattle.std.proofs.lemmas.Bool.{false≢true, cases_Bool}

@@ -1,4 +1,4 @@
--- The effect of an exchange of an O_SPIOP over a well-behaved port, derived from those of the three calls of the port.
+-- The effect of an exchange of an O_SPIOP over a well-behaved port, derived from the three calls of the port.
 use Rattle.std.proofs.Common.{◌≡◌, ◌∙◌, ◌<◌, ◌≤◌, true, ◌++◌, ℕ, Bool, List, [], ◌∷◌, length, refl, sym, subst, ap, arith, length-append}
 use Rattle.std.specs.Prelude.{slice_index, Result, Ok, Err, OnErr}
 use Rattle.std.proofs.lemmas.List.{append-nil}

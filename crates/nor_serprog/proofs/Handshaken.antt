@@ -194,7 +194,7 @@ faults_from least done firmware hertz = first_handshake_fault (drop done (identi
 abbrev pub Starts : {P C : Type 0} → (P → PortState) → Link P C → Type 0
 Starts port link = AwaitsCommand (port link.port) × (is_cut link ≡ false)
 
--- Holds if the steps since the link `start` made at most `calls` calls, found none of the first `done` errors of
+-- Holds if the steps since the link was `start` made at most `calls` calls, found none of the first `done` errors of
 -- `identify_faults`, and changed the settings by `after`.
 pub record HasReached {P C : Type 0} (port : P → PortState) (start : Link P C) (hertz : Option ℕ) (least : Least)
     (calls done : ℕ) (after : Firmware → ProgrammerSettings → ProgrammerSettings) (commands : List ℕ) (link : Link P C) : Type 0 where

@@ -1,4 +1,4 @@
--- If exactly the bytes `wanted` are pending, `skip_past` receives all of them or the port fails.
+-- If exactly the bytes `wanted` are pending (`IsPending`), `skip_past` receives all of them or the port fails.
 use Rattle.std.proofs.Common.{◌≡◌, ◌≢◌, ◌∙◌, ◌+◌, ◌-◌, ◌<◌, ◌≤◌, inl, inr, true, ◌++◌, ℕ, suc, Bool, eqb, List, [], ◌∷◌, length, get_or, take, drop, refl, sym, ap, arith, append_assoc, length-append, length-drop, length-take-le}
 use Rattle.std.specs.Prelude.{slice_index, replicate}
 use Rattle.std.specs.Cmp.Lexicographic.{pointwise}

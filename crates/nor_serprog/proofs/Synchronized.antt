@@ -14,7 +14,8 @@ row =
     Nop ∷ Nop ∷ Nop ∷ Nop ∷ Nop ∷ Nop ∷ Nop ∷ Nop ∷ Nop
     ∷ SyncNop ∷ SyncNop ∷ Nop ∷ SyncNop ∷ Nop ∷ Nop ∷ SyncNop ∷ SyncNop ∷ SyncNop ∷ Nop ∷ []
 
--- Holds if `bytes` are the frames of `commands`, and `answers` the replies to `commands`. The fields say more.
+-- Holds if `bytes` (at most 260) are the frames of `commands`, which change no settings, and `answers` (1 to 25 bytes,
+-- the first not 0) are the replies of any firmware to `commands`.
 pub record IsRow (commands : List Command) (bytes answers : List ℕ) : Type 0 where
   pub frames : bytes ≡ frames_of commands
   pub has : (firmware : Firmware) → HaveReplies firmware commands

@@ -1,4 +1,4 @@
--- What a port is asked to send for transactions with the chip.
+-- What a port is asked to send for transactions with the chip and for synchronizations.
 use Rattle.std.specs.Prelude.{◌≡◌, ◌<◌, ◌≤◌, ◌++◌, ◌⊎◌, ℕ, Bool, true, List, [], ◌∷◌, Some, None, All, length, slice_index, if◌then◌else◌}
 use Rattle.nor_model.specs.Exchange.{Exchange}
 use Rattle.nor_serprog.specs.Frame.{operation_frame}
@@ -28,9 +28,9 @@ FitsOperation out replies = (length out ≤ 260) × (replies < 16777216)
 abbrev pub IsLongProgram : (out : List ℕ) → Type 0
 IsLongProgram out = (slice_index out 0 ≡ 0x02) × (36 ≤ length out)
 
--- Holds if the port was asked to send only the frame of the O_SPIOP that sends `out` and reads `replies` bytes and, if
--- a write enable was held back (`waits`), before it the frame of the write enable. One call sent both frames only if
--- `out` is a long program. The lengths satisfy `FitsOperation`.
+-- Holds if the port was asked to send these frames, and nothing else: the frame of a write enable, if one was held back
+-- (`waits`), and then the frame of the O_SPIOP that sends `out` and reads `replies` bytes. One call sent both frames
+-- only if `out` is a long program. The lengths satisfy `FitsOperation`.
 pub record AsksInOrder (waits : Bool) (out : List ℕ) (replies : ℕ) (old new : List (List ℕ)) : Type 0 where
   pub fits : FitsOperation out replies
   pub asks : ((new ≡ (lead_frame waits ++ operation_frame out replies) ∷ old) × (waits ≡ true → IsLongProgram out))
@@ -49,7 +49,7 @@ abbrev pub AsksSync : (old new : List (List ℕ)) → Type 0
 AsksSync old new =
     (new ≡ old) ⊎ ((new ≡ (0x00 ∷ []) ∷ old) ⊎ (new ≡ nop_row ∷ (0x00 ∷ []) ∷ old))
 
--- Holds if `argument` is a frame of O_SPIOP, or two: of a write enable (06h) and of a long program (`IsLongProgram`).
+-- Holds if `argument` is one frame of O_SPIOP, or the frames of a write enable (06h) and of a long program after it.
 pub record IsOneOperation (argument : List ℕ) : Type 0 where
   pub waits : Bool
   pub out : List ℕ

@@ -1,4 +1,4 @@
--- A link, and the write enable that is held back until the next transaction over the link, as contracts see them.
+-- Definitions for the contracts of `Batch`: a link, and whether a write enable is held back until the next transaction.
 use Rattle.std.specs.Prelude.{◌≡◌, ◌≤◌, ℕ, Bool, true}
 use Rattle.nor_serprog.specs.declared.batch.Batch.{Batch}
 use Rattle.nor_serprog.specs.declared.link.Link.{Link}
@@ -22,7 +22,8 @@ buffer_in batch = batch.buffer
 abbrev pub device_at : {P C : Type 0} {over : Ghosts P C} → Batch P C over → Device
 device_at {over = over} batch = enabled_device batch.waits (over.state batch.link.port).device
 
--- Holds if `IsSettled` holds and, for a well-behaved port and a link in step, the serial buffer holds `least` bytes.
+-- Holds if the link satisfies `IsSettled` and, if the port is well-behaved and the link is in step, the programmer
+-- reports a serial buffer of at least `least` bytes.
 pub record IsSettledFor {P C : Type 0} (least : ℕ) (port : P → PortState) (link : Link P C) : Type 0 where
   pub settled : IsSettled port link
   pub buffer : (port link.port).honest ≡ true → is_in_step link ≡ true

@@ -47,8 +47,8 @@ pub record MayLoseDevicePower (old new : Device) : Type 0 where
   pub chip : (new.chip ≡ old.chip) ⊎ PowerLost old.chip new.chip
   pub worn : (s : ℕ) → new.worn s ≡ old.worn s
 
--- Holds if the transaction `out` may have been interrupted after the programmer sent its first `count` bytes, or all,
--- to the chip and read the bytes `read`. Then the chip may have lost its power.
+-- Holds if the transaction `out` may have been interrupted: the programmer sent the first `count` bytes of `out` (or
+-- all, if there are fewer) to the chip and read the bytes `read`, and then the chip may have lost its power.
 pub record IsCut (out : List ℕ) (old new : Device) : Type 0 where
   pub count : ℕ
   pub read : List ℕ
@@ -113,7 +113,7 @@ pub record IsSent (bytes : List ℕ) (old new : PortState) : Type 0 where
   pub done : CompletesOperation bytes old.device → OperatesFrame (old.device.begun ++ bytes) old.device new.device
   pub replies : (commands : List Command) → AsksFor commands bytes old.device
       → RepliesTo commands old.device new.device
-  -- assumes that no byte of the second frame is lost while the programmer carries out the first frame
+  -- This assumes that no byte of the second frame is lost while the programmer carries out the first frame
   pub both : (first second : List ℕ) → CompletesBoth first second bytes old.device
       → OperatesBoth first second old.device new.device
 
@@ -129,7 +129,8 @@ pub record AreWithinLimits (commands : List Command) (device : Device) : Type 0 
   pub reads : length (replies_of device.firmware commands) ≤ 4096
 
 -- Holds if the port failed while it sent `bytes`, after any number of them. If `bytes` would complete a frame of
--- O_SPIOP, its transaction was cut, because a programmer may begin a transaction before the frame is complete.
+-- O_SPIOP, its transaction may have been interrupted (`IsCut`), because a programmer may begin a transaction before the
+-- frame is complete.
 pub record IsCutOff (bytes : List ℕ) (old new : PortState) : Type 0 where
   pub firmware : new.device.firmware ≡ old.device.firmware
   pub none_left_for_commands : (commands : List Command) → AsksFor commands bytes old.device
@@ -185,8 +186,8 @@ pub record Exchanged (out answer : List ℕ) (old new : PortState) : Type 0 wher
   pub settings : new.device.settings ≡ old.device.settings
   pub steps : StepsOnce out answer old.device new.device
 
--- Holds if `out` was interrupted, fewer than 3 calls are left and, for lengths within the limits (`few_left`), fewer
--- than 3 were left before. The frame of `out` requests `replies` bytes, and the caller requests `wanted` bytes.
+-- Holds if `out` may have been interrupted (`IsCut`), and fewer than 3 calls are left. For lengths within the limits
+-- (`few_left`), fewer than 3 were left before. The frame requests `replies` bytes, and the caller `wanted` bytes.
 pub record Interrupted (out : List ℕ) (replies wanted : ℕ) (old new : PortState) : Type 0 where
   pub few_left : length out ≤ 260 → replies ≤ 4096 → wanted ≤ replies → old.left < 3
   pub few : new.left < 3

@@ -1,4 +1,4 @@
--- The effect of a transaction, after a write enable that was held back, if any, over a well-behaved port.
+-- The effect of a transaction over a well-behaved port, together with a write enable that may have been held back.
 use Rattle.std.specs.Prelude.{◌≡◌, ◌<◌, ◌≤◌, ◌++◌, ◌&&◌, ◌||◌, ℕ, Bool, true, List, length}
 use Rattle.nor_model.specs.Chip.{Chip}
 use Rattle.nor_model.specs.Step.{is_idle}
@@ -19,15 +19,15 @@ pub record SameChipOf (old new : Device) : Type 0 where
   pub chip : new.chip ≡ old.chip
   pub worn : (s : ℕ) → new.worn s ≡ old.worn s
 
--- Holds if `frames` are the frame of the O_SPIOP that sends `out` and reads `replies` bytes (both lengths below 2^24)
--- and, if `waits`, before it the frame of a write enable. Two frames must fit into the serial buffer.
+-- Holds if `frames` are the frame of a write enable, if `waits` is true, and then the frame of the O_SPIOP that sends
+-- `out` and reads `replies` bytes (both lengths below 2^24). Two frames must fit into the serial buffer.
 pub record SendsBatch (waits : Bool) (out : List ℕ) (replies : ℕ) (frames : List ℕ) (device : Device) : Type 0 where
   pub is : frames ≡ lead_frame waits ++ operation_frame out replies
   pub whole : IsFrame (operation_frame out replies)
   pub reads : replies_in (operation_frame out replies) ≡ replies
   pub fits : waits ≡ true → length frames ≤ buffer_at device.firmware
 
--- Holds if only the ACK of the write enable was read or, without a write enable (`is_led` is false), nothing.
+-- Holds if only the ACK of the write enable was read (if `is_led` is true), or nothing was read (if it is false).
 pub record TakesAcks (is_led : Bool) (old new : PortState) : Type 0 where
   pub pending : old.device.pending ≡ acks is_led ++ new.device.pending
   pub begun : new.device.begun ≡ old.device.begun

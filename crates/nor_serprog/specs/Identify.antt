@@ -59,7 +59,8 @@ version_fault firmware = if firmware.version == 1 then None else Some (Version f
 abbrev pub operation_fault : {C : Type 0} → Firmware → Option (HandshakeFault C)
 operation_fault firmware = if has_command firmware 0x13 then None else Some (Lacks 0x13)
 
--- The error `NotSpi` if SPI isn't supported, or isn't the only supported type of bus and S_BUSTYPE (12h) is missing.
+-- The error `NotSpi`, or `None` if the programmer supports SPI, and SPI is its only type of bus or can be selected with
+-- S_BUSTYPE (12h).
 abbrev pub buses_fault : {C : Type 0} → Firmware → Option (HandshakeFault C)
 buses_fault firmware =
     if not (bit_and (buses_of firmware) 8 == 0) && (buses_of firmware == 8 || has_command firmware 0x12) then None
@@ -100,7 +101,8 @@ whole_limits = record { write = 260; read = 4096; frame = 267 }
 abbrev pub part_limits : Least
 part_limits = record { write = 5; read = 1; frame = 12 }
 
--- For each step of a handshake that requires the limits `least`, in order: the error that the firmware causes, if any.
+-- The errors that the firmware causes in a handshake that requires the limits `least`: one entry for each check, in
+-- order, which is `None` if the check succeeds.
 abbrev pub identify_faults : {C : Type 0} → Least → Firmware → (hertz : Option ℕ) → List (Option (HandshakeFault C))
 identify_faults least firmware hertz =
     version_fault firmware

@@ -1,4 +1,4 @@
--- A link to a programmer, as contracts see it.
+-- Definitions for the contracts of `Link`, a link to a programmer.
 use Rattle.std.specs.Prelude.{◌≡◌, ◌<◌, Bool, true, false}
 use Rattle.nor_serprog.specs.declared.link.Link.{Link}
 use Rattle.nor_serprog.specs.declared.link.Sync.{Sync}

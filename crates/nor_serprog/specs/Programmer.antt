@@ -1,4 +1,4 @@
--- The limits, settings and features that a programmer reported when it was identified.
+-- The name, limits, clock and features that a programmer reported when it was identified.
 use Rattle.std.specs.Prelude.{ℕ, Bool, List, Option}
 use Rattle.nor_serprog.specs.declared.programmer.AnyProgrammer.{AnyProgrammer}
 use Rattle.nor_serprog.specs.declared.programmer.Programmer.{Programmer}

@@ -11,7 +11,7 @@ pub record AwaitsCommand (port : PortState) : Type 0 where
   pub honest : port.honest ≡ true
   pub idle : IsIdle port.device
 
--- Holds if at most `calls` calls were made, and the programmer is idle. Chip, firmware and settings are unchanged.
+-- Holds if after at most `calls` calls the programmer is idle, and chip, `worn`, firmware and settings are unchanged.
 pub record OnlyAsks (calls : ℕ) (old new : PortState) : Type 0 where
   pub left : old.left ≤ new.left + calls
   pub awaits : AwaitsCommand new

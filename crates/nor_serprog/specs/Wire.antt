@@ -1,4 +1,4 @@
--- The record of what a port was asked to send and of what it returned, as contracts see it.
+-- Definitions for the contracts of `Wire`, the record of what a port was asked to send and of what it returned.
 use Rattle.std.specs.Prelude.{ℕ, List, [], ◌∷◌}
 use Rattle.nor_model.specs.Exchange.{Exchange}
 use Rattle.nor_serprog.specs.declared.wire.Wire.{Wire}

@@ -1,4 +1,4 @@
-//! A write enable that waits to be sent over a link, together with the page program that it enables.
+//! A link over which a write enable may wait, to be sent together with the page program that it enables.
 ghost use Rattle.std.specs.Prelude.{◌≡◌, ◌<◌, ◌≤◌, ◌⊎◌, ◌++◌, ◌∷◌, [], ℕ, List, true, false, length, OnOk, OnErr, IfOk};
 ghost use Rattle.nor_serprog.specs.Device.{StepsOnce, IsCut};
 ghost use Rattle.nor_serprog.specs.Enabled.{SameChipOf};
@@ -17,9 +17,9 @@ const LONGEST_PAIR: usize = 275;
 // synchronization sends only 20 bytes, which cannot complete the frame of a program that was cut inside its address.
 const LONG_PROGRAM: usize = 36;
 
-/// A link, and whether a write enable waits to be sent over this link. Erases and status writes are not sent together
-/// with their write enable. So if the host crashes while it sends the frame of an erase or status write, no old ACK is
-/// pending that `Link::synchronize` could take for the reply to its NOP.
+/// A link, two limits of its programmer, and whether a write enable waits to be sent over this link. Erases and status
+/// writes are not sent together with their write enable. So if the host crashes while it sends the frame of an erase or
+/// status write, no old ACK is pending that `Link::synchronize` could take for the reply to its NOP.
 #[derive(Drop)]
 pub(crate) struct Batch<P: Port + Drop> {
     link: Link<P>,

@@ -21,7 +21,7 @@ const REPLIES_END: u32 = 1 << 24;
 pub type Frame = ArrayVec<u8, LONGEST_FRAME>;
 
 /// A command of the serprog protocol, version 1 (flashrom's Documentation/serprog-protocol.txt). The commands for
-/// parallel chips and the commands after 16h are left out. The given lengths of replies don't count the ACK.
+/// parallel chips and the operation buffer, and those after 16h, are left out. The lengths of replies exclude the ACK.
 #[derive(Clone, Copy, Debug, PartialEq, Eq)]
 pub enum Command<'a> {
     /// 00h, NOP: has no effect.

@@ -52,7 +52,7 @@ impl AnyProgrammer {
     }
 
     /// Makes the programmer use the chip select `number` (S_SPI_CS, 16h) for all later transactions. `link` must be the
-    /// link to this programmer. Returns `Failure` if the exchange failed; after NAK this contains `Refused`.
+    /// link to this programmer. Returns `Failure` if the exchange failed; `Failure(Refused)` means NAK.
     ///
     /// Returns `Lacks`, and sends nothing, if the programmer lacks the command, because such a programmer would treat
     /// the number as a command.
@@ -93,7 +93,7 @@ impl Programmer {
     /// After the first step, a command that is not in the programmer's map is not sent, and the part of a step that
     /// needs this command is skipped. A clock that is requested without S_SPI_FREQ is an error.
     ///
-    /// Over a well-behaved port to an idle programmer, and unless the link is `Sync::Cut`, the call fails only with the
+    /// If the port is well-behaved, the programmer is idle and the link isn't `Sync::Cut`, the call fails only with the
     /// first error that the firmware causes (`identify_fault`), or because fewer than 58 calls of the port were left.
     /// After `Ok` the programmer is idle.
     pub fn identify<P: Port + Drop>(

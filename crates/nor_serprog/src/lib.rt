@@ -6,7 +6,7 @@
 //! - `link.rt`, `skipping.rt`: exchanges of a frame and its reply, and synchronization
 //! - `identification.rt`, `handshake.rt`, `programmer.rt`: identification of a programmer, its steps and results
 //! - `bus.rt`: a bus that carries out each transaction with one O_SPIOP
-//! - `batching.rt`, `batch.rt`: a bus that sends a write enable together with the page program that it enables
+//! - `batching.rt`, `batch.rt`: a bus that can send a write enable together with the page program that it enables
 #![tactic(auto)]
 
 mod batch;

@@ -105,8 +105,8 @@ impl<P: Port + Drop> Link<P> {
     /// nothing and returns `OutOfStep` or `CutFrame` if the link was out of step, or `TooLong` if the command does not
     /// fit into one frame. After any other error no exchange sends anything until `synchronize` returns `Ok`.
     ///
-    /// If the port is well-behaved, the link is in step and the programmer is idle, the firmware determines the reply
-    /// to most commands (`EndsExchange`), but not to O_SPIOP and SYNCNOP.
+    /// If the port is well-behaved, the link is in step and the programmer is idle, `EndsExchange` states the reply to
+    /// each command that satisfies `HasReply`, except SYNCNOP.
     pub fn exchange(
         &mut self,
         command: Command<'_>,

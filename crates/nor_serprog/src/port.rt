@@ -22,8 +22,8 @@ ghost use Rattle.nor_serprog.specs.Device.{PortState, IsSent, IsCutOff, IsReceiv
 /// the chip may have lost its power.
 ///
 /// Nothing is assumed about a port that isn't well-behaved, such as one of an operating system (`unknown_port`), except
-/// that it records what each `send` was asked to send (`asked`) and what `receive` returned (`received`). A `Wire` can
-/// record both.
+/// that it doesn't become well-behaved, and that it records what each `send` was asked to send (`asked`) and what
+/// `receive` returned (`received`). A `Wire` can record both.
 pub trait Port {
     /// The cause of a failure of the port.
     type Cause: Drop;

@@ -71,7 +71,8 @@ impl AnyProgrammer {
         self.name
     }
 
-    /// Returns the greatest number of bytes to send by Q_WRNMAXLEN, or 2^24 without a limit (see also `longest_part`).
+    /// Returns the greatest number of bytes that a transaction may send by Q_WRNMAXLEN, or 2^24 without a limit. The
+    /// serial buffer may require fewer bytes (`longest_part`).
     pub fn longest_write(&self) -> u32
         ensures { result ≡ self.now.longest_write }
     {
@@ -120,14 +121,15 @@ impl Programmer {
         self.reported.name
     }
 
-    /// Returns these replies as an `AnyProgrammer`, for a bus that splits transactions.
+    /// Returns these replies as an `AnyProgrammer`.
     pub fn reported(&self) -> &AnyProgrammer
         ensures { result.now ≡ self.now.reported }
     {
         &self.reported
     }
 
-    /// Returns the greatest number of bytes that a transaction may send, at least 260, or 2^24 without a limit.
+    /// Returns the greatest number of bytes that a transaction may send by Q_WRNMAXLEN, at least 260, or 2^24 without a
+    /// limit. The serial buffer may require fewer bytes (`AnyProgrammer::longest_part`).
     pub fn longest_write(&self) -> u32
         ensures value { result ≡ writes_most self.now }
         ensures enough { 260 ≤ result }

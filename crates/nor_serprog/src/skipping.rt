@@ -10,7 +10,8 @@ pub(crate) const ROW_ANSWERS_LEN: usize = 25;
 
 const MOST_STALE: u32 = 1 << 16;
 
-/// Receives bytes until the last received ones are `wanted`. Returns `NoSync` if 65,536 bytes do not contain `wanted`.
+/// Receives bytes until the last received ones are `wanted`, which must not begin with 00h. Returns `NoSync` if 65,536
+/// bytes do not contain `wanted`, or `Port` if the port fails.
 pub(crate) fn skip_past<P: Port>(port: &mut P, wanted: &[u8]) -> Result<(), Failure<P::Cause>>
     requires { length wanted.now ≤ 25 }
     ensures nature { (P.state port.new).honest ≡ (P.state port.old).honest }

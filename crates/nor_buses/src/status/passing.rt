@@ -1,4 +1,4 @@
-//! How a `CheckedStatus` makes transactions other than status writes and the reads of status registers that it checks.
+//! How a `CheckedStatus` makes all transactions except status writes and one-byte reads of status registers.
 ghost use Rattle.std.specs.Prelude.{◌≡◌, ◌||◌, ◌∷◌, [], true, length, Some, OnOk, OnErr};
 ghost use Rattle.nor_model.specs.Bus.{IsHonestFor, SameNature, AtStop};
 ghost use Rattle.nor_model.specs.Command.{begins_change};
@@ -14,8 +14,8 @@ use nor_model::{Bus, Stopped, is_changing};
 impl<B: Bus + Drop> CheckedStatus<B> {
     ghost use Rattle.nor_buses.specs.Checked.{history_of, inner_state, known_of, locks_of};
 
-    // Makes a transaction that is no status write and no checked read of a status register. A read of the ID (9Fh with
-    // three reply bytes) must return the known ID. After a read of data, SFDP or the unique ID, the ID is read.
+    // Makes a transaction that is neither a status write nor a one-byte read of a status register. For 9Fh with three
+    // reply bytes, stops if the ID differs from the known ID. Reads the ID after a read of data, SFDP or unique ID.
     pub(super) fn pass_on(&mut self, out: &[u8], reply: &mut [u8]) -> Result<(), Stopped>
         ensures history { history_of self.new ≡ history_of self.old }
         ensures locks { locks_of self.new ≡ locks_of self.old }
