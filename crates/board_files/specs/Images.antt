@@ -1,4 +1,4 @@
--- The image in a journal that saves the whole chip, and this journal without its unique ID, for any other device.
+-- The image in a journal that saves the whole chip, and this journal without its unique ID, to restore another device.
 use Rattle.std.specs.Prelude.{◌≡◌, ◌<◌, ◌/◌, ◌⊎◌, ◌++◌, ℕ, zero, suc, Bool, true, false, List, [], Option, None, Some, codes}
 use Rattle.std.specs.Prelude.{length, nat_eq, unwrap_or}
 use Rattle.std.specs.Borrow.{Bor}
@@ -55,7 +55,7 @@ pub record IsUnpackedImage (bytes image : List ℕ) : Type 0 where
   pub read : bytes ≡ text journal
   pub is : IsImageIn journal image
 
--- Holds if `image` is `bytes` or, if `journal` is true, the image in the journal that `bytes` encode.
+-- Holds if `image` is the image in the journal that `bytes` encode (if `journal` is true) or `bytes` (if it is false).
 abbrev pub IsUnpackedBy : (journal : Bool) → (bytes image : List ℕ) → Type 0
 IsUnpackedBy false bytes image = image ≡ bytes
 IsUnpackedBy true bytes image = IsUnpackedImage bytes image

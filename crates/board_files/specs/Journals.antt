@@ -16,8 +16,8 @@ are_blank bytes = list_all (λ byte. nat_eq byte 255) bytes
 abbrev pub is_blank : SavedSector → Bool
 is_blank sector = are_blank sector.bytes
 
--- Holds for the first byte's address of the first sector and the last byte's address of the last sector in `saved`, or
--- for `None` if `saved` is empty.
+-- Holds for the first address of the first sector in `saved` and the last address of the last sector in `saved`, or for
+-- `None` if `saved` is empty.
 abbrev pub AreEnds : List SavedSector → Option (ℕ × ℕ) → Type 0
 AreEnds saved None = saved ≡ []
 AreEnds saved (Some ends) =

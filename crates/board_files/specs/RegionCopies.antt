@@ -61,7 +61,8 @@ pub record IsWrittenPartly (name : Bor Text) (bytes : List ℕ) (after : View) (
 abbrev pub FailsToWrite : Bor Text → (bytes : List ℕ) → (before after : View) → Fault → Type 0
 FailsToWrite name bytes before after fault = IsMaking before name.now fault ⊎ IsWrittenPartly name bytes after fault
 
--- Holds for file fault 1 of the file `out`, whose bytes end before the end of the region.
+-- Holds for file fault 1 of the file `out`, if `bytes` end before the end of the region, or if the region ends before
+-- its start.
 pub record EndsInRegion (out : Bor Text) (region : RegionFile) (bytes : List ℕ) (fault : Fault) : Type 0 where
   pub is : fault ≡ end.File file.Read out causes.Unknown
   pub ends : region.span.first ≤ region.span.last + 1 → length bytes < region.span.last + 1

@@ -1,4 +1,4 @@
--- The checks of the files of regions (`-i NAME:FILE`), before the programmer is used.
+-- The checks of the files of regions (`-i NAME:FILE`), before the job.
 use Rattle.std.specs.Prelude.{◌≡◌, ◌<◌, ◌⊎◌, ◌||◌, ℕ, All, Bool, true, false, List, [], Option, None, Some, ⊤}
 use Rattle.std.specs.Prelude.{length, slice_index_or}
 use Rattle.std.specs.Borrow.{Bor}

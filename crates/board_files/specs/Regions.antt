@@ -76,7 +76,8 @@ abbrev pub FailsToFindFiles : View → (shown : Option (List ℕ)) → Regions �
 FailsToFindFiles view shown regions fault =
     (fault ≡ end.Refused Memory) ⊎ ((name : Bor Text) × FailsToFindSpan view shown regions name fault)
 
--- Holds if `new` is `old`, but with the bytes of the region's file, which must fit, at the region's addresses.
+-- Holds if the region's file is as long as the region, and `new` is `old` with the bytes of this file at the region's
+-- addresses.
 pub record IsReplaced (view : View) (region : RegionFile) (old new : List ℕ) : Type 0 where
   pub content : List ℕ
   pub read : IsRead view region.file.now 16777217 content
@@ -90,7 +91,8 @@ AreReplaced view [] old new = new ≡ old
 AreReplaced view (region ∷ rest) old new =
     (next : List ℕ) × IsReplaced view region old next × AreReplaced view rest next new
 
--- Holds if the region's file has `found` bytes, but the region has another number of bytes (`wanted`).
+-- Holds if the region's file has `found` bytes (at most 16,777,217 are counted), but the region has another number of
+-- bytes (`wanted`).
 pub record HasOtherLength (view : View) (region : RegionFile) (name : Bor Text) (found wanted : ℕ) : Type 0 where
   pub named : name ≡ region.file
   pub content : List ℕ

@@ -1,4 +1,4 @@
--- The files of a job: their roles, and the contents that are read before the programmer is used.
+-- The files of a job: their roles, and the contents that are read before the job starts.
 use Rattle.std.specs.Prelude.{◌≡◌, ◌⊎◌, ◌&&◌, ℕ, Bool, true, false, List, [], Option, None, Some, length, option_map, ⊤}
 use Rattle.std.specs.Borrow.{Bor}
 use Rattle.nor_files.specs.Files.{Nature, View}
@@ -101,8 +101,8 @@ pub record AreUsed (view : View) (replaced : Bool) (job : Task) (whole : List �
   pub read : AreBytes view job found
   pub adapted : AreAdapted replaced job found whole
 
--- Holds if `bytes` are the contents of the job's image or journal, adapted (`AreAdapted`). In an image, each region
--- that has a file has the bytes of this file instead.
+-- Holds if `bytes` are the contents of the job's image or journal, adapted (`AreAdapted`), or are empty because the job
+-- reads neither. In an image, each region that has a file has the bytes of this file instead.
 pub record ArePreparedBytes (view : View) (is_replaced : Bool) (job : Task) (files : List RegionFile)
     (bytes : List ℕ) : Type 0 where
   pub whole : List ℕ

@@ -16,8 +16,9 @@ use std::io;
 use std::io::Write;
 
 /// Extracts the image from the journal `name` to the file `image`, which is created or truncated, but not synced.
-/// Prints the description of the journal to `output` and returns exit status 0. If the journal is invalid or lacks a
-/// sector, a file can't be used, memory runs out or printing fails, prints the fault to `errors` and returns 1.
+/// Prints the description of the journal and a line about the image to `output`, and returns exit status 0. If the
+/// journal is invalid or lacks a sector, a file can't be used, memory runs out or printing fails, prints the fault to
+/// `errors` and returns 1.
 pub fn extract_image<R: Store, O: Write, E: Write>(
     files: &mut R,
     name: &str,

@@ -91,8 +91,8 @@ fn join_sectors(alloc: Global, journal: &Journal<'_>) -> Result<Vec<u8>, AllocEr
     Ok(image)
 }
 
-/// Returns `bytes`, which were read from the file `name`, or the image in this file if it begins as a journal. Returns
-/// error 15 if this journal is invalid, or a fault of `whole_image`.
+/// If `bytes`, the contents of the file `name`, begin as a journal, returns the image in this journal, otherwise
+/// `bytes`. Returns error 15 if the journal is invalid, or a fault of `whole_image`.
 pub fn unpacked<'a>(alloc: Global, name: &'a str, bytes: Vec<u8>) -> Result<Vec<u8>, EarlyEnd<'a>>
     ensures ok { IfOk result (λ image. IsUnpacked bytes.items image.items) }
     ensures err { IfErr result (FailsToUnpack bytes.items name.entry) }

@@ -23,8 +23,8 @@ pub struct Included<'a> {
     pub farthest: Option<Farthest<'a>>,
 }
 
-/// Returns the addresses of the named regions. `shown` has the bytes of the layout if it is on the chip. Returns a
-/// fault of `read_layout`, or `NoRegion` for a name that no region of the layout has.
+/// Returns the addresses of the named regions, and the farthest region. `shown` has the bytes of the layout if it is on
+/// the chip. Returns a fault of `read_layout`, or `NoRegion` for a name that no region of the layout has.
 pub fn find_included<'a, R: Store>(
     rt: &R,
     regions: Option<Regions<'a>>,

@@ -1,4 +1,4 @@
-//! Describes the journal in a file, for `--check-journal`. No programmer is used.
+//! Describes the journal in a file, for `--check-journal` and `--extract-image`. No programmer is used.
 ghost use Rattle.std.specs.Prelude.{◌≡◌, ◌≤◌, ◌*◌, IfErr, IfOk};
 ghost use Rattle.std.specs.List.{count_by};
 ghost use Rattle.nor_files.specs.Files.{AreUntouched};

@@ -89,7 +89,7 @@ pub struct NamesLine<'a> {
     pub layout: Layout,
 }
 
-// The number of bytes of names after which `NamesLine` prints only the number of further regions.
+// The number of bytes of names and separators after which `NamesLine` prints only the number of further regions.
 const MOST_NAMES: usize = 200;
 
 impl fmt::Display for NamesLine<'_> {

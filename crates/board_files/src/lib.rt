@@ -1,5 +1,5 @@
 //! The files of a job on a chip: images, journals with their sums files, and the files of regions. This crate checks,
-//! reads, describes and writes these files, and uses no bus.
+//! reads and describes these files, writes the files of regions and extracted images, and uses no bus.
 #![tactic(auto)]
 
 mod early_ends;

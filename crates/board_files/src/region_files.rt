@@ -37,7 +37,7 @@ pub fn regions_of<'a>(task: &Task<'a>) -> Option<Regions<'a>>
     }
 }
 
-/// Returns the regions to which a task is limited, with `names` in place of the value of `-i`.
+/// Returns the regions to which a task is limited, if any, with `names` in place of the value of `-i`.
 pub fn named_regions<'a>(task: &Task<'a>, names: &'a str) -> Option<Regions<'a>>
     ensures { result ≡ named_regions names.entry task.now }
 {
@@ -90,7 +90,8 @@ fn pair_in(entry: &str) -> Option<(&str, &str)>
 }
 
 /// Returns the regions of a task that have a file, in the order of `-i`. `shown` has the bytes of the layout if it is
-/// on the chip. Returns a fault of `read_included` for one of these regions, or error 18 if memory runs out.
+/// on the chip. Returns a fault of `read_included` for one of these regions, layout fault 8 if the addresses of one
+/// aren't a single span, or error 18 if memory runs out.
 pub fn find_region_files<'a, R: Store>(
     rt: &R,
     task: &Task<'a>,

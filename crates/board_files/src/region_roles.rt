@@ -1,4 +1,4 @@
-//! Checks the files of regions (`-i NAME:FILE`) before the programmer is used.
+//! Checks the files of regions (`-i NAME:FILE`) before the job.
 ghost use Rattle.std.specs.Prelude.{◌≡◌, All, IfErr, OnOk, Some};
 ghost use Rattle.std.specs.List.{AllPairs, Any};
 ghost use Rattle.nor_console.specs.Roles.{FailsApart};
@@ -17,9 +17,11 @@ use nor_console::{Cause, Fault, FileNames, are_two_files, exists, named_by, read
 use nor_files::Store;
 use nor_journal::{FIRST_MAGIC, MAGIC};
 
-/// Checks the files of regions. Returns the first of these faults: `Erased` or `Unnamed`; file fault 5 if a file has a
-/// second role, or file fault 1 if a name can't be looked up; for a read, `NotReadBack`, file fault 4 if a file begins
-/// as a journal, or file fault 1 or error 18 if a file can't be read.
+/// Checks the files of regions. Returns one of these faults, checked in this order:
+/// - `Erased` or `Unnamed`
+/// - file fault 5 if a file has a second role, or file fault 1 if a name can't be looked up
+/// - for a read: `NotReadBack`, file fault 4 if a file begins as a journal, or file fault 1 or error 18 if a file can't
+///   be read
 pub fn check_region_files<'a, R: Store>(
     rt: &R,
     device: &'a str,

@@ -16,9 +16,10 @@ use sha2::{Digest, Sha256};
 use std::alloc::{AllocError, Global};
 use std::io::Write;
 
-/// Returns the bytes that the task uses in place of `bytes`, the contents of its file: for `-v` with a journal its
-/// image, for a restore with `is_replaced` the journal without its unique ID, otherwise `bytes`. May return
-/// error 15 for an invalid journal, `NotWhole` if the journal lacks a sector, or error 18 if memory runs out.
+/// Returns the bytes that the task uses in place of `bytes`, the contents of its file. For `-v` of a journal, these are
+/// the image in this journal. For a restore with `is_replaced`, they are the journal without its unique ID. For any
+/// other task or file, they are `bytes`. May return error 15 for an invalid journal, `NotWhole` if the journal lacks a
+/// sector, or error 18 if memory runs out.
 pub fn adapted<'a>(
     alloc: Global,
     task: &Task<'a>,

@@ -1,4 +1,4 @@
-//! Checks that neither the device nor a file that a run writes has a second role in the run.
+//! Checks that the device, the output, the journal and the log of a run are apart, also from the layout and the image.
 ghost use Rattle.std.specs.Prelude.{IfErr, OnOk};
 ghost use Rattle.board_files.specs.Sources.{FailsLogRole, FailsRoles, HasOwnLog, HaveOneRole};
 

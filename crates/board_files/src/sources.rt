@@ -42,9 +42,9 @@ fn ends_with_image(operation: &Operation<'_>) -> bool
 }
 
 /// Reads and checks the image or the journal of a task, adapts the bytes (`adapted`), and replaces those of `regions`
-/// in an image. `included` has the addresses of all regions. `is_replaced` is true with `--replaced-chip`. Returns a
-/// fault of `read_file`, `read_journal`, `adapted` or `replace_regions`, error 15 for an invalid journal of a restore,
-/// or file fault 4 if the journal of a change already exists.
+/// in an image. Returns these bytes with `included`. `is_replaced` is true with `--replaced-chip`. Returns a fault of
+/// `read_image`, `read_file`, `read_journal`, `adapted` or `replace_regions`, error 15 for an invalid journal of a
+/// restore, or file fault 4 if the journal of a change already exists.
 pub fn prepare_sources<'a, R: Store>(
     rt: &mut R,
     task: &Task<'a>,

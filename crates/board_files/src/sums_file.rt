@@ -34,8 +34,8 @@ pub fn noting_journal<'a>(operation: &Operation<'a>) -> Option<&'a str> {
     }
 }
 
-/// Returns false and prints file fault 4 if a write or an erase has a new journal whose sums file exists already.
-/// Otherwise returns true, even if the journal exists too (which is reported later), or if memory runs out.
+/// Returns false and prints file fault 4 if the journal of a write or an erase doesn't exist yet, but its sums file
+/// does. Otherwise returns true, even if memory runs out. (A journal that exists already is reported later.)
 pub fn is_new<R: Store, E: Write>(files: &R, operation: &Operation<'_>, errors: &mut E) -> bool {
     let Some(journal) = noting_journal(operation) else {
         return true;
@@ -55,7 +55,7 @@ pub fn is_new<R: Store, E: Write>(files: &R, operation: &Operation<'_>, errors: 
 /// The contents of the sums file of a restore's journal, or the reason why they aren't used.
 #[derive(Drop)]
 pub enum Before {
-    /// The job isn't a restore without `-N`, or its journal is invalid or saves all sectors.
+    /// The job isn't a restore or has `-N`, or its journal is invalid or saves all sectors.
     Unneeded,
     /// The file is missing, and the journal saves no sector, as after a session of `--wp-range`.
     Unwritten,
@@ -63,7 +63,7 @@ pub enum Before {
     Missing,
     /// The file can't be read or has other contents than a session writes, or memory ran out.
     Damaged,
-    /// The file was written for another journal: the ID, the unique ID or the checksum of a saved sector differs.
+    /// The file doesn't fit the journal: the ID, the unique ID or the checksum of a saved sector differs or is missing.
     Other,
     /// The checksums of sectors that the journal doesn't save, from before the session.
     Known(Sums),
@@ -111,7 +111,7 @@ fn before_of(sheet: Sheet, journal: &Journal<'_>) -> Before {
     Before::Known(sums)
 }
 
-/// The line that a restore prints if it lacks the checksums. `journal` names its journal, and `why` is the reason.
+/// The line that a restore prints if its sums file can't be used. `journal` names its journal, and `why` is the reason.
 #[derive(Clone, Copy, Drop)]
 pub struct UnknownLine<'a> {
     pub journal: &'a str,

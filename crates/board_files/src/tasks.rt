@@ -1,4 +1,4 @@
-//! What a task is, and what it changes.
+//! Properties of a task: whether it is a session, what it changes, and which journal it creates.
 ghost use Rattle.std.specs.Prelude.{◌≡◌};
 ghost use Rattle.board_files.specs.Tasks.{changes_bytes, is_compared};
 
@@ -11,7 +11,7 @@ pub fn is_compared(operation: &Operation<'_>, change: &Change<'_>) -> bool
     changes_bytes(change.wanted) && (change.verify && operation.verifies_all)
 }
 
-/// Returns whether the task is a session: a write, an erase or a change of protection.
+/// Returns whether the task is a write, an erase or a change of protection, or a rehearsal of one of these.
 pub fn is_session(task: &Task<'_>) -> bool {
     matches!(task, Task::Change(_))
 }

@@ -1,4 +1,4 @@
--- Lemmas on the fitted journal: that it is a journal, the restore from it, and the errors if there is none.
+-- Lemmas on the fitted journal (it is valid), on the restore from it, and on the errors if the status can't be read.
 use Rattle.std.proofs.Common.{◌≡◌, ℕ, Bool, List, Option, Result, inl, refl}
 use Rattle.nor_model.specs.Bus.{BusState}
 use Rattle.nor_journal.specs.Text.{Content as Journal, IsContent}

@@ -38,7 +38,7 @@ pub record IsMerged (named : Option ChipName) (spans : List Span) (image : List 
   pub bytes : (a : ℕ) → a < length chip
       → slice_index target a ≡ merged_byte (contains spans) (slice_index image) (slice_index chip) a
 
--- Holds if, without ranges, nothing was sent and `target` is `image` or, with ranges, `IsMerged` holds.
+-- Without ranges, holds if nothing was sent and `target` is `image`. With ranges, holds if `IsMerged` holds.
 abbrev pub IsWholeTarget : Option ChipName → (ranges : Option (List Span)) → (image : List ℕ) → (old new : BusState)
     → (target : List ℕ) → Type 0
 IsWholeTarget named None image old new target = (new ≡ old) × (target ≡ image)
@@ -53,7 +53,8 @@ IsUnfit size spans image (ImageSize chip len) = (chip ≡ size) × (len ≡ leng
 IsUnfit size spans image RegionOutside = ReachesPast (Some spans) size
 IsUnfit size spans image _ = ⊥
 
--- Error 18 in place of error 19 (the vault refused bytes): a vault in memory refuses bytes only if memory runs out.
+-- The given error, but error 18 in place of error 19 (the vault refused bytes), because a vault in memory refuses bytes
+-- only if memory runs out.
 abbrev pub into_memory : Refusal → Refusal
 into_memory (Output written) = Memory
 into_memory refusal = refusal

@@ -88,7 +88,8 @@ FailsCompared operation journal old new (ended.RestNotCompared outcome refusal) 
     HasNotComparedRest operation journal old new outcome refusal
 FailsCompared operation journal old new _ = ⊥
 
--- Holds if a restore failed with this fault before or after its call to the engine. With `-N` there is no such fault.
+-- Holds if a restore from this journal failed with this fault before or after its call to the engine. Never holds with
+-- `-N`.
 abbrev pub FailsBy : (compared : Bool) → Operation → Journal → (old new : BusState) → JobFault → Type 0
 FailsBy true operation journal old new fault = FailsCompared operation journal old new fault
 FailsBy false operation journal old new fault = ⊥

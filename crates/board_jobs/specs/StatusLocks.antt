@@ -80,8 +80,8 @@ pub record HasSetSrp0 (named : Option ChipName) (srp0 : Bool) (old new : BusStat
   pub open_to : slice_index change.before 1 % 2 ≡ 0
   pub set : IsSet srp0 change.before change.after read new
 
--- Holds if SRP1 was read as clear and SRP0 with the other value, and then no modifying command was sent except at most
--- one status write that changes only SRP0.
+-- Holds if SRP1 was read as clear and SRP0 with the other value, and then no modifying command was sent except write
+-- enables and at most one status write, which changes only SRP0.
 pub record SendsSrp0 (srp0 : Bool) (old new : BusState) : Type 0 where
   pub read : BusState
   pub before : List ℕ

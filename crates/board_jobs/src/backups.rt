@@ -12,7 +12,7 @@ use nor_geometry::SECTOR_LEN;
 use nor_jobs::identify_or_fault;
 use nor_probe::ChipName;
 
-/// Returns file fault 4 if the file of a backup already exists. Returns `Ok` for any other operation.
+/// Returns file fault 4 if the operation is a backup whose file already exists, otherwise `Ok`.
 pub fn check_new<'a, R: Store>(rt: &R, operation: &Operation<'a>) -> Result<(), Fault<'a>>
     ensures { IfErr result (IsExistingBackup (R.state rt.now).view operation.now) }
 {

@@ -145,8 +145,8 @@ fn verify_chip<B: Progress>(bus: &mut B, named: Option<ChipName>, sources: Sourc
     verify_image(bus, named, &bytes, included.as_ref())
 }
 
-// Performs a change: runs its session and, if `is_compared` returns true, compares the chip with the target after the
-// session. Returns usage fault 6 for a rehearsal.
+// Performs a change: runs its session and, if the session succeeds and `is_compared` returns true, then compares the
+// chip with the target. Returns usage fault 6 for a rehearsal.
 fn change_chip<'a, R: Store, B: Progress>(
     rt: &mut R,
     bus: &mut B,

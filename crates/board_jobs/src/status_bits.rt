@@ -1,19 +1,20 @@
-//! Which of the bits 2 to 6 of status 1 protect sectors, for each maker, and what to do if such a bit is set.
+//! Which of the bits 2 to 6 of status 1 may protect sectors, by the chip's maker, and what to do if such a bit is set.
 ghost use Rattle.std.specs.Prelude.{◌≡◌};
 ghost use Rattle.board_jobs.specs.Jobs.{protecting_bits};
 
 /// The meaning of bits 2 to 6 of status 1 on the chips of a maker.
 #[derive(Clone, Copy)]
 pub(crate) struct StatusBits {
-    /// The bits that protect sectors on at least one of these chips, or whose meaning this program doesn't know.
+    /// The bits that must be clear before a write or an erase, because one that is set may protect sectors or prevent
+    /// the change.
     pub may_protect: u8,
     pub meaning: &'static str,
     pub advice: &'static str,
 }
 
-/// Returns the meaning of bits 2 to 6 of status 1 on a chip with this ID. The ID must have no row in nor_probe, and the
-/// chip's SFDP must say that sectors of 4 KiB can be erased everywhere. The sources are the sections Status Register of
-/// the makers' datasheets, which are cited from memory.
+/// Returns the meaning of bits 2 to 6 of status 1 on a chip with this ID. The meaning is used only for a chip without a
+/// row in nor_probe, whose SFDP says that sectors of 4 KiB can be erased everywhere. The sources are the sections
+/// Status Register of the makers' datasheets, which are cited from memory.
 ///
 /// `may_protect` lacks bit 6 of Macronix and ISSI (QE) and bit 5 of Microchip's SST26 (SEC, which shows that the
 /// one-time area is locked), because these bits protect no sector on the makers' chips that have SFDP.
@@ -77,7 +78,8 @@ const EON: StatusBits = StatusBits {
     advice: LIFT,
 };
 
-// Bits 6 to 2 are SEC TB BP2 BP1 BP0 (S25FL128L, S25FL164K). The S25FL128S, with P_ERR and E_ERR, is refused earlier.
+// Bits 6 to 2 are SEC TB BP2 BP1 BP0 (S25FL128L, S25FL164K). The S25FL128S, whose bits 6 and 5 are P_ERR and E_ERR, is
+// refused earlier.
 const SPANSION: StatusBits = StatusBits {
     may_protect: 0x7C,
     meaning: "On Spansion's chips its bits 2 to 6 (BP0 to BP2, TB, SEC) protect sectors.",

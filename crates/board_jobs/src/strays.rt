@@ -1,4 +1,4 @@
-//! Finds and reports sectors that a run changed by accident.
+//! Finds and reports sectors that this run or an earlier session changed by accident, and a journal that is lost.
 ghost use Rattle.std.specs.Prelude.{◌≡◌, ◌≤◌};
 ghost use Rattle.nor_console.specs.Printing.{Prints};
 ghost use Rattle.board_jobs.specs.Strays.{IsAsBefore};
@@ -21,9 +21,9 @@ use std::alloc::{AllocError, Global};
 use std::fmt;
 use std::io::Write;
 
-/// After a session that ended with error 14 or chip fault 4, reads each sector again that the session read before its
-/// first modifying command and didn't erase or program. If bytes of such sectors have changed, prints a line with these
-/// sectors, unless the bus stops. Does nothing after another fault or another job.
+/// After a write or an erase that ended with error 14 or chip fault 4, reads each sector again that was read before the
+/// first modifying command and was not erased or programmed. If some of these sectors have changed, prints a line with
+/// the first of them, unless the bus stops. Does nothing after another fault or job, or without recorded checksums.
 pub fn report_strays<'b, B: Bus + Drop, E: Write>(
     errors: &mut E,
     bus: &mut ProgressBus<'b, B>,
@@ -152,10 +152,10 @@ fn new_notes(operation: &Operation<'_>, alloc: Global) -> Result<Option<Notes>, 
     }
 }
 
-/// Ends a run that succeeded, and returns the exit status. If a sector that the journal of a restore doesn't save has
-/// another checksum than before the session, prints only chip fault 5. Otherwise prints the answer and, if checksums
-/// from before the session were needed but aren't known, the reason. After a session or a backup, also prints file
-/// fault 2 if the journal is lost (`report_lost_journal`).
+/// Ends a run whose job succeeded, and returns the exit status. If a sector that the journal of a restore doesn't save
+/// has another checksum than before the session, prints only chip fault 5. Otherwise prints the answer and, if
+/// checksums from before the session were needed but aren't known, the reason. After a session or a backup, also prints
+/// file fault 2 if the journal is lost (`report_lost_journal`).
 pub fn end_compared<'b, R: Store, B: Bus + Drop, O: Write, E: Write>(
     output: &mut O,
     errors: &mut E,

@@ -1,4 +1,4 @@
--- Examples of the numbers of the progress line, calculated by hand.
+-- Examples of the numbers of the progress line and of the estimated duration of a change, calculated by hand.
 use Rattle.std.proofs.Common.{◌≡◌, ◌^◌, ◌-◌, None, Some, refl}
 use Rattle.board_progress.specs.Estimates.{change_time, minutes_in, percent_of, seconds_in, tenths_of, time_for}
 
@@ -59,7 +59,7 @@ minute = (refl, refl)
 hour : (minutes_in 3600000000 ≡ 60) × (seconds_in 3600000000 ≡ 0)
 hour = (refl, refl)
 
--- One sector takes 45 ms and 16 programs of 0.7 ms. An erase of 64 KiB takes 150 ms, an erase of 8 MiB 20 s.
+-- An erase takes 45 ms for a sector, 150 ms for 64 KiB and 20 s for 8 MiB. A sector takes 16 programs of 0.7 ms.
 one_sector : change_time 1 1 ≡ 56200
 one_sector = refl
 

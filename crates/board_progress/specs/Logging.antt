@@ -25,7 +25,8 @@ CreatesLog None old new = AreUntouched old new
 CreatesLog (Some name) old new = (new.view.nature ≡ old.view.nature)
     × (is_lawful old.view ≡ true → OthersStay name.now old new)
 
--- Holds if reads of each other file return the same as before (with a log, if files obey their contract).
+-- Holds if reads of every file except the log return the same as before. With a log, this needs to hold only if files
+-- obey their contract.
 abbrev pub StayButLog : Option (Bor Text) → (old new : View) → Type 0
 StayButLog None old new = new ≡ old
 StayButLog (Some name) old new = (new.nature ≡ old.nature)

@@ -8,7 +8,7 @@ use nor_journal::journal_len;
 use nor_session::Announcement;
 use std::fmt;
 
-/// The line with what a session will change.
+/// The line that says what a session will change, and how long its journal is.
 #[derive(Clone, Copy, Drop)]
 pub struct SessionText(pub Announcement);
 
@@ -23,7 +23,7 @@ impl fmt::Display for SessionText {
     }
 }
 
-/// The line with what a restore will change.
+/// The line that says what a restore will change.
 #[derive(Clone, Copy, Drop)]
 pub struct RestoreText(pub Announcement);
 

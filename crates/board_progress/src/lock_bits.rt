@@ -29,7 +29,8 @@ impl Lock {
         }
     }
 
-    /// Returns the line that follows the line of error 9: which bit is set, and what to do.
+    /// Returns the line that follows the line of error 9: whether SRP0 or SRP1 is set, and what to do. If both are set,
+    /// the line says that the lock may be permanent.
     pub fn advice(self) -> &'static str {
         match self {
             Lock::Open => "Neither SRP0 nor SRP1 is set now: repeat the run.",
@@ -40,7 +41,8 @@ impl Lock {
         }
     }
 
-    /// Returns the end of the line that follows the line of error 10: how to lift the protection.
+    /// Returns the end of the line that follows the line of error 10: how to lift the protection or, if SRP0 and SRP1
+    /// are set, that the protection may be permanent.
     pub fn advice_to_unlock(self) -> &'static str {
         match self {
             Lock::Open => ", or use --unlock.",

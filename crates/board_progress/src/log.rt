@@ -1,11 +1,12 @@
-//! The lines that `-V` prints and a log (`-o`) receives for modifying transactions, steps and stops of the bus.
+//! The lines that `-V` prints and a log (`-o`) receives for modifying transactions, reading steps and stops of the bus.
 ghost use Rattle.std.specs.Prelude.{◌≡◌, IfSome};
 ghost use Rattle.nor_buses.specs.ReadsAs.{address_in};
 ghost use Rattle.board_progress.specs.Estimates.{millis_in, whole_seconds_in};
 
 use std::fmt;
 
-/// The line of a modifying transaction that sends `out`. `micros` is the time since the `Terminal` was created.
+/// The line of a modifying transaction that sends `out`. `micros` is the time in microseconds since the
+/// `Terminal` was created.
 #[derive(Clone, Copy, Drop)]
 pub struct CommandText<'a> {
     pub micros: u64,
@@ -60,8 +61,8 @@ impl fmt::Display for Bytes {
     }
 }
 
-/// The line for the start of a step that only reads, or for a stop of the bus. `micros` is the time since the
-/// `Terminal` was created.
+/// The line for the start of a step that only reads, or for a stop of the bus. `micros` is the time in microseconds
+/// since the `Terminal` was created.
 #[derive(Clone, Copy, Drop)]
 pub struct EventText {
     pub micros: u64,

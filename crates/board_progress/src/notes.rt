@@ -1,5 +1,5 @@
-//! The checksums that a run records of sectors that it reads: before the first modifying command, and in the comparison
-//! after a restore.
+//! Checksums of the sectors that a run reads before the first modifying command, and of those that it reads in the
+//! comparison after a restore.
 ghost use Rattle.std.specs.Prelude.{◌≡◌, ◌+◌, ◌*◌, ◌/◌};
 
 use crate::replies::Replies;
@@ -12,9 +12,9 @@ use nor_sums::{SECTORS, SHEET_LEN, Sums, encode};
 use std::alloc::{AllocError, Global};
 use std::fmt;
 
-/// Checksums (`nor_sums`) of sectors that a run reads. `before` has the checksum of the last read of each sector before
-/// the first modifying command, except for sectors that were then erased or programmed. `after` has the checksum of the
-/// last read of each sector in the comparison after a restore.
+/// Checksums (`nor_sums`) of sectors that a run reads. `before` is for the sectors that were read before the first
+/// modifying command and were not erased or programmed later. `after` is for the sectors that were read in the
+/// comparison after a restore. In each of them, a later checksum of a sector replaces an earlier one.
 #[derive(Drop)]
 pub struct Notes {
     before: Sums,
@@ -77,8 +77,9 @@ impl Notes {
         &self.after
     }
 
-    /// If `new` received a name, writes `before` to a new file with this name and syncs the file. Must be called before
-    /// the first modifying command. If the file can't be created or written, prints and logs a line.
+    /// If `new` received a name, writes `before` with the chip's ID and unique ID to a new file of this name, and syncs
+    /// the file. Must be called before the first modifying command. If the file can't be created, written or synced,
+    /// prints and logs a line.
     pub fn write(&mut self, terminal: Terminal<'_>, replies: Replies) {
         let Some((name, room)) = &mut self.file else {
             return;

@@ -39,13 +39,15 @@ const BUSY_CHIP: &str =
     "The chip shows BUSY. If no erase is running, it has no contact or no supply: press Ctrl-C, and check both. \
     (The run gives up after 400 seconds.)";
 
-// The number of polls that show BUSY before `BUSY_CHIP` is printed. Without contact, replies are FFh and show BUSY.
+// The number of polls that show BUSY before the ID is read, after which `BUSY_CHIP` is logged and, with
+// `ProgressStyle::Plain` and `ProgressStyle::Line`, printed. Without contact, replies are often FFh, which shows BUSY.
 const POLLS_UNTIL_LINE: u32 = 256;
 
 /// A bus that shows the progress of a job. The functions of this trait don't change the bus state used in contracts.
 pub trait Progress: Bus {
     /// Records that the job reads `sectors` sectors before it changes anything. If this is called again, the greatest
-    /// number counts. If all recorded reads were done before, a greater number begins a second scan (of the rest).
+    /// number counts. If that number is greater than before and the earlier reads are done, a second scan begins, with
+    /// only the additional sectors.
     fn expect_reads(&mut self, sectors: usize)
         ensures { Self.state self.new ≡ Self.state self.old };
 
@@ -60,10 +62,11 @@ pub trait Progress: Bus {
 }
 
 /// A bus that shows the progress of a job on standard error, as the `ProgressStyle` of its `Terminal` requires:
-/// - `ProgressStyle::Line` rewrites a `StepLine` at most ten times a second, and ends it when the step is complete.
-/// - `ProgressStyle::Plain` prints a line for the first transaction of a step, and for every transaction that comes a
-///   multiple of `Step::stride` transactions later.
-/// - `ProgressStyle::Minutes` prints a `StepLine` at most once per minute.
+/// - `ProgressStyle::Line` rewrites a `StepLine` at most ten times a second. If the step's total is known exactly, the
+///   last operation of the step rewrites and ends the line. A completed change ends with lines for programs and reads.
+/// - `ProgressStyle::Plain` prints a line for the first transaction of a step, for every `Step::stride` transactions
+///   after it, and for the last erase, program and read back of a completed change.
+/// - `ProgressStyle::Minutes` prints a line, usually a `StepLine`, at most once per minute.
 /// - `ProgressStyle::Hidden` prints none of these lines.
 ///
 /// The lines of `-V` are printed in any style. The log (`-o`) receives the lines of `ProgressStyle::Plain` and `-V`,
@@ -139,7 +142,8 @@ impl<'a, B: Bus + Drop> ProgressBus<'a, B> {
         self.replies
     }
 
-    /// Records facts for the lines before the job's first modifying command. `journal` names the journal's file.
+    /// Records facts for the lines that are printed before the job's first modifying command. `journal` names the
+    /// journal's file.
     pub fn begin_job(
         &mut self,
         in_session: bool,
@@ -154,7 +158,7 @@ impl<'a, B: Bus + Drop> ProgressBus<'a, B> {
     }
 
     /// Ends the progress line. Must be called after the last transaction of the job, before any other line is printed.
-    /// After a change that succeeded without a comparison, first shows the final numbers of its steps and its duration.
+    /// After a change that succeeded without a comparison, first shows the change's final numbers and its duration.
     pub fn end_progress(&self, succeeded: bool) {
         if succeeded {
             self.show_duration();

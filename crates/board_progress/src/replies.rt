@@ -18,7 +18,8 @@ pub struct Replies {
 }
 
 impl Replies {
-    /// Stores the reply to a transaction that sent `out`, if it is an ID, a unique ID, a status byte or an SFDP table.
+    /// Stores the reply to a transaction that sent `out`, if it is an ID, a unique ID or a status byte. From an SFDP
+    /// table, stores only the density and `is_uneven`.
     pub fn remember(&mut self, out: &[u8], reply: &[u8]) {
         match (out, reply) {
             ([0x05, ..], [status1, ..]) => self.status[0] = *status1,

@@ -38,9 +38,9 @@ impl RunLog {
         }
     }
 
-    /// Starts the log in this file by writing its first line. If the file contains a log, truncates the file before
-    /// or, if `appends` is true, appends an empty line first. A FIFO or a device isn't read. If another file can't be
-    /// read or has other contents than a log, leaves it as it is, and `is_refused` returns true afterwards.
+    /// Starts the log in this file by writing its first line. If the file already contains a log, first truncates the
+    /// file or, if `appends` is true, appends an empty line. If the file is a regular file that can't be read or has
+    /// other contents, leaves it as it is, and `is_refused` returns true afterwards.
     pub fn start(&self, file: LogWriter, appends: bool) {
         let mut file = file;
         match file.get_mut().is_empty_or_begins(FIRST.as_bytes()) {
@@ -61,7 +61,7 @@ impl RunLog {
         self.is_refused.get()
     }
 
-    /// Returns the system's reason why a line couldn't be written, or `None` if every line was written.
+    /// Returns the system's reason why a write to the log failed, or `None` if no write failed.
     pub fn lost(&self) -> Option<SystemReason> {
         self.lost.get()
     }
@@ -186,7 +186,7 @@ fn may_begin_log(start: &[u8]) -> bool
 }
 
 /// Starts the log in the file `name`, if a name is given. Creates the file if it is missing. Truncates a log or, if
-/// `appends` is true, appends to it. Leaves a file with other contents as it is: `check_started` returns the fault.
+/// `appends` is true, appends to it. If `start` leaves the file as it is, `check_started` returns a fault afterwards.
 ///
 /// Returns a fault of `create_log`: file fault 4 if the file is a journal, file fault 5 if another process has locked
 /// it, error 18 if memory runs out, or file fault 2 if it can't be created or truncated for another reason.

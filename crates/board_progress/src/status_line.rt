@@ -58,7 +58,7 @@ impl fmt::Display for OtherLine {
     }
 }
 
-/// The line that follows the line of error 12 if two reads of the same bytes returned different replies.
+/// The line that follows the line of error 12 if its only known cause is that two reads of the same bytes differ.
 pub const DIFFERED: &str =
     "Cause: two reads of the same bytes differ. Lower the clock (spispeed=), shorten the wires, \
     and try again.";
@@ -118,7 +118,7 @@ const IGNORED: &str =
     "Chip fault 3: SRP0 is still set, because the chip ignored the status write: WP# is probably low. Connect WP# to \
     the supply, and repeat the run.";
 
-// The bits of status 2 that no job of this program changes: all bits except CMP and SUS.
+// The bits of status 2 that no job of this program changes: all except CMP, and SUS, which isn't compared.
 const KEPT: u8 = 0x3F;
 
 const KEEPS: &str =

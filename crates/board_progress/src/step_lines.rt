@@ -1,4 +1,4 @@
-//! The lines for the steps, and the line that says how long a change took.
+//! The counts of the steps, their plain lines, and the line that says how long a change took.
 use crate::estimates::Minutes;
 use crate::steps::Step;
 use std::fmt;

@@ -20,7 +20,7 @@ pub enum Step {
 /// The phase of a job in which a transaction is made.
 #[derive(Clone, Copy, PartialEq)]
 pub enum Phase {
-    /// No modifying command was sent yet.
+    /// No modifying command was sent, and no comparison has begun.
     Before,
     /// A modifying command was sent, and no comparison has begun.
     Changing,
@@ -124,9 +124,9 @@ impl Total {
     }
 }
 
-/// The line that shows a step. During the step, the line has the percentage and the rate if the total is known exactly,
-/// otherwise the number of finished operations, and in both cases the time that is left or has passed. After the step,
-/// the line has the number of operations, the rate (if data was transferred) and the duration.
+/// The line that shows a step. During the step, the line has the percentage and the rate if the total is known exactly
+/// and isn't exceeded, otherwise the number of finished operations, and then the time that is left or has passed. After
+/// the step, it has the number of operations, the rate and the duration. A rate is shown only if data was transferred.
 #[derive(Clone, Copy, Drop)]
 pub struct StepLine {
     pub step: Step,

@@ -1,4 +1,4 @@
-//! Standard error, on which the progress of a job is shown, together with the log of the run.
+//! The two outputs of progress: standard error, on which a job's progress is shown, and the log of the run.
 
 use crate::change_lines::{ExpectedTime, RestoreText, SessionText};
 use crate::log::{CommandText, EventText, command_name};
@@ -12,8 +12,8 @@ use std::os::unix::fs::FileTypeExt;
 use std::time::Instant;
 use std::{env, fmt, fs};
 
-// The greatest width of the progress line, for a terminal of 40 or more columns. The last column stays free, because
-// some terminals wrap a line that fills it, and a wrapped line can't be rewritten.
+// The greatest number of columns that `draw` fills, even on a wider terminal. On a terminal of 40 columns, the last one
+// stays free, because some terminals wrap a line that fills it, and a wrapped line can't be rewritten.
 const COLUMNS: usize = 39;
 
 // Erases from the cursor to the end of the line (ECMA-48, EL).
@@ -133,7 +133,7 @@ impl<'a> Terminal<'a> {
         self.style
     }
 
-    /// Returns when the terminal was created, or `None` if the clock failed.
+    /// Returns the time at which this `Terminal` was created, or `None` if the clock failed.
     pub fn started(&self) -> Option<Instant> {
         self.started
     }
@@ -166,7 +166,8 @@ impl<'a> Terminal<'a> {
         self.screen.state.set(ScreenState { read, ..state });
     }
 
-    /// Rewrites the progress line with as much of this ASCII text as fits into a row. Shows nothing if memory runs out.
+    /// Rewrites the progress line with the first `columns` characters of this ASCII text. Shows nothing if memory runs
+    /// out.
     pub fn draw<T: fmt::Display>(&self, text: &T) {
         let Ok(text) = format!(in self.rt.alloc(); "{text}") else {
             return;
@@ -194,8 +195,8 @@ impl<'a> Terminal<'a> {
         }
     }
 
-    /// Writes the line of a modifying transaction to the log (`-o`) and, with `-V`, to standard error. Must be called
-    /// before the transaction is passed on.
+    /// If the transaction `out` is a modifying command, writes its line to the log (`-o`) and, with `-V`, to standard
+    /// error. Must be called before the transaction is passed on.
     pub fn log_command(&self, out: &[u8]) {
         if self.is_logging()
             && let Some(name) = command_name(out)
@@ -274,9 +275,9 @@ impl<'a> Terminal<'a> {
         self.log().write_line(text);
     }
 
-    /// Logs that the run waits for its programmer, because a read from a port that isn't set up may wait forever. The
-    /// first time, also prints this line with `ProgressStyle::Plain` or, until the next output replaces it, with
-    /// `ProgressStyle::Line`.
+    /// Logs that the run waits for its programmer, because a read from a port that isn't set up may wait forever. On
+    /// the first call, also prints this line with `ProgressStyle::Plain` and `ProgressStyle::Line`. With
+    /// `ProgressStyle::Line`, later output of this `Terminal` replaces the line.
     pub fn print_waiting(&self) {
         self.log().write_line(&WAITING);
         let state = self.screen.state.get();

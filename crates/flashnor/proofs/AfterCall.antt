@@ -1,4 +1,4 @@
--- What a call promises also holds after the chip's files were written, and for the files before its trace was created.
+-- Lemmas: a call's promises hold after the chip's files were written, and for the files before the trace was created.
 use Rattle.std.proofs.Common.{◌≡◌, ℕ, List, Option, None, Some, arith, Result, true}
 use Rattle.std.specs.Borrow.{Bor}
 use Rattle.nor_model.specs.Bus.{BusState}

@@ -21,7 +21,7 @@ module _ {programmer : Programmer} {files : FilesState} (first : Opened programm
 abbrev pub IsEither : (had bytes has : List ℕ) → Type 0
 IsEither had bytes has = (i : ℕ) → (slice_index has i ≡ slice_index had i) ⊎ (slice_index has i ≡ slice_index bytes i)
 
--- Each byte of the contents that a later run opens (`left`, or `missing` without the file) is that of `had` or `bytes`.
+-- At each index, what a later run opens (`left`, or `missing` if there is no file) has the byte of `had` or of `bytes`.
 pub found_either : (view : View) (named : Option (Bor Text)) (len : ℕ) (missing had bytes : List ℕ)
     (are : AreOfFile view named len missing had) (there : Bool) (files : FilesState) (left : Found)
     → (there ≡ false → had ≡ missing) → LeavesAmid named there had bytes files → MayFind named are.found left files

@@ -1,4 +1,4 @@
--- What a job reads, creates and returns with a trace, in terms of the files before the trace was created.
+-- Lemmas: what a job with a trace reads, creates and returns, stated for the files before the trace was created.
 use Rattle.std.proofs.Common.{◌≡◌, ◌∙◌, ℕ, Option, None, Some, IsSomeAnd, ap, arith, inl, inr, subst, sym, true}
 use Rattle.std.specs.Borrow.{Bor}
 use Rattle.nor_files.specs.Calls.{LeavesOrEmpty, ReadsFile}

@@ -1,4 +1,4 @@
--- The exact text of the lines that say what an error compared, or the system's reason for an error.
+-- The exact text of the lines with the values that an error's check compared, or with the system's reason for an error.
 use Rattle.std.specs.Prelude.{ℕ, List, [], ◌∷◌, ◌++◌, codes, decimal, slice_index}
 use Rattle.std.specs.List.{concat}
 use Rattle.nor_probe.specs.Table.{name_text}

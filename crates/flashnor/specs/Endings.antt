@@ -25,7 +25,7 @@ use Rattle.flashnor.specs.declared.printing.Ending.{Ending}
 use Rattle.flashnor.specs.declared.streams.Reports.{Reports}
 use Rattle.flashnor.specs.declared.streams.Reports.TheVariants as at
 
--- the value for a run in which every file was written, and neither the trace nor the journal was lost
+-- the value for a run in which every file was written, no file was lost, and the trace lost no line
 abbrev pub all_written : Unwritten
 all_written = record { image = None; status = None; trace = None; journal = None }
 
@@ -43,7 +43,7 @@ abbrev pub stream_for : Result Answer Fault → (to : Reports) → Reports
 stream_for (Ok found) to = at.Errors
 stream_for (Err fault) to = to
 
--- Holds if a run with an answer or help may have this `ending`. Standard error had the contents `err`, now `err'`.
+-- Holds if a run with an answer or help may have this `ending` and change standard error from `err` to `err'`.
 pub record EndsWell (is_printed : Bool) (unwritten : Unwritten) (err err' : Option (List ℕ))
     (ending : Ending) : Type 0 where
   pub few : ending.status ≤ 1
@@ -52,7 +52,7 @@ pub record EndsWell (is_printed : Bool) (unwritten : Unwritten) (err err' : Opti
   pub reported : ending.reported ≡ true → Appends err err' (lines_after is_printed unwritten)
   pub silent : is_printed ≡ true → unwritten ≡ all_written → err' ≡ err
 
--- Holds if a run with this fault may have this `ending`. The fault's stream had the contents `err`, and now has `err'`.
+-- Holds if a run with this fault may have this `ending` and change the stream for the fault from `err` to `err'`.
 pub record EndsBadly (wording : Wording) (detail : Detail) (fault : Fault) (unwritten : Unwritten)
     (err err' : Option (List ℕ)) (ending : Ending) : Type 0 where
   pub status : ending.status ≡ 1

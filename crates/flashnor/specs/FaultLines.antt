@@ -1,4 +1,4 @@
--- The messages about files that could not be written.
+-- The messages about files, or standard output, that could not be written.
 use Rattle.std.specs.Prelude.{ℕ, Bool, true, false, List, [], ◌++◌, Option, Some, None, codes}
 use Rattle.std.specs.Borrow.{Bor}
 use Rattle.nor_args.specs.Text.{Text}

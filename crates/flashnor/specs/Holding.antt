@@ -36,7 +36,7 @@ pub record FillsMissing (programmer : Programmer) (held : Held) : Type 0 where
   pub status : held.status_there ≡ false → held.content.status ≡ 0 ∷ 0 ∷ []
 
 -- Holds if a host crash may leave `left` while `bytes` are written to a file. If the file existed (`there`), `left` is
--- a mix of `had` and `bytes`. If not, `left` is `None`, is `bytes`, or has another length than `bytes`.
+-- a mix of the old bytes `had` and `bytes`. If not, `left` is `None`, is `bytes`, or has another length than `bytes`.
 abbrev pub IsAmid : (there : Bool) → (had bytes : List ℕ) → Found → Type 0
 IsAmid true had bytes left = (has : List ℕ) × (left ≡ Some has) × IsMixed had bytes has
 IsAmid false had bytes left = (left ≡ None)
@@ -49,7 +49,8 @@ abbrev pub LeavesAmid : Option (Bor Text) → (there : Bool) → (had bytes : Li
 LeavesAmid None there had bytes files = ⊤
 LeavesAmid (Some name) there had bytes files = LeavesFileAmid name.now there had bytes files
 
--- Holds if a known file durably has the bytes `had` (`there`) or is durably missing, and `had` is as long as `bytes`.
+-- Holds if the file is known, and `had` is as long as `bytes`. If `there` is true, the file must durably have the bytes
+-- `had`. If not, it must be durably missing.
 pub record IsReadyFile (name : Text) (there : Bool) (had bytes : List ℕ) (files : FilesState) : Type 0 where
   pub known : IsKnownFile name files.view
   pub durable : IsDurable name (was there had) files

@@ -75,7 +75,8 @@ must_differ job role.Image role.Wanted = false
 must_differ job earlier later =
     nat_lt (order_of earlier) (order_of later) && (is_written job earlier || is_written job later)
 
--- Holds if this is file fault 5 with the later role's file: the roles must differ, but the files may be the same.
+-- Holds if this is file fault 5 with the file of the role `later`, for two roles that need different files
+-- (`must_differ`) but whose names may refer to one file.
 abbrev pub IsTwice : Nature → ChipJob → Fault → Type 0
 IsTwice nature job fault = (earlier later : Role) × (must_differ job earlier later ≡ true)
     × IsShared nature (file_with_role job earlier) (file_with_role job later) fault

@@ -107,7 +107,8 @@ DoesJob view after programmer named (task.Change change) old new outcome =
 DoesJob view after programmer named (task.Restore journal) old new outcome =
     DoesRestore view named journal.now old new outcome
 
--- Holds if the image and status of `unwritten` name only files whose write may fail (neither without a write-back).
+-- With a write-back (`true`): holds if `unwritten` names as image and status only the chip's own files, and writing a
+-- named file may fail. Without a write-back: holds if `unwritten` names neither an image nor a status file.
 abbrev pub AreReported : Bool → Programmer → Unwritten → View → Type 0
 AreReported true programmer unwritten view =
     IsReportedOf programmer.image unwritten.image view × IsReportedOf programmer.status unwritten.status view
@@ -128,8 +129,8 @@ abbrev pub DoesStarted : (files after : FilesState) → ChipJob → Content → 
 DoesStarted files after job content new outcome = (bus : SimBus) × StartsBus job.programmer content bus
     × DoesTraced files after job (sim_state bus) new outcome
 
--- Holds if a call to the engine, on the chip in the programmer's files, had this outcome. `traced`, `kept`: only the
--- run's own trace and journal may be named as lost.
+-- Holds if a call to the engine, on the chip in the programmer's files, had this outcome. The fields `traced` and
+-- `kept` say that only the run's own trace and journal may be named as lost.
 pub record IsCalled (files after : FilesState) (job : ChipJob) (unwritten : Unwritten)
     (outcome : Result Answer Refusal) : Type 0 where
   pub roles : FilesHaveOneRole files.view.nature job
@@ -215,7 +216,7 @@ pub record HoldsTarget (programmer : Programmer) (named : Option ChipName) (chan
   pub restorable : IsRestorableFrom file first new
   pub durable : IsDurable file (Some (text restorable.journal)) new
 
--- Holds if the chip's files durably hold the result of a restore that returned this answer, and the journal stays.
+-- Holds if the chip's files durably hold the result of a restore with this answer, and the journal's file is unchanged.
 pub record HoldsRestored (programmer : Programmer) (file : Text) (found : Answer) (old new : FilesState) : Type 0 where
   pub opened : Opened programmer old
   pub last : BusState
@@ -255,7 +256,7 @@ EndsChipJob files after on_chip unwritten (Err (end.Refused refusal)) =
     IsCalled files after on_chip unwritten (Err refusal) ⊎ FailsJob files.view on_chip (end.Refused refusal)
 EndsChipJob files after on_chip unwritten (Err fault) = FailsJob files.view on_chip fault
 
--- Holds if this job may have this result. `AreAtRest` is a premise of what a chip job promises about files.
+-- Holds if this job may have this result. After a chip job, `KeepsFiles` and `HoldsResult` assume files at rest.
 abbrev pub AnswersJob : (files after : FilesState) → Job → Unwritten → Result Answer Fault → Type 0
 AnswersJob files after job.List unwritten (Ok answer.Chips) = (unwritten ≡ all_written) × AllStay files after
 AnswersJob files after job.List unwritten _ = ⊥

@@ -1,4 +1,4 @@
--- Which tasks write the chip's contents back to its files, and the journal that a task creates.
+-- Whether a task writes the chip's contents back to the chip's files, and which journal a task creates.
 use Rattle.std.specs.Prelude.{Bool, true, false, Option, None}
 use Rattle.std.specs.Borrow.{Bor}
 use Rattle.nor_console.specs.Tasks.{journal_of}

@@ -1,4 +1,4 @@
-//! The changes of a chip, as sessions with a journal, and rehearsals of changes.
+//! Changes the chip in a session with its journal in a file, or rehearses the change.
 ghost use Rattle.std.specs.Prelude.{◌≡◌, ◌≤◌, ◌⊎◌, true, IfOk, IfErr, None, OnErr, length};
 ghost use Rattle.nor_files.specs.Files.{Name, KeepsFile, is_lawful};
 ghost use Rattle.nor_driver.specs.OnlyReads.{IsSteadyOrIdle};

@@ -19,7 +19,7 @@ pub struct Content {
     pub status: [u8; 2],
 }
 
-/// Reads the chip's files (a missing image is FFh, a missing status zeros). Returns file fault 1 or 3, or error 18.
+/// Reads the chip's files: a missing image as FFh, a missing status as zeros. Returns file fault 1 or 3, or error 18.
 pub fn read_content<'a, R: Store>(rt: &R, programmer: &Programmer<'a>) -> Result<Content, Fault<'a>>
     ensures len { IfOk result (λ content. vec_len content.bytes ≡ (emulated_part programmer.now.chip).size) }
     ensures ok { IfOk result (IsContentOf (R.state rt.now).view programmer.now) }
@@ -57,8 +57,8 @@ pub fn content_of(
     Ok(Content { bytes, status })
 }
 
-/// Reads a file of the chip, or returns `None` if it isn't named or is missing. Returns file fault 1 if the file can't
-/// be read or may block (a FIFO or terminal), file fault 3 if it doesn't have `len` bytes, error 18 if memory runs out.
+/// Reads a file of the chip, or returns `None` if it isn't named or is missing. Returns file fault 1 if it can't be
+/// read or may block (`is_waiting`), file fault 3 if it doesn't have `len` bytes, or error 18 if memory runs out.
 #[tactic(auto, using(nor_console::proofs::FileFaults::unread_opening))]
 pub fn read_chip_file<'a, R: Store>(
     rt: &R,

@@ -1,4 +1,4 @@
-//! What an error compared, or the system's reason why a file can't be written.
+//! The details of an error: the values that its check compared, or the system's reason why a file can't be written.
 ghost use Rattle.std.specs.Prelude.{Some};
 
 use nor_args::{ChipJob, Emulated, Task};
@@ -11,13 +11,13 @@ use nor_session::Refusal;
 use std::fmt;
 use std::io::ErrorKind;
 
-/// What an error compared, or the system's reason for the error.
+/// The details of an error: the values that its check compared, or the system's reason for the error.
 #[derive(Clone, Copy)]
 pub enum Detail {
     Unsaid,
     /// Error 3: `-c` has a name that no known chip has.
     NoName,
-    /// Error 3: the name of `-c`, and that of the chip.
+    /// Error 3: the name given with `-c`, and the name of the chip.
     Name {
         named: ChipName,
         found: ChipName,
@@ -45,7 +45,7 @@ pub enum Detail {
     Output(SystemReason),
 }
 
-/// Returns what the error of a call compared, or the system's reason for this error. `bus` is the bus after the call.
+/// Returns the details of the error of a call, or `Unsaid` if there are none. `bus` is the bus after the call.
 pub fn detail_of<R: Store>(rt: &R, job: &ChipJob<'_>, outcome: &Outcome, bus: &SimBus) -> Detail {
     let Err(refusal) = outcome else {
         return Detail::Unsaid;
@@ -124,7 +124,7 @@ fn chip_detail(saved: &Journal<'_>, chip: Emulated) -> Detail {
     }
 }
 
-/// The line that prints this detail, with its line feed, or no text for `Unsaid`.
+/// The text that is printed for this detail: one line with its line feed, or nothing for `Unsaid`.
 #[derive(Drop)]
 pub struct DetailLine(pub Detail);
 

@@ -28,8 +28,9 @@ pub fn existing_journal<'a, R: Store>(rt: &R, task: &Task<'a>) -> Option<&'a str
     }
 }
 
-/// Returns the first fault of a session whose journal exists: a fault of the steps before the journal is created, or
-/// file fault 4 with the journal's name. May create only the trace, if its name is apart from the job's other files.
+/// Returns the fault of a session whose journal exists: a fault of `has_own_trace`, of reading the files or of creating
+/// the trace, otherwise file fault 4 with the journal's name. Doesn't lock files. Creates or truncates at most the
+/// trace, and only if `has_own_trace` succeeds.
 pub fn fault_before<'a, R: Store>(rt: &mut R, job: &ChipJob<'a>, journal: &'a str) -> Fault<'a>
     requires makes { journal_by job.now.task ≡ Some journal }
     requires there { Happens (R.state rt.old).view (There journal.now) }

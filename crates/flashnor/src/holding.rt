@@ -34,9 +34,9 @@ pub struct Held {
 ///
 /// Returns one of these faults:
 ///
-/// - file fault 1 if a file can't be looked up or read, is a directory, or isn't found after it was locked
+/// - file fault 1 if a file can't be looked up or read, is a directory, or was locked but isn't found by the read
 /// - file fault 2 if a file can't be opened for overwriting, locked or synced (a `Disk` refuses FIFOs, devices and
-///   dangling links), if it was removed or replaced after it was locked, or if its directory can't be synced
+///   dangling links), if the sync finds that it was removed or replaced, or if its directory can't be synced
 /// - file fault 3 if the image has another length than the chip, or the status file doesn't have two bytes
 /// - file fault 5 if another process has locked a file
 /// - error 18 if memory runs out
@@ -129,9 +129,9 @@ fn unsynced<'a>(error: &io::Error, name: &'a str) -> Fault<'a>
     unmade_by(name, cause)
 }
 
-/// The names of files that were not written or were lost in a run. The image and the status file are named if they
-/// could not be written, the trace if it lost a line. A file, except the trace, is also named if it was removed or
-/// replaced, or its length changed, after it was written or sealed.
+/// The names of files that were not written or were lost in a run. The image or the status file is named if it could
+/// not be written, and the trace is named if it lost a line. The image, the status file or the journal is also named if
+/// it was removed or replaced, or its length changed, after it was written or sealed.
 #[derive(Clone, Copy)]
 pub struct Unwritten<'a> {
     pub image: Option<&'a str>,

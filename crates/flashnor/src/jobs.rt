@@ -23,7 +23,7 @@ use nor_files::Store;
 use nor_jobs::{Sources, answer_probe, journal_in, read_sources, report_size, restore_named};
 use std::io::{BufWriter, Write};
 
-/// A call to the engine that was made: the bus after it, its result, and the trace's name if the trace lost a line.
+/// A finished call to the engine: the bus after the call, the call's result, and the trace's name if it lost a line.
 #[derive(Drop)]
 pub struct Called<'a> {
     pub bus: SimBus,

@@ -19,7 +19,7 @@ use nor_files::Store;
 /// returns an answer and writes all files, leaves the original chip.
 ///
 /// Each run must have the same chip and files (`HaveOneChip`) and find the files at rest (`AreAtRest`). Between runs
-/// nothing else may change the files (`Follows`), but you may move aside a chip's file that was missing at first.
+/// nothing may change these files or the journal (`Follows`), but you may move aside a file that was missing at first.
 pub fn runs_restore_original<R: Store>()
     ensures restorable { (programmer : Programmer) (file : Text) (start old mid new : R)
         (first : Opened programmer (R.state start)) (on_chip : ChipJob)

@@ -1,9 +1,9 @@
 //! `flashnor`, a programmer for SPI NOR flash that can undo its own changes.
 //!
-//! It identifies, reads, verifies, writes, erases and write-protects emulated chips, whose contents are files. Each
-//! change first saves a journal, from which `--restore` restores the original chip. `run.rt` performs a run, `jobs.rt`
-//! a job on the chip, and `laws.rt` has a theorem about a change and the restores that follow it. `nor_jobs` and
-//! `nor_console` have code that this program shares with `flashnor_serprog`.
+//! It identifies, reads, verifies, writes, erases and write-protects emulated chips, whose contents may be in files. A
+//! session saves a journal before it changes the chip, and `--restore` restores the original chip from this journal.
+//! `run.rt` performs a run, `jobs.rt` performs a job on the chip, and `laws.rt` has a theorem about a change and the
+//! restores that follow it. `nor_jobs` and `nor_console` have code that this program shares with `flashnor_serprog`.
 #![tactic(auto)]
 
 mod changes;

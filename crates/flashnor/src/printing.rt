@@ -22,16 +22,17 @@ pub struct ErrorStream<E> {
 
 #[derive(Clone, Copy)]
 pub struct Ending {
-    /// The exit status: 0 if the answer or the help was printed and every file was written, otherwise 1.
+    /// The exit status: 0 if the answer or the help was printed and `Unwritten` names no file, otherwise 1.
     pub status: u8,
     pub printed: bool,
-    /// True if each message (of a fault, standard output, or a file that could not be written) was printed.
+    /// True if each message was printed: about a fault, about an answer or help that could not be printed, and about
+    /// each file that `Unwritten` names.
     pub reported: bool,
 }
 
-/// Prints an answer or the help to `output`, or `detail` (unless `Numbered`) and the fault to the stream `to`. Then
-/// prints a message for each file that could not be written: after a fault to the stream `to`, otherwise to `errors`.
-/// If the answer or the help can't be printed, prints file fault 2 to `errors`, and the status is 1.
+/// Prints an answer or the help to `output`, or prints a fault to the stream `to` (after `detail` if the wording is
+/// `Explained`). Then prints a message for each file that `unwritten` names: to `to` after a fault, otherwise to
+/// `errors`. If the answer or the help can't be printed, prints file fault 2 to `errors`, and the status is 1.
 #[tactic(auto, using(crate::proofs::Printed::printed_well, crate::proofs::Printed::printed_badly))]
 pub fn print_end<O: Write, E: Write>(
     output: &mut O,

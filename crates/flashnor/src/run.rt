@@ -32,9 +32,9 @@ use std::io::Write;
 use std::rt::Files;
 
 /// Performs the job given by the arguments (the first is the program's name), or prints the help. Returns the exit
-/// status: 1 after a fault, or if the result could not be printed or a file could not be written; otherwise 0. Results
-/// are printed to `output`, and faults to `errors`. If standard error prints to a file of the job, the fault that
-/// reports this is printed to `output`, unless standard output prints to a file of the job, too.
+/// status: 1 after a fault, if the result or the help could not be printed, or if `Unwritten` names a file, otherwise
+/// 0. Results are printed to `output`, and faults to `errors`. If only standard error prints to a file of the
+/// job, the fault that reports this is printed to `output`. If both streams do, this fault isn't printed.
 pub fn run_words<R: Files + AllocGlobal, O: Write, E: Write>(
     rt: &R,
     given: io::Result<Args>,
@@ -57,7 +57,7 @@ where
     ending.status
 }
 
-/// Ends a run that could not open a directory in place of closed standard streams: prints file fault 1, and returns 1.
+/// Ends a run that could not open a directory to occupy descriptors 0, 1 and 2: prints file fault 1, and returns 1.
 pub fn end_without_streams<O: Write, E: Write>(output: &mut O, errors: &mut ErrorStream<E>) -> u8
     ensures { EndsWith (IsWithoutStreams errors.old.wording (O.contents output.old) (O.contents output.new)
         (E.contents errors.old.writer) (E.contents errors.new.writer)) result }
@@ -113,7 +113,7 @@ pub fn run_over<R: Store, O: Write, E: Write>(
         (O.contents output.old) (O.contents output.new)
         (E.contents errors.old.writer) (E.contents errors.new.writer) result }
 {
-    // The prover checks the contract of `runs_restore_original` only in a program that calls this function.
+    // The prover checks the contract of `runs_restore_original` only if the program calls `runs_restore_original`.
     runs_restore_original::<R>();
     let (work, to) = run(rt, words);
     let Work {

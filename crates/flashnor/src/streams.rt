@@ -1,4 +1,4 @@
-//! Checks that the program prints to no file of a job, or chooses the stream for the fault that reports this.
+//! Checks that the program prints to no file of a job. If it does, chooses the stream for the fault that reports this.
 ghost use Rattle.std.specs.Prelude.{◌≡◌, IfErr, IfOk, IfSome};
 ghost use Rattle.flashnor.specs.Roles.{FailsFileRoles, IsPrintedName, changes_files};
 ghost use Rattle.flashnor.specs.Streams.{IsReportedTo};
@@ -12,7 +12,7 @@ use nor_files::{Store, Stream};
 #[derive(Clone, Copy)]
 pub enum Reports {
     Errors,
-    /// To standard output, because standard error prints to a file of the job.
+    /// To standard output, because only standard error prints to a file of the job.
     Output,
     /// Nowhere, because standard output and standard error both print to files of the job.
     Nowhere,
@@ -34,9 +34,9 @@ const ROLES: [Role; 7] = [
     Role::Journal,
 ];
 
-/// Checks that the program prints to no regular file that the job names. Returns file fault 5 with the first such file
-/// (in the order of `Role`) of standard output or, if it has none, of standard error. Returns file fault 1 with a name
-/// that can't be looked up; if the job may change files, this can be a name of a standard stream.
+/// Checks that the program prints to no regular file that the job names. Returns file fault 5 with the first file (in
+/// the order of `Role`) to which standard output prints or, if there is none, to which standard error prints. Returns
+/// file fault 1 with a name that can't be looked up: a file's or, if the job may change files, a standard stream's.
 pub fn are_unprinted<'a, R: Store>(rt: &R, job: &ChipJob<'a>) -> Result<(), StreamFault<'a>>
     ensures fails { IfErr result (λ refused. FailsFileRoles (R.state rt.now).view.nature job.now refused.fault) }
     ensures to { IfErr result (λ refused. IsReportedTo (R.state rt.now).view.nature refused.fault refused.to) }

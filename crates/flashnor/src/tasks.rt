@@ -1,4 +1,4 @@
-//! Which tasks write the chip's contents back to its files, and the journal that a task creates.
+//! Whether a task writes the chip's contents back to the chip's files, and which journal a task creates.
 ghost use Rattle.std.specs.Prelude.{◌≡◌};
 ghost use Rattle.flashnor.specs.Tasks.{journal_by, writes_back};
 

@@ -1,4 +1,4 @@
--- The bus to a chip on a board, as contracts describe it: its layers, and the image that it expects.
+-- The image that the bus to a chip on a board expects, and the bytes that the bus's port was asked to send.
 use Rattle.std.specs.Prelude.{ℕ, List, Option, option_map}
 use Rattle.nor_serprog.specs.Batching.{link_of}
 use Rattle.nor_buses.specs.Checked.{bus_of}

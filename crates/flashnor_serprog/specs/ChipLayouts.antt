@@ -75,7 +75,7 @@ pub record IsReadFirst (state : Connected → BusState) (device : Text) (named :
   pub read : HasReadLayout named layout (state start) last bytes
   pub sends : KeepsSent (state start) last
 
--- With a layout on the chip: holds if `shown` are the bytes read for this layout. Otherwise: if `shown` is `None`.
+-- With a layout on the chip: holds if `shown` are the bytes read for it. Otherwise: holds if `shown` is `None`.
 abbrev pub IsShown : (state : Connected → BusState) → (device : Text) → Option ChipName → Option LayoutForm
     → (shown : Option (List ℕ)) → Type 0
 IsShown state device named None shown = shown ≡ None

@@ -1,4 +1,4 @@
--- The bus of a run, as contracts describe it: its device, and the image that it expects.
+-- The device of a run's bus, the image that this bus expects, and the bytes that the device's port was asked to send.
 use Rattle.std.specs.Prelude.{ℕ, List, Option, string_bytes}
 use Rattle.nor_buses.specs.Ahead.{ahead_of}
 use Rattle.nor_args.specs.Text.{Text}

@@ -52,8 +52,9 @@ IsAskedByArguments words asked.List = IsHardwareJob program words hardware.List
 IsAskedByArguments words (asked.Description file image) = IsHardwareJob program words (hardware.CheckJournal file image)
 IsAskedByArguments words (asked.Chip setting operation) = IsAskedFor words setting.device operation
 
--- Holds if no file of the operation has two roles, `ranges` are the included addresses, `bytes` are the bytes that the
--- job uses, and `files` are the regions with a file. The fields say more.
+-- Holds if no file of the operation has two roles (but one file may be the layout and the image), `ranges` are the
+-- included addresses, `bytes` are the bytes that the job uses, and `files` are the regions with a file. The fields say
+-- more.
 pub record IsPrepared (state : Connected → BusState) (view : View) (device : Bor Text) (operation : Operation)
     (files : List RegionFile) (ranges : Option (List Span)) (bytes : List ℕ) : Type 0 where
   pub shown : Option (List ℕ)

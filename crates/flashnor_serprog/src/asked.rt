@@ -23,7 +23,8 @@ pub enum Asked<'a> {
     },
 }
 
-/// Returns the job that the arguments ask for, or the first fault. `names` gets the values of `-i`, joined by commas.
+/// Returns the job that the arguments ask for. The error is the first fault, or a request for the help or the version.
+/// `names` gets the values of `-i`, joined by commas.
 pub fn read_words<'a>(
     alloc: Global,
     words: &'a [String],

@@ -44,7 +44,7 @@ const WITH_ROW: [[u8; 3]; 9] = [
     [0xEF, 0x70, 0x18],
 ];
 
-/// What the layers found out about a transaction that returned `Stopped`. The first cause that is present explains it.
+/// What the layers found out about a transaction that stopped. The first field that contains a cause explains the stop.
 #[derive(Clone, Copy)]
 pub struct Causes<'a> {
     /// The two unique IDs that were read, if they differed before the first modifying command.
@@ -58,8 +58,8 @@ pub struct Causes<'a> {
 }
 
 impl<'a> BoardBus<'a> {
-    /// Returns an unused bus to the chip at the programmer of `link`. Data that equals `image` at the same address is
-    /// read once, all other data twice. `image` must be that of `-v` or of a write whose result is compared, because
+    /// Returns an unused bus to the chip at the programmer of `link`. Sectors that equal `image` at their addresses are
+    /// read once, other data twice. `image` must be that of `-v` or of a write whose result is compared, because
     /// data that was read only once must not get into a journal.
     pub fn new(
         rt: &'a HostRuntime,

@@ -123,7 +123,7 @@ impl From<ProgrammerFault> for Unconnected {
 // Returns a programmer fault from 1 to 12, 14 or 15 if a step fails, or an error of `expect_chip`.
 //
 // The returned bus has carried out no transaction yet, and belongs to this device. Before `connect` returns a bus, the
-// port is asked for nothing that modifies a chip (`harmless`). `image` is passed to `BoardBus::new`.
+// port is asked for no transaction that may modify a chip (`harmless`). `image` is passed to `BoardBus::new`.
 fn connect<'a>(
     rt: &'a HostRuntime,
     terminal: Terminal<'a>,
@@ -211,7 +211,8 @@ impl fmt::Display for HigherClock {
     }
 }
 
-// Returns `NoChip` if no chip answers, and `NoStatus` if a device has an ID, but neither status 1 nor SFDP.
+// Returns `NoChip` if no chip answers, `NoStatus` if a device has an ID, but neither status 1 nor SFDP, or the fault of
+// an exchange that failed.
 fn expect_chip(
     rt: &HostRuntime,
     link: &mut Link<DevicePort>,

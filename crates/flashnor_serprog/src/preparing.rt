@@ -90,7 +90,7 @@ struct JobFiles<'a> {
 }
 
 // Checks and reads the files of the operation, and returns the first fault. The roles of the files, the log, the file
-// of a backup, and the image or the journal are checked before a layout is read from the chip (`read_chip_layout`).
+// of a backup, and the image are checked before a layout is read from the chip (`read_chip_layout`).
 fn read_files<'a, 'b, R: Store<Log = LogFile<File>>, E: Write>(
     rt: &'b HostRuntime,
     terminal: Terminal<'b>,
@@ -136,9 +136,9 @@ fn checks_for(operation: &Operation<'_>) -> Checks {
     }
 }
 
-// Returns the rules of the bus for this operation. A session or a backup, which makes a journal, refuses a chip that a
-// restore can't write. A restore follows its journal in `bytes`, because older versions of this program saved QE (if it
-// is bit 6 of status 1) and a missing unique ID as they were read.
+// Returns the rules of the bus for this operation. For a session or a backup, which makes a journal, the bus refuses a
+// chip that a restore can't write. The rules for a restore depend on its journal in `bytes`, because older versions of
+// this program saved QE (if it is bit 6 of status 1) and a missing unique ID as they were read.
 fn rules_for(operation: &Operation<'_>, bytes: &[u8]) -> Rules {
     let reading = Rules::reading();
     let checks = checks_for(operation);
@@ -188,7 +188,7 @@ fn keeps_log(operation: &Operation<'_>) -> bool {
     matches!(operation.task, Task::Restore { .. })
 }
 
-// Checks the image or the journal before a layout is read from the chip, because that read may take minutes.
+// Checks the image before a layout is read from the chip, because that read may take minutes.
 fn reject_wrong_sources<'a, R: Store>(
     files: &mut R,
     operation: &Operation<'a>,

@@ -16,7 +16,8 @@ use nor_journal::{Journal, MAGIC};
 use std::fs;
 use std::io::Write;
 
-/// Prints the lines of a fault that ended a run before its job began, unless they were printed already.
+/// Prints the lines of a fault before the job began or, after a read, of `write_region_files`. Prints nothing for
+/// `AlreadyPrinted`.
 pub fn print_run_fault<E: Write>(
     errors: &mut E,
     run_fault: &RunFault<'_>,
@@ -34,10 +35,10 @@ pub fn print_run_fault<E: Write>(
     }
 }
 
-/// Prints the line of the fault with which a job ended, and then, if there are any: its hint, the cause of error 12 or
-/// the line for a port that changes bytes, and its note. `saved` is what the journal of a restore says about its chip.
-/// `unwritten` is the reason why the journal or the output can't be written. `farthest` is the included region that has
-/// the greatest address.
+/// Prints the line of the fault of a job or of the read of a layout, and then, if there are any: its hint, the cause of
+/// error 12 or the line for a port that changes bytes, and its note. `saved` is what the journal of a restore says
+/// about its chip. `unwritten` is the reason why the journal or the output can't be written. `farthest` is the included
+/// region that has the greatest address.
 pub fn print_job_fault<E: Write>(
     errors: &mut E,
     fault: &JobFault<'_>,
@@ -112,7 +113,7 @@ fn has_removed<R: Store>(files: &R, terminal: Terminal<'_>, name: &str) -> bool 
     }
 }
 
-// Returns whether these bytes begin with `MAGIC` or are a prefix of `MAGIC`, but are no whole journal.
+// Returns whether these bytes begin with `MAGIC` or are a prefix of `MAGIC`, but are no valid journal.
 fn is_begun_journal(bytes: &[u8]) -> bool {
     let len = bytes.len().min(MAGIC.len());
     bytes[..len] == MAGIC[..len] && Journal::read(bytes).is_err()

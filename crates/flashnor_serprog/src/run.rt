@@ -304,7 +304,8 @@ pub fn end_log<E: Write>(errors: &mut E, log: &RunLog, name: Option<&str>, statu
     }
 }
 
-// Writes the files of regions after a read, and prints the answer, or the fault if a file can't be written.
+// After a read, copies the bytes of regions into their files (`write_region_files`). If this succeeds, prints the
+// answer, otherwise the fault.
 fn end_with_files<R: Store, O: Write, E: Write>(
     files: &mut R,
     operation: &Operation<'_>,

@@ -36,9 +36,10 @@ pub enum WrongSetting<'a> {
 }
 
 impl<'a> Setting<'a> {
-    /// Parses the value of `-p`. A `KEY=VALUE` pair ends at the next comma, and its key at the first `=`. Returns the
-    /// first of these faults: `NoPrefix`, for the first wrong pair `Network` (key `ip`) or `Flawed`, `NoDevice`, and
-    /// `BaudRate` for a device that ends with a colon and a decimal number (at most 20 digits, below 2^64).
+    /// Parses the value of `-p`. A `KEY=VALUE` pair ends at the next comma, and its key at the first `=`. Checks for
+    /// these faults in this order: `NoPrefix`, then `Network` (key `ip`) or `Flawed` for the first wrong pair, then
+    /// `NoDevice`, then `BaudRate` for a device that ends with a colon and a decimal number (at most 20 digits, below
+    /// 2^64).
     pub fn read(text: &'a str) -> Result<Setting<'a>, WrongSetting<'a>>
         ensures { MatchResult result (IsSetting text.now) (IsWrongSetting text.now) }
     {

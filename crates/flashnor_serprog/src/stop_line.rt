@@ -1,4 +1,4 @@
-//! The line that follows the line of error 12: the cause, what to do, and the state in which the job left the chip.
+//! The line that follows the line of error 12: the cause and, in most cases, what to do and how the job left the chip.
 
 use crate::board_bus::Causes;
 use crate::run_fault::FailureText;

@@ -1,4 +1,4 @@
--- Lemmas: if the options ask for a job or have a fault, the arguments with these options ask for it or have it, too.
+-- Lemmas: the job or the fault of the options is also the job or the fault of the arguments that contain these options.
 use Rattle.std.proofs.Common.{◌≡◌, arith, Bool, false, List, [], Some, None, Result, Ok, Err, inl, inr, refl, subst, sym}
 use Rattle.std.specs.Prelude.{MatchResult}
 use Rattle.clap.specs.declared.error.Error.{Error}

@@ -1,4 +1,4 @@
--- Parsing the text of an option that may be missing has the same result as `option_and_then`.
+-- If `r` is `f` of a text, or `None` without a text, then `r` is `option_and_then f` of this optional text.
 use Rattle.std.proofs.Common.{◌≡◌, Option, None, arith, option_map}
 use Rattle.std.specs.Prelude.{option_and_then}
 use Rattle.std.specs.Borrow.{Bor}

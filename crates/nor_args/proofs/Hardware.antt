@@ -1,4 +1,4 @@
--- The rows of the tables `CHOICES` and `HARDWARE_CHOICES` result in the options of a program for hardware.
+-- Lemmas: adding `CHOICES` (or `HARDWARE_CHOICES`) to a command adds `most_rules` (or `own_rules`) for hardware.
 use Rattle.std.proofs.Common.{◌≡◌, ◌∙◌, List, ap, cond, map, sym}
 use Rattle.std.specs.Prelude.{fold}
 use Rattle.std.proofs.lemmas.List.Folds.{fold-map}

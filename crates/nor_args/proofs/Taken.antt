@@ -1,4 +1,4 @@
--- A successful parse by `clap` yields the rows that `clap` specifies; a failure is a usage fault of the arguments.
+-- Lemmas: a successful parse returns the values that clap's specification defines, and a failed parse is a usage fault.
 use Rattle.std.proofs.Common.{◌≡◌, [], true, List, Ok, Err, inl, inr, refl}
 use Rattle.clap.specs.Words.{App, FailsBy, HasMatchesOf, fault_of, found_of, is_simple, is_simple_and_free, matches_of}
 use Rattle.clap.specs.Words.{rows_of}

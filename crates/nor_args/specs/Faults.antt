@@ -1,4 +1,4 @@
--- The usage faults 2 to 9 that options may have if `clap` accepts the arguments, and the message of each fault.
+-- The usage faults 2 to 9 that options may have if `clap` accepts the arguments, and the messages of faults 2 to 10.
 use Rattle.std.specs.Prelude.{◌&&◌, ◌||◌, ◌++◌, ℕ, Bool, false, Option, Some, None, List, [], ◌∷◌, codes, decimal}
 use Rattle.std.specs.Prelude.{drop, find, is_some, nat_eq, nat_lt, not, option_map, if◌then◌else◌}
 use Rattle.std.specs.List.{list_any}
@@ -55,7 +55,7 @@ file_choices given =
     ∷ (passes_test lists_dash given.names, option.Include) ∷ (is_dash given.fmap_file, option.FmapFile)
     ∷ (is_dash given.ifd_file, option.IfdFile) ∷ (is_dash given.log, option.Output) ∷ []
 
--- the first option of a program for hardware that names the file `-`; for flashnor `-` is an ordinary name
+-- the first option in `file_choices` that names the file `-`; always `None` for flashnor, where `-` is an ordinary name
 abbrev pub dashed : Texts → Option OptionName
 dashed given = if given.hardware then first_given (file_choices given) else None
 

@@ -13,7 +13,8 @@ use Rattle.nor_args.specs.declared.job.LayoutForm.TheVariants as form
 use Rattle.nor_args.specs.declared.job.ProgressMode.{ProgressMode}
 use Rattle.nor_args.specs.declared.job.ProgressMode.TheVariants as mode
 
--- The values of options: `None` or false if an option isn't given. `names` is the value of `-i`, `log` that of `-o`.
+-- The values of options: `None` or false if an option isn't given. `names` is the value of `-i` (for hardware, all its
+-- values joined with commas), `log` that of `-o`.
 pub record Texts : Type 0 where
   pub programmer : Option Text
   pub chip : Option Text
@@ -183,7 +184,7 @@ operations given = how_many (
     ∷ is_some given.write ∷ given.erase ∷ is_some given.wp_range ∷ is_some given.restore
     ∷ is_some given.backup ∷ is_some given.check_journal ∷ given.wp_enable ∷ given.wp_disable ∷ [])
 
--- the file of the layout, or `None` if there is no layout or it is read from the chip
+-- the value of `-l`, else that of `--fmap-file`, else that of `--ifd-file`, or `None` without these options
 abbrev pub layout_file : Texts → Option Text
 layout_file given = option_or given.layout (option_or given.fmap_file given.ifd_file)
 

@@ -1,4 +1,4 @@
--- The job that the options ask for. For programs for hardware also the fault of options that ask for no job.
+-- The job that the options ask for and, for programs for hardware, the fault of options that ask for no job.
 use Rattle.std.specs.Prelude.{◌≡◌, ◌⊎◌, [], ◌∷◌, true, false, MatchResult, Option, Some, None, is_some, not}
 use Rattle.std.specs.Prelude.{map, option_and_then, option_map}
 use Rattle.std.specs.Borrow.{Bor}
@@ -81,7 +81,7 @@ abbrev pub IsAsked : Texts → Job → Type 0
 IsAsked given job.List = given.list ≡ true
 IsAsked given (job.Chip on_chip) = (given.list ≡ false) × IsChipJob given on_chip
 
--- the row for this value of `-c` in upper or lower case: the name of the row, or of another chip with the row's ID
+-- the result of `row_named` for this value of `-c` in upper case
 abbrev pub name_in_any_case : Text → ChipName
 name_in_any_case text = row_named (map to_ascii_uppercase text)
 

@@ -86,7 +86,7 @@ options =
 abbrev pub is_for_hardware : Text → Bool
 is_for_hardware id = not (bytes_eq id (codes "rehearse"))
 
--- the options, except `-R`, that only programs for hardware have; `hardware_form` adds the long names
+-- the options, except `-R`, that only programs for hardware have; `hardware_form` adds the missing long names
 abbrev pub own_rules : List Rule
 own_rules =
     by_name (valued (codes "backup"))

@@ -1,4 +1,4 @@
--- The names that `-c` accepts in programs for hardware: the names of rows, and of other chips with the ID of a row.
+-- Names for `-c` in programs for hardware: those of rows of the table of chips, and of other chips with a row's ID.
 use Rattle.std.specs.Prelude.{Bool, List, [], ◌∷◌, Option, codes, find, unwrap_or}
 use Rattle.std.specs.List.{list_any}
 use Rattle.std.specs.Str.{bytes_eq}
@@ -7,7 +7,7 @@ use Rattle.nor_probe.specs.declared.table.ChipName.{ChipName}
 use Rattle.nor_probe.specs.declared.table.ChipName.TheVariants as row
 use Rattle.nor_args.specs.Text.{Text}
 
--- the names of the chips that have the ID of this row, except the name of the row
+-- names, other than the row's own, of chips that have the ID of this row
 abbrev pub other_names : ChipName → List Text
 other_names row.W25Q32FV =
     codes "W25Q32BV" ∷ codes "W25Q32CV" ∷ codes "W25Q32DV" ∷ codes "W25Q32JV" ∷ codes "W25Q32JV-Q"
@@ -37,6 +37,6 @@ is_among names text = list_any (bytes_eq text) names
 abbrev pub other_named : Text → Option ChipName
 other_named text = find (λ other. is_among (other_names other) text) rows_with_names
 
--- the row with this name in upper case, or with the ID of a chip that has this name; `Sfdp` for `SFDP`, else `Other`
+-- the row with the name `text`, or with `text` among its `other_names`; `Sfdp` for `SFDP`, and else `Other`
 abbrev pub row_named : Text → ChipName
 row_named text = unwrap_or (other_named text) (name_of text)

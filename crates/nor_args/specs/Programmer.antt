@@ -53,7 +53,7 @@ value_in settings key = option_map value_of (find (has_key key) settings)
 abbrev pub said : (text key : Text) → Option Text
 said text = value_in (settings_of text)
 
--- True if the text is `dummy:` and correct settings, with commas between them, and one of these names the chip.
+-- True if the text is `dummy:` and correct settings with different keys, separated by commas, `emulate=` among them.
 abbrev pub is_programmer_text : Text → Bool
 is_programmer_text text = starts_with nat_eq text (codes "dummy:")
     && (are_settings (settings_of text) && is_some (option_and_then emulated_named (said text (codes "emulate"))))

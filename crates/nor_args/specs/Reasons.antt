@@ -101,7 +101,7 @@ abbrev pub dash_reason : Option OptionName → Reason
 dash_reason (Some option) = because.Dash option
 dash_reason None = because.Unsaid
 
--- Holds if `reason` explains fault 5 by the first of these: a wrong `--progress`, a wrong `--wp-range`, a file `-`.
+-- Holds if `reason` gives the first cause of fault 5 that applies: wrong `--progress`, wrong `--wp-range`, or file `-`.
 abbrev pub IsWrongValue : (wrong_mode wrong_range : Bool) → Texts → Reason → Type 0
 IsWrongValue true wrong_range given reason = IsWrongMode given.progress reason
 IsWrongValue false true given reason = IsWrongRange given.wp_range reason

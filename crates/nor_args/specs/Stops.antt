@@ -1,4 +1,4 @@
--- The value of `--rehearse`: the numbers of transactions after which a rehearsal stops its session and first restores.
+-- The value of `--rehearse`: the most transactions that the session, then the first restore, and so on may send.
 use Rattle.std.specs.Prelude.{◌&&◌, ℕ, List, Option, Some, None, length, filter_map, nat_le, if◌then◌else◌}
 use Rattle.std.specs.List.{list_all}
 use Rattle.nor_args.specs.Text.{Text, pieces_of, reads}

@@ -1,4 +1,4 @@
--- Texts as lists of bytes, and their parts before, between and after commas, colons and `=`.
+-- Texts as lists of bytes, their parts at commas, colons and `=`, and which characters are hidden.
 use Rattle.std.specs.Prelude.{◌==◌, ◌||◌, ◌&&◌, ℕ, Bool, List, Option, is_some, nat_le}
 use Rattle.std.specs.Char.{is_control}
 use Rattle.std.specs.List.{slice_split, before_first, after_first}

@@ -2,8 +2,8 @@
 ghost use Rattle.std.specs.Prelude.{◌≡◌};
 ghost use Rattle.nor_args.specs.Text.{is_hidden};
 
-/// Returns whether a terminal doesn't show this character as itself: it is a control character (U+0000 to U+001F or
-/// U+007F to U+009F), or it changes the direction of the text after it (U+202A to U+202E or U+2066 to U+2069).
+/// Returns whether this is a control character (U+0000 to U+001F or U+007F to U+009F), or one of the characters U+202A
+/// to U+202E and U+2066 to U+2069, which change the direction of text.
 pub fn is_hidden(character: char) -> bool
     ensures { result ≡ is_hidden character }
 {

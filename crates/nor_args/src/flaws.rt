@@ -1,4 +1,4 @@
-//! The reason why the value of `-p` is wrong: the first setting with a flaw, and this flaw.
+//! The reason why the value of `-p` is wrong: no `dummy:`, the first setting with a flaw, or no `emulate=`.
 ghost use Rattle.std.specs.Prelude.{◌≡◌, option_map};
 ghost use Rattle.nor_args.specs.Programmer.{are_settings, is_setting};
 ghost use Rattle.nor_args.specs.Reasons.{IsWrongProgrammer, first_flawed, flaw_of, has_known_key, is_flawed};

@@ -42,7 +42,7 @@ pub use names::{chip_named, joined_names};
 // A correct value of `-p`, with which the other options of a program for hardware are checked.
 const ANY_CHIP: &str = "dummy:emulate=TINY64";
 
-/// The values of the options: `None` or false if an option isn't given.
+/// The values of the options (`None` or false if an option isn't given), and whether the program is one for hardware.
 #[derive(Clone, Copy)]
 pub struct Given<'a> {
     programmer: Option<&'a str>,

@@ -27,12 +27,13 @@ pub struct ChipJob<'a> {
 /// The job that the arguments of a program for hardware ask for.
 #[derive(Drop)]
 pub enum HardwareJob<'a> {
-    /// `--check-journal FILE`: describe the journal; with `--extract-image`, write its image to `image`. Ignores `-p`.
+    /// `--check-journal FILE`: describe the journal and, with `--extract-image`, write its image to the file `image`.
+    /// Ignores `-p`.
     CheckJournal {
         file: &'a str,
         image: Option<&'a str>,
     },
-    /// `-L`: list the chips that have a row. Ignores `-p`.
+    /// `-L`: list the known chips. Ignores `-p`.
     List,
     Chip(ProgrammerJob<'a>),
 }
@@ -51,7 +52,8 @@ pub struct ProgrammerJob<'a> {
 #[derive(Drop)]
 pub struct Operation<'a> {
     pub named: Option<ChipName>,
-    /// True without `-N`: compare what a restored journal lacks, and the whole chip after a verified write or erase.
+    /// True without `-N`: after a restore, also check the sectors that the journal doesn't save; after a verified write
+    /// or erase, compare the whole chip.
     pub verifies_all: bool,
     /// True with `--quick`: a restore writes only the saved sectors that differ.
     pub is_quick: bool,
@@ -172,7 +174,7 @@ pub enum Wanted<'a> {
 #[derive(Drop)]
 pub enum JournalUse<'a> {
     Journal { file: &'a str },
-    /// `--rehearse N,N,..`: the change stops after the first number of transactions, and each further number stops one
-    /// more restore. The last restore isn't stopped.
+    /// `--rehearse N,N,..`: the most transactions that the change, then the first restore, then the second, and so on
+    /// may send. A restore without a number isn't stopped.
     Rehearse { stops: ArrayVec<u64, MOST_STOPS> },
 }

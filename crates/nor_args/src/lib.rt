@@ -11,9 +11,10 @@
 //! assert!(rt; matches!(request_of(rt.alloc(), &[]), Err(UsageFault::NoProgrammer)));
 //! ```
 //!
-//! `words.rt` has the entry points and the usage faults, `job.rt` the types of a job, `options.rt` the options, and
-//! `reasons.rt` the reasons of faults. `specs/Words.antt` and `specs/Job.antt` define which arguments ask for which
-//! job, `specs/Faults.antt` the usage faults, and `specs/Reasons.antt` their reasons.
+//! `words.rt` has the entry points and the usage faults, `job.rt` the types of a job, `options.rt` and
+//! `options/hardware.rt` the options, and `reasons.rt` the reasons of faults. `specs/Words.antt` and `specs/Job.antt`
+//! define which arguments ask for which job, `specs/Faults.antt` the usage faults, and `specs/Reasons.antt` their
+//! reasons.
 #![tactic(auto)]
 
 mod escapes;

@@ -22,7 +22,8 @@ pub fn read_polls(text: &str) -> Option<u16>
     u16::try_from(polls).ok()
 }
 
-/// Parses `START,LENGTH`, each as decimal digits or as `0x` and hexadecimal digits. Returns `None` for any other text.
+/// Parses `START,LENGTH`: each is below 2 to the power of 32, as 1 to 10 decimal digits or as `0x` and 1 to 8
+/// hexadecimal digits. Returns `None` for any other text.
 pub fn read_range(text: &str) -> Option<(u32, u32)>
     ensures { result ≡ range_of text.now }
 {

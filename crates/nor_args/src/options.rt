@@ -85,7 +85,7 @@ The manual page, flashnor(8), says what to do about each fault.";
 // An option, and its line in the help.
 struct Choice {
     letter: Option<char>,
-    // The ID for `clap`, and (except for `-L`) the long name. flashnor has long names only for options without letter.
+    // The ID for `clap`, and (except for `-L`) the long name. In flashnor, an option with a letter has no long name.
     name: &'static str,
     // The placeholder of the option's value in the help; a flag has none.
     value: Option<&'static str>,
@@ -221,8 +221,8 @@ pub struct Help {
     pub notes: &'static str,
 }
 
-/// Returns the `clap` command of a program for hardware: flashnor's options except `--rehearse`, its own options, and
-/// `-R`. Each option has a long name, too, as in flashrom. Fails only if memory runs out.
+/// Returns the `clap` command of a program for hardware: flashnor's options except `--rehearse`, the further options in
+/// `HARDWARE_CHOICES`, and `-R`. Each option has a long name, as in flashrom. Fails only if memory runs out.
 pub fn make_hardware_options<'a>(alloc: Global, help: Help) -> Result<Command<'a>, AllocError>
     ensures { IfOk result (λ command. app_of command ≡ hardware_options help.program.now) }
 {

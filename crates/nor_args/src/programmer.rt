@@ -69,8 +69,8 @@ pub struct Programmer<'a> {
     pub unique: Option<[u8; 8]>,
     /// `busy=N`: the number of polls that show BUSY after each program, erase or status write.
     pub busy: Option<u16>,
-    /// `power=HH`: each stop is a power failure. Each byte of the page or block in work then becomes HH; a status write
-    /// in progress is completed if HH is odd, and undone if it is even.
+    /// `power=HH`: each stop is a power failure. Each byte of the page or block in progress then becomes HH; a status
+    /// write in progress is completed if HH is odd, and undone if it is even.
     pub power: Option<u8>,
 }
 

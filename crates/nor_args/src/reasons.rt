@@ -91,7 +91,7 @@ pub enum Flaw {
 impl Flaw {
     ghost use Rattle.nor_args.specs.Reasons.{flaw_by};
 
-    /// Returns the flaw of a wrong setting. `known`: its key is known. `valid`: its key is known, its value correct.
+    /// Returns the flaw of a wrong setting. `known`: its key is known. `valid`: its key is known and its value correct.
     pub fn of(known: bool, valid: bool) -> Flaw
         ensures { result ≡ flaw_by known valid }
     {
@@ -106,7 +106,7 @@ impl Flaw {
 /// The reason of a usage fault. A number at a variant is the number of the fault.
 #[derive(Clone, Copy)]
 pub enum Reason<'a> {
-    /// 1 and 10: there is no reason, because `clap`'s message contains it, or because memory ran out.
+    /// No reason is given. For 1, `clap`'s message contains the reason; 10 means that memory ran out.
     Unsaid,
     NoProgrammer,
     /// 3: the value of `-p` doesn't begin with `dummy:`.
@@ -115,8 +115,9 @@ pub enum Reason<'a> {
     Setting { setting: &'a str, flaw: Flaw },
     /// 3: no setting of `-p` has a flaw, but `emulate=` is missing.
     NoChip,
-    /// 4: the first and the last given operation, in the order of the help, but `--flash-name` after `--flash-size`. 7:
-    /// the first and the last given layout, in the order `-l`, `--fmap-file`, `--ifd-file`, `--fmap`, `--ifd`.
+    /// For 4: the first and the last given operation, in the order of the help, but with `--flash-name` after
+    /// `--flash-size`. For 7: the first and the last given option for a layout, in the order `-l`, `--fmap-file`,
+    /// `--ifd-file`, `--fmap`, `--ifd`.
     Operations { first: OptionName, last: OptionName },
     /// 5: this value of `--wp-range` isn't a start and a length.
     Range(&'a str),
@@ -143,7 +144,7 @@ pub enum Reason<'a> {
     NoRestore(OptionName),
     /// 8: `--extract-image` is given without `--check-journal`.
     NoCheck,
-    /// 9: this is the first part of the value of `--rehearse` that isn't a number.
+    /// 9: this is the first part of the value of `--rehearse` that `read_number` rejects.
     Stop(&'a str),
     /// 9: the value of `--rehearse` has more than 64 numbers.
     ManyStops,

@@ -20,7 +20,7 @@ pub fn read_stops(text: &str) -> Option<ArrayVec<u64, MOST_STOPS>>
     Some(stops)
 }
 
-/// Returns the first part between the commas of `text` that isn't a number, or `None` if there is none.
+/// Splits `text` at its commas. Returns the first part that `read_number` rejects, or `None` if it rejects no part.
 pub fn first_unread(text: &str) -> Option<&str>
     ensures { option_map (λ part. part.now) result ≡ first_unread text.now }
 {

@@ -1,4 +1,4 @@
-//! Rewords errors of `clap`: escapes the arguments in their texts, and replaces clap's tip for an unknown argument.
+//! Rewords errors of `clap`: escapes hidden characters (`is_hidden`), and replaces clap's tip for an unknown argument.
 ghost use Rattle.std.specs.Prelude.{◌≡◌, IfOk};
 ghost use Rattle.clap.specs.Words.{kind_of};
 
@@ -20,8 +20,8 @@ pub enum Program {
     Hardware,
 }
 
-/// Returns `error` with each argument in its text escaped. For an unknown argument, a tip of this crate (or none)
-/// replaces the tip of `clap`, which may name an option that does something else, such as `--rehearse` for `--read`.
+/// Returns `error` with the hidden characters of each argument in its text escaped. For an unknown argument, a tip of
+/// this crate (or none) replaces clap's tip, which may name an unrelated option, such as `--rehearse` for `--read`.
 pub fn reword(
     alloc: Global,
     program: Program,
@@ -56,7 +56,8 @@ fn message_of_unknown(alloc: Global, program: Program, text: &str) -> Result<Str
     Ok(message)
 }
 
-// Returns the unknown argument that the text of an error names: the part before the last `AFTER_UNKNOWN`.
+// Returns the unknown argument that the text of an error names: the part between `BEFORE_UNKNOWN` and the last
+// `AFTER_UNKNOWN`.
 fn unknown_in(text: &str) -> &str {
     let rest = text.strip_prefix(BEFORE_UNKNOWN).unwrap_or(text);
     match rest.rsplit_once(AFTER_UNKNOWN) {
@@ -106,7 +107,7 @@ fn flashnor_tip(argument: &str) -> Option<&'static str> {
     }
 }
 
-// Returns the tip for an option that flashrom or flashnor has, and a program for hardware lacks.
+// Returns the tip for some arguments that a program for hardware rejects, most of them options of flashrom.
 fn hardware_tip(argument: &str) -> Option<&'static str> {
     match argument {
         "-x" | "--extract" => Some(

@@ -26,13 +26,13 @@ pub enum UsageFault {
     TwoOperations,
     /// 5: `--wp-range` or `--progress` has a wrong value, or an option of a program for hardware names the file `-`.
     Range,
-    /// 6: a change without exactly one of `--journal` and `--rehearse`, or one of these two options without a change.
+    /// 6: a change without exactly one of `--journal` and `--rehearse`, or any of these two options without a change.
     Journal,
     /// 7: a layout without `-i`; `-i` without a layout; both without any of `-r`, `-v`, `-w`, `-E`; or several layouts.
     Layout,
     /// 8: an option without the operation that it needs (see `Reason`).
     Unneeded,
-    /// 9: the value of `--rehearse` isn't 1 to 64 numbers, or `-p` has a `stop=`, too.
+    /// 9: the value of `--rehearse` isn't 1 to 64 numbers, or both `--rehearse` and a `stop=` of `-p` are given.
     Stops,
     Memory,
 }
@@ -96,7 +96,7 @@ impl From<WordsError> for UsageFault {
     }
 }
 
-/// Returns the job that the arguments after the program's name ask for, or their first usage fault.
+/// Returns the job that the arguments after the program's name ask for, or a usage fault (see `UsageFault`).
 pub fn request_of<'a>(alloc: Global, words: &'a [String]) -> Result<Job<'a>, UsageFault>
     ensures { MatchResult result (IsJob (map string_bytes words.now)) (IsFault (map string_bytes words.now)) }
 {
@@ -106,7 +106,7 @@ pub fn request_of<'a>(alloc: Global, words: &'a [String]) -> Result<Job<'a>, Usa
     }
 }
 
-/// Returns the job that the arguments after the program's name ask for, or their first usage fault with its reason.
+/// Returns the job that the arguments after the program's name ask for, or a usage fault with its reason.
 pub fn explained_request_of<'a>(
     alloc: Global,
     words: &'a [String],
@@ -121,11 +121,11 @@ pub fn explained_request_of<'a>(
     }
 }
 
-/// Returns the job that `words`, the arguments of a program for hardware after its name, ask for. Sets `names` to the
-/// values of all `-i`, joined with commas.
+/// Returns the job that `words`, the arguments of a program for hardware after its name, ask for. Unless this returns
+/// fault 1 or 10, `names` is set to the values of all `-i`, joined with commas, or to `None` without `-i`.
 ///
-/// Returns with its reason: fault 1 or 10; fault 2 if `-p`, `--check-journal` and `-L` are all missing; or, with
-/// `--check-journal` or `-L`, the first of the faults 4 to 8. Without either, that fault is part of `ProgrammerJob`.
+/// The error is a fault and its reason: fault 1 or 10; fault 2 if `-p`, `--check-journal` and `-L` are all missing; or
+/// a fault from 4 to 8 with `--check-journal` or `-L`. Without these two options, such a fault is part of the job.
 pub fn operation_of<'a>(
     alloc: Global,
     help: Help,

@@ -1,4 +1,4 @@
--- If a vault in a file is borrowed and taken back, this file has the vault's bytes. Files apart from it stay the same.
+-- On lawful files, a file whose vault was borrowed and taken back has the vault's bytes. Files apart from it stay.
 use Rattle.std.proofs.Common.{◌≡◌, ◌∙◌, Some, ap, refl, subst, sym, true}
 use Rattle.nor_files.specs.Calls.{Borrows, TakesBack}
 use Rattle.nor_files.specs.Files.{AreApart, FilesState, Name, Nature, KeepsFile, is_lawful}

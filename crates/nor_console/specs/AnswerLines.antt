@@ -22,7 +22,7 @@ chip_line part = line (name_text part.name ∷ codes " " ∷ id_digits part.id �
 abbrev pub name_line : ChipName → List ℕ
 name_line name = line (name_text name ∷ [])
 
--- the lines that `-L` prints; `SFDP` is the name of all chips that are known only by their SFDP
+-- the lines that `-L` of flashnor prints; `SFDP` is the name of all chips that are known only by their SFDP
 abbrev pub chip_lines : List ℕ
 chip_lines = flat_map chip_line chips ++ name_line Sfdp
 

@@ -6,7 +6,7 @@ use Rattle.nor_args.specs.Text.{Text, is_hidden}
 abbrev pub escaped_byte : ℕ → List ℕ
 escaped_byte byte = codes "\\x" ++ hex_digits 2 byte
 
--- the UTF-8 of a character, with each byte escaped if a terminal doesn't show the character as itself (`is_hidden`)
+-- the UTF-8 of a character, with each byte escaped if the character is hidden (`is_hidden`)
 abbrev pub escaped_character : ℕ → List ℕ
 escaped_character character =
     if is_hidden character then flat_map escaped_byte (encode_utf8 character) else encode_utf8 character

@@ -35,7 +35,7 @@ explanation_of end.NoJournal = codes "error: the file is no journal, or is damag
 explanation_of (end.Refused refusal) = journal_line refusal
 explanation_of _ = []
 
--- the line with the number of a fault, without its line feed; `None` if it is a text of the argument parser
+-- the line with the number of a fault, without its line feed; `None` for an error of `clap`, whose text isn't specified
 abbrev pub numbered_line : Fault → Option (List ℕ)
 numbered_line (end.Usage fault reason) = usage_text fault
 numbered_line end.NoText = Some (codes "error: invalid UTF-8 was detected in one or more arguments\n\nUsage fault 1.")

@@ -8,7 +8,7 @@ use Rattle.nor_console.specs.declared.answers.Answer.{Answer}
 use Rattle.nor_console.specs.declared.messages.Fault.{Fault}
 use Rattle.nor_console.specs.declared.messages.Fault.TheVariants as end
 
--- Holds if a text for which `IsText` holds was appended to a writer, as far as its contents are known.
+-- Holds if a text for which `IsText` holds was appended to a writer, as far as the writer's contents are known.
 abbrev pub Prints : (List ℕ → Type 0) → (old new : Option (List ℕ)) → Type 0
 Prints IsText old new = (text : List ℕ) × IsText text × Appends old new text
 

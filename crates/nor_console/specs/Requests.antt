@@ -1,4 +1,4 @@
--- The request that a change makes to a session, and the faults of reading the layout of its regions.
+-- The request that a change makes to a session, and the results of reading the layout of a job's regions.
 use Rattle.std.specs.Prelude.{◌≡◌, ◌<◌, ◌≤◌, ◌⊎◌, ℕ, true, List, Option, Some, None, Ok, Err, find, length, not, ⊤}
 use Rattle.std.specs.Borrow.{Bor}
 use Rattle.nor_layout.specs.declared.fault.LayoutFault.{LayoutFault}
@@ -50,7 +50,7 @@ request_for change named ranges = record {
 abbrev pub any_size : ℕ
 any_size = 4294967295
 
--- Holds if `text` is a layout of this form with these regions. In an FMAP or descriptor they may lie outside the chip.
+-- Holds if `text` is a layout of this form with these regions, which may lie outside the chip.
 abbrev pub HasLayout : LayoutForm → (text : List ℕ) → List Region → Type 0
 HasLayout form.Lines text regions = IsLayout text regions
 HasLayout form.Words text regions = IsLayout (in_words place.Start text) regions

@@ -23,7 +23,7 @@ abbrev pub ReportsDone : Report → Answer → Type 0
 ReportsDone report (answer.Done returned) = returned ≡ report
 ReportsDone report _ = ⊥
 
--- Holds if the job called `session`, which obeyed its contract. `vault` and `vault'` are its vault before and after.
+-- Holds if `outcome` is the result of a session that obeyed its contract. `vault'` is `vault` after the session.
 pub record HasRunSession (request : Request) (image : List ℕ) (old new : BusState) (vault vault' : VaultState)
     (outcome : Result Answer Refusal) : Type 0 where
   pub result : Result Report Refusal
@@ -33,7 +33,8 @@ pub record HasRunSession (request : Request) (image : List ℕ) (old new : BusSt
   pub modelled : IsModelled old → SessionModelled request image old new vault vault' result
   pub returned : AnswersCall ReportsDone result outcome
 
--- Holds if the call made an announcement for which `Was` holds, or sent no modifying command.
+-- Holds if an announcement for which `Was` holds was made, or no modifying command was sent. After a success, `Was`
+-- must hold for the numbers in the report.
 pub record HasAnnounced (Was : Announcement → Type 0) (old new : BusState)
     (outcome : Result Answer Refusal) : Type 0 where
   pub result : Result Report Refusal

@@ -10,7 +10,7 @@ pub type Outcome = Result<Answer, Refusal>;
 /// The answer of a job that succeeded.
 #[derive(Drop)]
 pub enum Answer {
-    /// The table of chips, which `-L` lists.
+    /// The chips that `-L` of flashnor lists.
     Chips,
     Found(Found),
     /// The size of the chip in bytes.

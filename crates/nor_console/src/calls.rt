@@ -37,8 +37,8 @@ pub fn list_ranges<B: Bus>(bus: &mut B, named: Option<ChipName>) -> Outcome
 }
 
 /// Reads the chip into `file`, which `create_output` creates or truncates before the first transaction. Addresses that
-/// aren't included get FFh. The outer error is a fault of `create_output`. After an inner error, an error of
-/// `read_out`, the file may hold a prefix of the copy. If `included` is `None`, every address is included.
+/// aren't included get FFh. If `included` is `None`, every address is included. The outer error is a fault of
+/// `create_output`. The inner error is an error of `read_out`, and the file may then hold a prefix of the copy.
 pub fn read_to_file<'a, R: Store, B: Bus>(
     rt: &mut R,
     bus: &mut B,
@@ -143,8 +143,8 @@ fn run_session<B: Bus, V: Vault, F: FnOnce(Announcement) + Drop>(
 }
 
 /// Saves the whole chip in a journal in `file`, which `create_journal` creates before the first transaction. The outer
-/// error is a fault of `create_journal`. After an inner error, an error of `backup`, the file may hold a prefix of
-/// the journal.
+/// error is a fault of `create_journal`. The inner error is an error of `backup`, and the file may then hold a prefix
+/// of the journal.
 pub fn backup_in_file<'a, R: Store, B: Bus>(
     rt: &mut R,
     bus: &mut B,

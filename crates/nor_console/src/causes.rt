@@ -79,7 +79,7 @@ impl SystemReason {
 pub enum Cause {
     Unknown,
     System(SystemReason),
-    /// The file exists, but can't be opened for writing, or can't be locked.
+    /// A file or link of this name exists, but can't be opened for writing, is no regular file, or can't be locked.
     Unwritable,
     /// A read of the file might never end, because the file is, for example, a FIFO or a terminal.
     Endless,
@@ -87,7 +87,7 @@ pub enum Cause {
     Length { wanted: u32, found: usize },
     /// The file has more than this number of bytes, which is the length that it must have.
     TooLong(u32),
-    /// The file of a new journal exists already.
+    /// The file of a new journal, or of its checksums, exists already.
     Exists,
     /// The file is a journal, and would have been truncated.
     Journal,

@@ -118,7 +118,7 @@ pub fn create_log<'a, R: Store>(rt: &mut R, name: &'a str) -> Result<BufWriter<R
     BufWriter::new(rt.alloc(), file).map_err(|_| Fault::Refused(Refusal::Memory))
 }
 
-/// Returns the fault of a file that can't be created or truncated: error 18 if memory ran out, file fault 5 if another
+/// Returns the fault of a file that can't be created or truncated: error 18 for `Memory`, file fault 5 if another
 /// process has locked the file, file fault 4 with the cause `there` if the file exists but must be new, or is a journal
 /// (which `Disk` never truncates), and otherwise file fault 2.
 pub fn making(fault: CreateFault, name: &str, there: Cause) -> Fault<'_>
@@ -169,8 +169,8 @@ pub fn lost_output() -> Fault<'static>
     write_fault("standard output")
 }
 
-/// Locks the file `journal` against changes by other runs, if the file system has locks, and returns up to
-/// `MOST_JOURNAL_BYTES` bytes of this file, even if they are no journal.
+/// Locks the file `journal` against changes by other runs, if it is a regular file and its file system has locks.
+/// Returns up to `MOST_JOURNAL_BYTES` bytes of this file, even if these bytes are no journal.
 ///
 /// Returns file fault 1 if the file is missing or can't be read, file fault 2 if it can't be locked, file fault 5 if
 /// another process has locked it to change it, or error 18 if memory runs out.

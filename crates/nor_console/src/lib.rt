@@ -1,9 +1,9 @@
-//! Prints the results and faults of jobs, handles the jobs' files, and makes their calls to the engine. flashnor and
-//! flashnor-serprog print alike because both use this crate.
+//! Prints the results and faults of jobs, handles the jobs' files, and makes calls to the engine. flashnor and
+//! flashnor-serprog both use this crate.
 //!
-//! `answers.rt` has the results of jobs and `messages.rt` the faults, `calls.rt` the calls to the engine, and
-//! `files.rt` the files. `specs/AnswerLines.antt`, `specs/FaultLines.antt`, `specs/ReasonLines.antt` and
-//! `specs/Causes.antt` define the printed lines.
+//! `answers.rt` defines the results of jobs, `messages.rt` the faults, `calls.rt` the calls to the engine, and
+//! `files.rt` the calls that handle files. `specs/AnswerLines.antt`, `specs/FaultLines.antt`,
+//! `specs/ReasonLines.antt` and `specs/Causes.antt` define the printed lines.
 #![tactic(auto)]
 
 mod answers;

@@ -16,16 +16,17 @@ use std::{fmt, io};
 /// A failure of a file. Its number is part of the message.
 #[derive(Clone, Copy)]
 pub enum FileFault {
-    /// The file is missing, can't be looked up or read, is a layout of more than 16 MiB, or is a file of the emulated
-    /// chip whose read might never end.
+    /// The file is missing, can't be looked up or read, is a layout of more than 16 MiB, is a file of the emulated chip
+    /// whose read might never end, or is the output of a read but lacks bytes of a region that was read into it.
     Read = 1,
-    /// The file can't be created, locked, written or (after it was read) truncated; the file or its directory can't be
-    /// synced; a file of the chip or a sealed journal was removed or replaced, or its length changed; or standard
-    /// output can't be written.
+    /// The file can't be created, locked, written, truncated, or read before it is truncated; the file or its directory
+    /// can't be synced; a file of the chip or a sealed journal was removed or replaced, or its length changed; or
+    /// standard output can't be written.
     Write,
-    /// The chip's image or a region's file has a wrong length, or the status file doesn't have two bytes.
+    /// A file of the emulated chip or of a region has a wrong length, or an image ends before the end of a region.
     Length,
-    /// The file of a new journal already exists, or a file that would be truncated is a journal.
+    /// The file of a new journal, or of its checksums, already exists; a file that would be truncated is a journal; or
+    /// the file for the log can't be read, or isn't empty and isn't a log.
     Exists,
     /// The run uses the file for another purpose, another process has locked it, or the program prints to it.
     Taken,
@@ -53,7 +54,8 @@ pub enum Fault<'a> {
     /// The arguments are not UTF-8. This is printed as usage fault 1, as if the parser had rejected them.
     NoText,
     Layout(LayoutFault),
-    /// An FMAP or a flash descriptor that is missing or can't be used. The fault's text is only the numbered line.
+    /// An FMAP or a flash descriptor is missing or can't be used, or memory ran out while it was parsed. The fault's
+    /// text is only the numbered line.
     Map(MapFault),
     /// Layout fault 8: `name` is the first given name that no region has.
     NoRegion {
@@ -64,7 +66,7 @@ pub enum Fault<'a> {
         name: &'a str,
         cause: Cause,
     },
-    /// The file is shorter than a journal and doesn't begin as one. This is reported as error 15, journal fault 1.
+    /// The file has fewer than 8 bytes, and no journal begins with them. This is reported as error 15, journal fault 1.
     NoJournal,
     /// An error of the engine, returned by a call or detected by the program itself.
     Refused(Refusal),
@@ -177,7 +179,8 @@ impl fmt::Display for FaultCause<'_> {
     }
 }
 
-/// The line with the number of a fault, after the argument parser's text for usage fault 1, without its line feed.
+/// The line with the number of a fault, without a line feed at its end; for usage fault 1, the argument parser's text
+/// and this line.
 #[derive(Drop)]
 pub struct NumberedLine<'a>(pub &'a Fault<'a>);
 

@@ -1,4 +1,4 @@
-//! Prints the lines of a run's answer, the help, or the fault that ended the run.
+//! Prints the lines of a run's answer, the help, the version, or the fault that ended the run.
 ghost use Rattle.std.specs.Prelude.{◌≡◌, IsTrue, IsSome, IsNone, OnOk, IfSome, Err, flat_map};
 ghost use Rattle.std.specs.Fmt.{with_newline};
 ghost use Rattle.std.specs.Io.KnownBytes.{Appends};

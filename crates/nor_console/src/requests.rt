@@ -1,4 +1,4 @@
-//! The request that a change makes to a session, and the addresses of its regions.
+//! The request that a change makes to a session, and the addresses of the regions to which a job is limited.
 ghost use Rattle.std.specs.Prelude.{◌≡◌, ◌≤◌, ℕ, IfOk, IfErr, None, OnOk, Some, length, option_map, true};
 ghost use Rattle.nor_layout.specs.Included.{are_known, is_included};
 ghost use Rattle.nor_layout.specs.Ranges.{contains};
@@ -93,7 +93,7 @@ fn shown_layout<'b>(shown: Option<&'b [u8]>) -> Result<&'b [u8], Fault<'static>>
     }
 }
 
-// A size above that of any chip: the flash descriptor or FMAP of a board with two chips has the regions of both.
+// A size in bytes above that of any chip: the flash descriptor or FMAP of a board with two chips has regions of both.
 const ANY_SIZE: u32 = u32::MAX;
 
 #[tactic(auto, using(crate::proofs::Included::is_unparsed))]

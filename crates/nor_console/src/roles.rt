@@ -1,4 +1,4 @@
-//! The files that a task names, and the checks that two names refer to two files and that nothing is printed to a file.
+//! The files that a task names. Checks whether two names refer to one file, and whether the program prints to a file.
 ghost use Rattle.std.specs.Prelude.{◌≡◌, IfErr, IfOk, OnOk, IsSomeAnd, true};
 ghost use Rattle.nor_files.specs.Files.Failure.{Printed};
 ghost use Rattle.nor_console.specs.Roles.{FailsApart, FailsUnprinted, IsUnseenFile, IsUnseenStream};
@@ -31,7 +31,7 @@ pub enum Role {
 
 #[derive(Clone, Copy)]
 pub struct FileNames<'a> {
-    /// The file of the layout that names the regions; `None` also if the layout is read from the chip.
+    /// The layout's file, or `None` if the task has no layout, or reads the layout from the chip.
     pub layout: Option<&'a str>,
     pub wanted: Option<&'a str>,
     pub output: Option<&'a str>,
@@ -140,8 +140,8 @@ fn unseen_cause<R: Store>(rt: &R, name: &str) -> Cause {
     }
 }
 
-/// If `name` names a regular file, checks that the program doesn't print to it. Returns file fault 5 if the
-/// program prints to this file, or file fault 1 if the name can't be looked up.
+/// If `name` names a regular file, checks that the program doesn't print to this file. Returns file fault 5 if the
+/// program prints to this file, or file fault 1 as `is_printed` does.
 pub fn unprinted<'a, R: Store>(rt: &R, name: Option<&'a str>) -> Result<(), Fault<'a>>
     ensures { IfErr result (FailsUnprinted (R.state rt.now).view.nature name.entry) }
 {
@@ -154,8 +154,8 @@ pub fn unprinted<'a, R: Store>(rt: &R, name: Option<&'a str>) -> Result<(), Faul
     Ok(())
 }
 
-/// Returns whether a name is given and is that of a regular file to which `stream` prints, or file fault 1 if the name
-/// can't be looked up.
+/// Returns whether a name is given and is that of a regular file to which `stream` prints. Returns file fault 1 if
+/// `stream` is a regular file and the name can't be looked up.
 pub fn is_printed<'a, R: Store>(
     rt: &R,
     stream: Stream,

@@ -8,7 +8,7 @@ use std::{fs, io};
 /// A directory that always exists, and to which nothing can be written.
 pub const DIRECTORY: &str = "/";
 
-// Enough for the line of a file fault with a path of 4,096 bytes, each escaped as four characters.
+// Enough bytes for the line of a file fault with a path of 4,096 bytes, each escaped as four characters.
 const LINE_BYTES: usize = 32_768;
 
 /// Files that keep the descriptors 0, 1 and 2 in use as long as they are open.
@@ -30,8 +30,8 @@ pub fn keep_streams<R: Files>(files: &R) -> io::Result<Streams<R::File>> {
     })
 }
 
-/// Returns a writer that sends each line of up to `LINE_BYTES` bytes in one write, so that no line is mixed with lines
-/// of other programs. If memory runs out, a line may take several writes.
+/// Returns a writer that passes each line of up to `LINE_BYTES` bytes to one write, so that lines of other programs
+/// don't split it if the system accepts the write whole. If memory runs out, a line may take several writes.
 pub fn line_buffered<W: Write + Copy + Drop>(alloc: Global, stream: W) -> LineWriter<W> {
     match LineWriter::with_capacity(alloc, LINE_BYTES, stream) {
         Ok(writer) => writer,

@@ -20,7 +20,7 @@ use Rattle.nor_console.specs.declared.messages.Fault.{Fault}
 use Rattle.nor_console.specs.declared.messages.Fault.TheVariants as end
 use Rattle.nor_jobs.specs.Finding.{FailsToName, IsNamedFirst}
 
--- Holds if `bytes` are no journal, and the fault is error 15 with their journal fault. `NoJournal` is journal fault 1.
+-- Holds if `bytes` are no journal, and the fault is error 15 with their journal fault (1 for the fault `NoJournal`).
 abbrev pub IsNoJournal : (bytes : List ℕ) → Fault → Type 0
 IsNoJournal bytes end.NoJournal = HasFault bytes Short
 IsNoJournal bytes (end.Refused (BadJournal why)) = HasFault bytes why
@@ -34,7 +34,7 @@ abbrev pub RestoresBy : (quick : Bool) → Journal → (old new : BusState) → 
 RestoresBy true journal old new result = RestoresOriginal journal old new result
 RestoresBy false journal old new result = RewritesOriginal journal old new result
 
--- Holds if a restore obeyed the contract of `restore` (if `quick`) or of `rewrite`.
+-- Holds if `outcome` is the result of a call that obeyed the contract of `restore` (if `quick`) or else of `rewrite`.
 pub record HasRunRestore (quick : Bool) (journal : Journal) (old new : BusState)
     (outcome : Result Answer Refusal) : Type 0 where
   pub result : Result Report Refusal

@@ -8,7 +8,7 @@ use nor_model::Bus;
 use nor_probe::{ChipName, Found, probe};
 use nor_session::Refusal;
 
-/// Returns the identified chip as an answer, with the errors of `identify_chip`.
+/// Returns the identified chip as an answer, or an error of `identify_chip`.
 pub fn answer_probe<B: Bus>(bus: &mut B, named: Option<ChipName>) -> Outcome
     ensures { HasLookedUp ReportsFound named (B.state bus.old) (B.state bus.new) result }
 {
@@ -16,7 +16,7 @@ pub fn answer_probe<B: Bus>(bus: &mut B, named: Option<ChipName>) -> Outcome
     Ok(Answer::Found(found))
 }
 
-/// Returns the chip's size in bytes, with the errors of `identify_chip`.
+/// Returns the chip's size in bytes, or an error of `identify_chip`.
 pub fn report_size<B: Bus>(bus: &mut B, named: Option<ChipName>) -> Outcome
     ensures { HasLookedUp ReportsSize named (B.state bus.old) (B.state bus.new) result }
 {
@@ -24,8 +24,8 @@ pub fn report_size<B: Bus>(bus: &mut B, named: Option<ChipName>) -> Outcome
     Ok(Answer::Size(found.size))
 }
 
-/// Identifies the chip. Returns error 1 if there is no chip, error 2 if it is unknown, error 3 if its name isn't
-/// `named`, error 12 if the bus stopped, and error 13 if the chip stayed busy (never on a well-behaved bus).
+/// Identifies the chip. Returns error 1 if there is no chip, error 2 if it is unknown, error 3 if `named` is given and
+/// isn't its name, error 12 if the bus stopped, or error 13 if the chip stayed busy (never on a well-behaved bus).
 pub fn identify_chip<B: Bus>(bus: &mut B, named: Option<ChipName>) -> Result<Found, Refusal>
     ensures { HasIdentified named (B.state bus.old) (B.state bus.new) result }
 {

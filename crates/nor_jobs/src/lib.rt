@@ -1,5 +1,5 @@
-//! Code that `flashnor` and `flashnor-serprog` share, over any bus: it reads the files of a job, and makes the calls
-//! that identify or restore a chip. `nor_console` has the other calls and files.
+//! Parts of the jobs of `flashnor` and `flashnor-serprog`, over any bus: reads the files of a job, and makes the calls
+//! that identify or restore a chip. `nor_console` makes other calls, and creates files.
 #![tactic(auto)]
 
 mod arguments;

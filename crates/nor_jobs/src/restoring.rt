@@ -11,7 +11,7 @@ use nor_probe::ChipName;
 use nor_session::{Announcement, Refusal, restore_announced, rewrite_announced};
 
 /// Returns the journal that `bytes` encode, or error 15 with the first fault of `bytes`. The error is `NoJournal` if
-/// `bytes` are shorter than a journal and don't begin as one.
+/// there are fewer than 8 bytes and no journal begins with them.
 pub fn journal_in<'a, 'b>(bytes: &'b [u8]) -> Result<Journal<'b>, Fault<'a>>
     ensures ok { IfOk result (λ journal. IsContent journal × (bytes.now ≡ text journal)) }
     ensures err { IfErr result (IsNoJournal bytes.now) }
@@ -31,8 +31,8 @@ fn begins_as_journal(bytes: &[u8]) -> bool {
     MAGIC.starts_with(start) || FIRST_MAGIC.starts_with(start)
 }
 
-/// Restores the chip from a journal: with `quick`, only the saved sectors that differ (`restore`), otherwise every
-/// saved sector without reading it first (`rewrite`). If `named` is given, checks the name first. Returns an error of
+/// Restores the chip from a journal: with `quick`, rewrites only the saved sectors that differ (`restore`), otherwise
+/// erases and rewrites every saved sector (`rewrite`). If `named` is given, checks the name first. Returns an error of
 /// this check (1, 2, 3, 12 or 13) or of the restore. `announce` must accept every announcement.
 pub fn restore_named<B: Bus, F: FnOnce(Announcement) + Drop>(
     bus: &mut B,

@@ -19,8 +19,8 @@ pub struct Sources {
     pub bytes: Vec<u8>,
 }
 
-/// Reads the layout and the image or journal that a task needs. A journal is locked against changes by other
-/// runs, but its format isn't checked. Returns the faults of `read_included`, `read_file` and `read_journal`.
+/// Reads the layout and the image or journal that a task needs. Locks a journal as `read_journal` does, and doesn't
+/// check its format. Returns the faults of `read_included`, `read_file` and `read_journal`.
 pub fn read_sources<'a, R: Store>(rt: &mut R, task: &Task<'a>) -> Result<Sources, Fault<'a>>
     ensures same { AreUntouched (R.state rt.old) (R.state rt.new) }
     ensures ok { IfOk result (λ sources.

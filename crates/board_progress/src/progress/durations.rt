@@ -1,4 +1,4 @@
-//! The last lines of a change: the final numbers of its steps, and the time that the change took.
+//! The last lines of a change: the final numbers of its erases, programs and reads, and the time that the change took.
 
 use super::ProgressBus;
 use crate::estimates::Minutes;
@@ -27,7 +27,7 @@ impl<B> ProgressBus<'_, B> {
             .print_time(&Took(Minutes(micros_between(self.changed, now))));
     }
 
-    // Prints the line with the final number of a step, unless `show` has printed a line with this number.
+    // Shows the final number of a step's transactions, unless it is 0, or `show` has shown a line with this number.
     fn show_last(&self, step: Step, count: u64) {
         if count > 0 && count % step.stride() != 1 {
             self.show_step(step, count);

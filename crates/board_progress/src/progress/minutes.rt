@@ -1,4 +1,4 @@
-//! Prints a progress line at most once per minute.
+//! Prints a line at most once per minute, in the progress style `Minutes`.
 ghost use Rattle.std.specs.Prelude.{◌≡◌};
 
 use super::ProgressBus;

@@ -7,14 +7,14 @@ use crate::notes::Notes;
 impl<B> ProgressBus<'_, B> {
     ghost use Rattle.board_progress.specs.ProgressBus.{notes_of, shown_bus};
 
-    /// Begins to record checksums of the sectors that are read from now on.
+    /// Begins to record each transaction in `notes` (`Notes::note`).
     pub fn begin_notes(&mut self, notes: Notes)
         ensures { shown_bus self.new ≡ shown_bus self.old }
     {
         self.notes = Some(notes);
     }
 
-    /// Ends the recording of checksums, and returns the recorded ones, or `None` if it hadn't begun.
+    /// Ends the recording, and returns the recorded checksums, or `None` if checksums weren't being recorded.
     pub fn end_notes(&mut self) -> Option<Notes>
         ensures { shown_bus self.new ≡ shown_bus self.old }
     {

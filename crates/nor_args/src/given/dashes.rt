@@ -1,4 +1,5 @@
-//! Files with the name `-`, which a program for hardware refuses; many programs read standard input for this name.
+//! Finds the first option that names a file `-`. A program for hardware refuses this name, because many other programs
+//! read standard input for it.
 ghost use Rattle.std.specs.Prelude.{◌≡◌, option_map};
 ghost use Rattle.nor_args.specs.Faults.{dashed, file_choices, first_given, has_dash, is_dash, lists_dash};
 ghost use Rattle.nor_args.specs.Faults.{passes_test};

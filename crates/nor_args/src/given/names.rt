@@ -20,7 +20,7 @@ pub fn joined_names(alloc: Global, matches: &ArgMatches<'_>) -> Result<Option<St
     }
 }
 
-/// Returns the row that `-c` names in upper or lower case (`row_named`), or `None` without `-c`.
+/// Returns the result of `row_named` for the value of `-c` in upper case, or `None` without `-c`.
 pub fn chip_named(alloc: Global, matches: &ArgMatches<'_>) -> Result<Option<ChipName>, AllocError>
     ensures { IfOk result (λ named. named
         ≡ option_map name_in_any_case (text_in (rows_of (found_of matches.now)) (codes "chip"))) }

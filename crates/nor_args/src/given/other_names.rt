@@ -15,8 +15,8 @@ const ROWS: [ChipName; 8] = [
     ChipName::W25Q128JVM,
 ];
 
-/// Returns the row for the name `text`, which must be in upper case: the row with this name, or the row with the ID of
-/// the chip that has this name. Returns `Sfdp` for `SFDP`, and `Other` for any other text.
+/// Returns the row of the table of chips for `text`, a name in upper case: the row with this name, or the row that has
+/// this name as another name (`is_name_of`). Returns `Sfdp` for `SFDP`, and `Other` for any other text.
 pub(super) fn row_named(text: &str) -> ChipName
     ensures { result ≡ row_named text.now }
 {

@@ -1,4 +1,4 @@
-//! The options of programs for hardware (such as flashnor-serprog) that flashnor doesn't have.
+//! The options, except `-R`, of programs for hardware (such as flashnor-serprog) that flashnor doesn't have.
 ghost use Rattle.std.specs.Prelude.{◌≡◌, IfOk, map};
 ghost use Rattle.nor_args.specs.Options.{IsOption, by_name, chosen, hardware_form, long_form, own_rules};
 ghost use Rattle.nor_args.specs.Options.{repeated_names};
