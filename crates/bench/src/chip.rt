@@ -35,8 +35,8 @@ const PROGRAMS: Measurement = Measurement {
     rounds: 301,
 };
 
-/// Prints the times of the simulated chip's reads, erases and programs, each as a ratio to that of copying 16 MiB
-/// sector by sector, out of memory for reads and into it otherwise. Returns a checksum of all results.
+/// Prints the times of the simulated chip's reads, erases and programs, each divided by the time of copying 16 MiB
+/// sector by sector: from a buffer of 16 MiB for the reads, otherwise into one. Returns a checksum of all results.
 pub fn measure<R: Clock + Print + AllocGlobal>(rt: &R) -> Result<u64, Fault> {
     let mut bus = open_bus(rt.alloc())?;
     let mut memory = erased_bytes(rt.alloc())?;

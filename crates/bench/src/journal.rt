@@ -27,8 +27,8 @@ const READING: Measurement = Measurement {
     rounds: 15,
 };
 
-/// Prints the times of writing and of reading the journal, each as a ratio to that of its SHA-256. Returns a checksum
-/// of all results.
+/// Prints the times of writing and of reading the journal, each divided by the time of its SHA-256. Returns a
+/// checksum of all results.
 pub fn measure<R: Clock + Print + AllocGlobal>(rt: &R) -> Result<u64, Fault> {
     let alloc = rt.alloc();
     let mut vault = MemVault::new(alloc);

@@ -23,8 +23,8 @@ const BOUNDS: Measurement = Measurement {
     rounds: 10001,
 };
 
-/// Prints the times of `differs` and `bounds` (the first and last difference), each as a ratio to that of copying the
-/// same number of sectors. Returns a checksum of all results.
+/// Prints the times of `differs` and `bounds` (the first and last difference), each divided by the time of copying
+/// the same number of sectors. Returns a checksum of all results.
 pub fn measure<R: Clock + Print + AllocGlobal>(rt: &R) -> Result<u64, Fault> {
     let mut copies = Copies(Sectors::new(rt.alloc())?);
     let mut work = Differs(Sectors::new(rt.alloc())?);
@@ -57,7 +57,7 @@ impl Sectors {
         Ok(Sectors { old, target, copy })
     }
 
-    // Changes the last byte to another value than in the pass before.
+    // Sets the last byte of `target` to another value than in the pass before.
     fn touch(&mut self, pass: u32) {
         self.target[4095] = self.old[4095] ^ ((pass % 255) as u8 + 1);
     }

@@ -24,8 +24,8 @@ const VERIFYING: Measurement = Measurement {
     rounds: 31,
 };
 
-/// Prints the times of reading out and of verifying, each as a ratio to that of copying 16 MiB into newly allocated
-/// memory, which reading out needs, too. Returns a checksum of all results.
+/// Prints the times of reading out and of verifying, each divided by the time of copying 16 MiB into newly
+/// allocated memory. Reading out allocates such memory too. Returns a checksum of all results.
 pub fn measure<R: Clock + Print + AllocGlobal>(rt: &R) -> Result<u64, Fault> {
     let alloc = rt.alloc();
     let image = bytes(alloc)?;

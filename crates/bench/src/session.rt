@@ -49,8 +49,8 @@ const TOUCHING: Measurement = Measurement {
     rounds: 15,
 };
 
-/// Prints the times of three sessions and a restore, each as a ratio to that of a SHA-256 of a journal or of a copy of
-/// the chip's contents. Returns a checksum of all results.
+/// Prints the times of three sessions and a restore, each divided by the time of a SHA-256 of a journal or of a copy
+/// of the chip's contents. The first session and the restore include a chip erase. Returns a checksum of all results.
 pub fn measure<R: Clock + Print + AllocGlobal>(rt: &R) -> Result<u64, Fault> {
     let alloc = rt.alloc();
     let image = scattered(alloc)?;
@@ -84,7 +84,7 @@ pub fn measure<R: Clock + Print + AllocGlobal>(rt: &R) -> Result<u64, Fault> {
     Ok(sum ^ compare(rt, TOUCHING, &mut touching, &mut copies)?)
 }
 
-// Returns pseudo-random contents: the high bytes of a linear congruential generator.
+// Returns pseudo-random contents: the highest byte of each state of a linear congruential generator.
 fn scattered(alloc: Global) -> Result<Vec<u8>, Fault> {
     let mut bytes = vec![in alloc; 0; CHIP]?;
     let mut state: u64 = 1;
@@ -116,7 +116,7 @@ fn saved(alloc: Global, bytes: &[u8]) -> Result<MemVault, Fault> {
     Ok(vault)
 }
 
-// Writes a copy of the image, because a session overwrites its image. Returns the number of transactions.
+// Writes a copy of the image, because a session may overwrite its image. Returns the number of transactions.
 fn write(alloc: Global, bus: &mut SimBus, image: &[u8]) -> Result<u64, Fault> {
     let mut copy = image.to_vec(alloc)?;
     let mut vault = MemVault::new(alloc);

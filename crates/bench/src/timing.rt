@@ -11,8 +11,8 @@ pub trait Work {
     fn run(&mut self) -> Result<u64, Fault>;
 }
 
-/// Returns `sum` plus the byte that `sum` selects, modulo 2^64. The compiler can't know which byte this is, so it can't
-/// omit the other bytes.
+/// Returns `sum` plus the byte at position `sum % 4096` of `bytes`, modulo 2^64. The compiler doesn't know the
+/// position, so it can't omit the work that makes the other bytes.
 pub fn look_at(bytes: &[u8; SECTOR_LEN as usize], sum: u64) -> u64 {
     sum.wrapping_add(u64::from(bytes[(sum % u64::from(SECTOR_LEN)) as usize]))
 }

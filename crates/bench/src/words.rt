@@ -11,7 +11,7 @@ pub enum Request {
     Journal,
     Session,
     Read,
-    /// `answers`: do the work of `chip`, `plan`, `journal` and `read` once, untimed, and print the results.
+    /// `answers`: do the work of `chip`, `plan`, `journal` and `read` once, and print results and two sample lines.
     Answers,
     /// Any other argument, or more than one: print the usage to standard error, and fail.
     Unknown,

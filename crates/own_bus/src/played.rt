@@ -64,7 +64,7 @@ impl PlayedPort {
             .map_err(|_| ErrorKind::OutOfMemory.into())
     }
 
-    // Carries out one frame as flashrom's Documentation/serprog-protocol.txt specifies.
+    // Carries out one frame as flashrom's Documentation/serprog-protocol.txt specifies, for reads of up to 4,096 bytes.
     fn carry_out(&mut self, frame: &[u8]) -> io::Result<()> {
         match frame {
             [0x00 | 0x12, ..] => self.reply(&[ACK]),

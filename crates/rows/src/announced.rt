@@ -8,8 +8,8 @@ use nor_session::{Announcement, restore_announced, session_announced};
 use std::alloc::Global;
 use std::process::Abort;
 
-// Each entry has a session, the numbers of touched sectors and of erases of this session and of a restore after it, and
-// the number of transactions that the restore sends before it announces them.
+// Each entry has a session, and the numbers of touched sectors and of erases that the session announces. Then follow
+// the numbers that a restore after it announces, and how many transactions the restore sends before it announces them.
 const ROWS: [(Row, (u32, u32), (u32, u32), u64); 8] = [
     (Row::ABitFalls, (1, 0), (1, 1), 8),
     (Row::ABitRises, (1, 1), (1, 0), 8),

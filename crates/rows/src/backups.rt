@@ -1,4 +1,4 @@
-//! Backups of whole chips, with stops and with vaults that refuse a call, and restores from a backup.
+//! Backups of whole chips, with stops and with vaults that refuse a call, and restores and rewrites from a backup.
 use crate::held::{assert_held, assert_that};
 use crate::row::{Row, Start};
 use crate::runs::{AMPLE, assert_untouched, keep};
@@ -13,7 +13,7 @@ use std::process::Abort;
 // A TINY64 whose first 9 sectors are 00h, and whose other sectors are FFh.
 const ROW: Row = Row::NineSectorsAreErased;
 
-// A backup of a TINY64: seven transactions identify the chip, and sixteen read its sectors.
+// The number of transactions of a backup of a TINY64: seven identify the chip, and sixteen read its sectors.
 const LENGTH: u64 = 23;
 
 const SECTORS: u32 = 16;

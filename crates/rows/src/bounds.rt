@@ -1,4 +1,5 @@
-//! Tests that no call sends more transactions than its bound, on faulty buses and on the slowest chip.
+//! Tests that reading calls, sessions and restores send no more transactions than their bounds on faulty buses, and
+//! that a session and its restore send no more than theirs on the slowest chip.
 ghost use Rattle.std.specs.Prelude.{◌≡◌, false};
 
 use crate::held::{assert_held, assert_that};

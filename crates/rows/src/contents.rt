@@ -1,9 +1,10 @@
-//! Contents of chips.
+//! The bytes of chips and of images, described by a few fields.
 use nor_chip::SECTOR_LEN;
 use std::alloc::Global;
 use std::process::Abort;
 
-/// The contents of a chip: FFh, overwritten from `from` on by `count` bytes `byte`, and then from `at` on by `run`.
+/// The contents of a chip or image: FFh, except for `count` bytes `byte` from address `from` on. The bytes `run` from
+/// address `at` on then overwrite what is there.
 #[derive(Clone, Copy)]
 pub struct Bytes {
     pub from: usize,

@@ -1,9 +1,9 @@
-//! Sessions that are stopped at successive transactions, and one restore after each stop that follows the seal.
+//! Sessions that are stopped at successive transactions, and one restore after each session that sealed its vault.
 use crate::held::assert_that;
 use crate::row::{Row, Start};
 use crate::runs::Runs;
 
-// Each row has the first allowance, and the number of runs up to the allowance with which the session succeeds.
+// Each row has a session, its first allowance, and the number of runs up to the allowance with which it succeeds.
 const ROWS: [(Row, u64, u64); 6] = [
     (Row::ABitFalls, 0, 29),
     (Row::NineSectorsAreErased, 0, 39),

@@ -1,4 +1,4 @@
-//! A bus on which one transaction fails, or on which the polls of one wait show BUSY.
+//! A bus that stops at one transaction or spoils its reply, or on which the polls of one wait show BUSY.
 ghost use Rattle.std.specs.Prelude.{false};
 ghost use Rattle.std.proofs.lemmas.Bool.{false≢true};
 ghost use Rattle.nor_model.specs.PolledReady.{polled_ready_in};
@@ -12,7 +12,7 @@ pub enum Fault {
     Stop,
     /// The bus inverts each bit of the transaction's reply.
     Spoil,
-    /// The transaction, if it is a poll, and the polls among the 65,535 transactions after it show BUSY.
+    /// If the transaction is a poll, this poll and the polls among the 65,535 transactions after it show BUSY.
     Busy,
 }
 
@@ -26,13 +26,14 @@ pub struct OnceBus {
     allowed: u64,
     /// The number of requested transactions, including those that failed.
     pub asked: u64,
-    /// The first four bytes that transaction `after` sent (only the first byte if it sent fewer), or zeros before it.
+    /// The first four bytes that transaction `after` sent (only the first byte if it sent fewer). Zeros until then.
     pub met: [u8; 4],
     history: History,
 }
 
 impl OnceBus {
-    /// Returns a bus with the allowance `allowed`, on which the transaction after the first `after` fails with `fault`.
+    /// Returns a bus with the allowance `allowed`. If `after` is given, `fault` occurs at the transaction after the
+    /// first `after` transactions, otherwise never.
     pub fn new(mut bus: SimBus, allowed: u64, fault: Fault, after: Option<u64>) -> OnceBus {
         bus.allow(allowed);
         OnceBus {

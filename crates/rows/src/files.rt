@@ -154,7 +154,8 @@ fn fail_at_each(rt: &impl Abort, alloc: Global, row: Row, most: usize, counted: 
     assert_that!(rt; file.has(&right.writes, right.syncs, &right.bytes));
 }
 
-// Each row has the greatest number of bytes that a write accepts, and the numbers of writes and bytes of the journal.
+// Each row has a session, the greatest number of bytes that a write accepts, and the numbers of writes and bytes of the
+// session's journal.
 const ROWS: [(Row, usize, (usize, usize)); 3] = [
     (Row::ABitRises, 5000, (1 + 1 + 2, 61 + 4100)),
     (Row::ABitRises, 1000, (1 + 5 + 2, 61 + 4100)),

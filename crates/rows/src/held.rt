@@ -1,7 +1,7 @@
 //! Assertions that are proved faster than `assert!`, whose expansion would be proved in each test.
 use std::process::Abort;
 
-/// Ends the test if `holds` is false. The message contains `number`, which identifies the run.
+/// Ends the test if `holds` is false. The message contains `number`.
 pub fn assert_held(rt: &impl Abort, holds: bool, number: u64) {
     assert!(rt; holds, "it doesn't hold at {number}");
 }

@@ -55,7 +55,7 @@ fn stop_second(rt: &impl Abort, alloc: Global, runs: &Runs, other: Row, n: u64) 
 // first session stopped after 25 to 27, byte 0 is FFh, and a second read of the sector replaces the erase.
 const LENGTHS: [u64; 8] = [33, 33, 31, 31, 31, 33, 33, 33];
 
-// The numbers of transactions if each stop still sends the whole next transaction, so that only its reply is lost.
+// The numbers for the second session if each stop still sends the whole next transaction, and only its reply is lost.
 const LENGTHS_AFTER_A_LOST_REPLY: [u64; 8] = [33, 31, 31, 31, 33, 33, 33, 33];
 
 #[test]

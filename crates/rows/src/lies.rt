@@ -20,12 +20,12 @@ fn assert_lied(rt: &impl Abort, alloc: Global, row: Row, lied: Lied, told: (Refu
     lied.assert_undone(rt, alloc, row);
 }
 
-// Each row has the session, the fault, and the expected error and number of transactions. A fault names a transaction,
-// counted from 1: 1 to 7 identify a TINY64 and 8 to 23 scan it; 1 to 4 identify a W25Q64FV and 5 to 2,052 scan it.
+// Each row has the session, the fault, and the expected error and number of transactions. `BusyFrom` and `Drop` name
+// a transaction, counted from 1. On a TINY64, transactions 1 to 7 identify the chip, and 8 to 23 scan it.
 // - `ABitRises`: 24 to 26 erase (write enable, command, poll), 27 to 29 program, and 30 verifies.
 // - `AByteIsProgrammed`: 24 reads the sector, 25 to 27 program, and 28 verifies.
 // - `NineSectorsAreErased`: 25 erases sectors 0 to 7, 28 erases sector 8, and 30 to 38 verify.
-// - `AGuardedByteIsProgrammed`: 2,053 to 2,055 lift the protection.
+// - `AGuardedByteIsProgrammed` (W25Q64FV): 1 to 4 identify, 5 to 2,052 scan, and 2,053 to 2,055 lift the protection.
 const SESSIONS: [(Row, Spoil, (Refusal, u64)); 10] = [
     (Row::ABitRises, Spoil::Fill(0xFF), (TIMEOUT, 65_536)),
     (Row::ABitRises, Spoil::Fill(0x00), (Refusal::NoChip, 2)),
@@ -106,7 +106,7 @@ fn a_restore_that_programs(rt: HostRuntime) {
     }
 }
 
-// Transactions 8 to 23 scan the chip. Only sector 0 is saved. If the bus drops its read, the saved first byte is FFh.
+// Transactions 8 to 23 scan the chip. Only sector 0 is saved. If the bus drops transaction 8, byte 0 is saved as FFh.
 #[test]
 fn a_lie_before_the_seal_leaves_a_journal(rt: HostRuntime) {
     for n in 8..=23 {
@@ -142,7 +142,7 @@ fn lie_past_the_seal(rt: &impl Abort, alloc: Global, row: Row) -> u64 {
     runs
 }
 
-// Each row has its number of runs. With a fault after the seal, only saved sectors and the protection bits can change.
+// Each row has a session and the number of its runs: two for each transaction after the seal.
 const PAST_THE_SEAL: [(Row, u64); 6] = [
     (Row::AByteIsProgrammed, 2 * 5),
     (Row::ABitRises, 2 * 7),
@@ -171,7 +171,8 @@ fn lie_to_restores(rt: &impl Abort, alloc: Global, row: Row, stop: u64, length: 
     }
 }
 
-// Each row has the number of transactions after which the session is stopped, and that of the restore after it.
+// Each row has a session, the number of transactions after which it is stopped, and the number of transactions of the
+// restore after this stop.
 const BEHIND: [(Row, u64, u64); 5] = [
     (Row::ABitRises, 25, 13),
     (Row::AByteIsProgrammed, 26, 12),

@@ -42,15 +42,15 @@ fn is_of_case(read: Result<Layout, MapFault>, case: &Case) -> bool {
     }
 }
 
-// The signature 0FF0A55Ah, FLMAP0 with the region table at 40h, and FLMAP1 with the masters' section at 60h (chipsets
-// up to the 9 series) or 80h (from the 100 series on).
+// Each of these has the signature 0FF0A55Ah, FLMAP0 with the region table at 40h, and FLMAP1 with the masters' section
+// at 60h (chipsets up to the 9 series) or 80h (from the 100 series on).
 const NR_2: &[u8] = &[0x5A, 0xA5, 0xF0, 0x0F, 3, 0, 4, 2, 6, 2, 0x10, 0x12];
 
 const NR_6: &[u8] = &[0x5A, 0xA5, 0xF0, 0x0F, 3, 0, 4, 6, 6, 2, 0x10, 0x15];
 
 const SERIES_100: &[u8] = &[0x5A, 0xA5, 0xF0, 0x0F, 3, 0, 4, 0, 8, 2, 0x10, 0x45];
 
-// Five entries: base and limit of two bytes each, little-endian, in units of 4 KiB.
+// Five entries of a region table: base and limit of two bytes each, little-endian, in units of 4 KiB.
 const FIVE: &[u8] = &[
     0, 0, 0, 0, 0, 5, 0xFF, 7, 3, 0, 0xFF, 4, 1, 0, 2, 0, 0xFF, 0x1F, 0, 0,
 ];
@@ -207,7 +207,7 @@ const NAMED_TWICE: Option<MapFault> = Some(MapFault::Region {
     fault: RegionFault::Twice,
 });
 
-// Each case has pieces that overwrite bytes of `AT_200`.
+// The pieces of each case, if any, overwrite bytes of the image that `AT_200` describes.
 const FMAPS: &[Case] = &[
     (&[], 0x1000, ALL, None),
     (&[], 0xFFF, &[], Some(MapFault::Outside { record: 3 })),

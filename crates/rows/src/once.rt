@@ -1,5 +1,5 @@
 //! Tests that a call sends nothing more after a stop or a timeout, and that no call reads a sector again because a
-//! reply was spoilt. Only a rehearsal may send more after a stop, if its caller planned this stop.
+//! reply was spoilt. Only a rehearsal to which stops are given may send more after a stop.
 use crate::failing::{Fault, OnceBus};
 use crate::held::assert_held;
 use crate::row::{Row, Start, erased};
@@ -174,7 +174,8 @@ fn a_spoilt_reply_is_taken_as_it_is(rt: HostRuntime) {
     }
 }
 
-// Returns the number of transactions of a restore after the first `sent` of a rehearsal, or `None` before the seal.
+// Returns the number of transactions of a restore after the first `sent` transactions of a rehearsal of `ABitRises`, or
+// `None` if these don't seal the vault.
 fn restore_after(sent: u64) -> Option<u64> {
     match sent {
         0..=22 => None,
@@ -185,7 +186,7 @@ fn restore_after(sent: u64) -> Option<u64> {
 
 type Rehearsed = (Result<Rehearsal, Refusal>, u64);
 
-// Returns what `rehearse_after` must return: the result and the number of transactions.
+// Returns what `rehearse_after` must return: the result and the number of requested transactions.
 fn rehearsed(after: u64, stops: usize) -> Rehearsed {
     let asked = after.saturating_add(1);
     let ended = after >= 30;

@@ -9,7 +9,8 @@ use nor_read::{read_out, verify};
 use nor_session::{Refusal, Report};
 use std::alloc::Global;
 
-// Each row has the number of the refused call, the bytes of it that the vault keeps, the error, and the vault's length.
+// Each row has the number of the call that the vault refuses, the number of bytes that it keeps of the refused piece,
+// the error, and the vault's length. `read_out` makes one call, so it succeeds if call 2 would be refused.
 const CASES: [(u64, usize, Option<Refusal>, usize); 4] = [
     (1, 0, Some(Refusal::Output { written: 0 }), 0),
     (1, 5000, Some(Refusal::Output { written: 5000 }), 5000),

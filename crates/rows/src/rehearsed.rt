@@ -28,7 +28,8 @@ fn rehearsed(
     (told, vault.is_sealed())
 }
 
-// Returns the number of transactions of the restore after a session of `stop` transactions, or `None` before the seal.
+// Returns the number of transactions of the restore after a session `ABitRises` with the allowance `stop`, or `None` if
+// the session stops before the seal.
 fn restore_after(stop: u64) -> Option<u64> {
     match stop {
         0..=22 => None,
@@ -59,7 +60,8 @@ fn each_pair_of_stops_is_reported(rt: HostRuntime) {
     }
 }
 
-// Returns how many transactions the second restore sends. If the first restore programs, its transaction 11 does so.
+// Returns how many transactions the second restore needs if the first one needs `needed`, but is stopped after `sent`.
+// If the first restore programs, its transaction 11 does so.
 fn restore_again(needed: u64, sent: u64) -> u64 {
     if sent < 11 { needed } else { 8 }
 }

@@ -1,4 +1,4 @@
-//! The tested sessions, which are called rows.
+//! Sessions that many tests run. They are called rows.
 use crate::contents::{Bytes, ERASED, first, run};
 use nor_chip::{Config, Delays, SimBus, TINY64_SFDP};
 use nor_layout::{Layout, Ranges};
@@ -6,7 +6,7 @@ use nor_session::{Request, What};
 use std::alloc::Global;
 use std::process::Abort;
 
-/// The state of the chip at the start of a session, and what a stop does.
+/// The state of the chip at the start of a session, its delays, and what a stop does.
 #[derive(Clone, Copy)]
 pub struct Start {
     /// The numbers of polls that show BUSY at first and after each operation.
@@ -52,7 +52,8 @@ impl Start {
         if self.latch { [one | 0x02, two] } else { kept }
     }
 
-    /// Returns the start of an idle chip that loses its power at a stop.
+    /// Returns the start of a chip that is idle at first, shows BUSY in two polls after each operation, and loses its
+    /// power at a stop.
     pub const fn losing(fill: u8) -> Start {
         Start {
             delays: Delays { now: 0, each: 2 },
@@ -70,7 +71,7 @@ impl Start {
     }
 }
 
-/// A session that is tested, on a new chip for each run.
+/// A session that is tested: its chip, the chip's contents before the session, the image and the request.
 #[derive(Clone, Copy)]
 pub enum Row {
     AByteIsProgrammed,
@@ -89,7 +90,7 @@ pub enum Row {
     AByteBelowTheGuardIsProgrammed,
     /// Programs the first byte of the protected range. The protection bits are cleared first, and set again at the end.
     AGuardedByteIsProgrammed,
-    /// Changes every byte of a TINY64 without the erase types of 32 and 64 KiB.
+    /// Changes every byte of a TINY64 that lacks the erase types of 32 and 64 KiB.
     EachPageIsProgrammed,
     /// Erases sectors 8 to 39 of a chip of 256 KiB, with three erases of 32, 64 and 32 KiB.
     ThirtyTwoSectorsAreErased,

@@ -12,7 +12,7 @@ use std::process::Abort;
 /// Enough transactions for a restore of any row with any start except `Start::SLOWEST`.
 pub const AMPLE: u64 = 10_000;
 
-/// Runs a row's session on a bus to its chip, with a fresh vault (empty and unsealed). Returns the session's result.
+/// Runs a row's session on the given bus, with a fresh vault (empty and unsealed). Returns the session's result.
 pub fn keep<B: Bus, V: Vault>(
     rt: &impl Abort,
     alloc: Global,
@@ -27,7 +27,7 @@ pub fn keep<B: Bus, V: Vault>(
     session(bus, vault, &mut image, &request)
 }
 
-/// The bus to the chip and the vault, as a session or restore left them.
+/// The bus to the chip, and the vault, as a session or restore left them.
 #[derive(Drop)]
 pub struct Cut {
     pub bus: SimBus,
@@ -139,7 +139,8 @@ impl Runs {
     }
 
     /// Runs the session with each allowance from `first` to `ends_at`. If the vault is sealed, stops its restore after
-    /// each number of transactions, and restores again. Returns the number of first restores and unsealed sessions.
+    /// each number of transactions, and restores again. Returns the number of unsealed sessions plus
+    /// that of the restores that directly follow a session.
     pub fn stop_restores_at_each(&self, rt: &impl Abort, first: u64) -> u64 {
         let mut runs: u64 = 0;
         for n in first..=self.row.ends_at(self.start) {

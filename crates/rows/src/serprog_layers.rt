@@ -1,4 +1,4 @@
-//! A bench for the ten layers of `flashnor-serprog` (`Stack`) over a simulated port, which fails at a given call.
+//! Calls over the ten layers of `flashnor-serprog` (`Stack`), over a simulated port that fails at a given call.
 ghost use Rattle.nor_journal.specs.Vault.{IsFresh};
 
 use crate::held::assert_held;
@@ -40,8 +40,9 @@ pub const MOST_CALLS: u64 = 5000;
 
 type Layers<'a> = Stack<SimPort, Timer<'a>>;
 
-/// A failure of the port after `calls` successful calls since the handshake. If the failing call sends a frame, the
-/// chip receives the first `cut` bytes of the frame's transaction.
+/// A failure of the port after `calls` calls since the handshake, or in the last of these calls if it sends two frames.
+/// If the failing call sends a frame, the chip receives at most the first `cut` bytes of the transaction at which the
+/// bus to the chip stops.
 #[derive(Clone, Copy)]
 pub struct Stop {
     pub calls: u64,
@@ -67,7 +68,7 @@ pub fn stops_at(calls: u64) -> [Stop; 3] {
     ]
 }
 
-/// The chip that a run over the layers left.
+/// The chip that a run over the layers left, and how the run ended.
 #[derive(Drop)]
 pub struct Left {
     pub chip: SimBus,
@@ -144,7 +145,7 @@ impl Bench {
         self.left(rt, &bus, answer, stop)
     }
 
-    /// Writes the journal of `vault` back to the chip. Asserts that the error, if any, is 12 (stopped).
+    /// Restores or rewrites the chip from the journal of `vault`. Asserts that the error, if any, is 12 (stopped).
     pub fn undo(
         &self,
         rt: &impl Abort,

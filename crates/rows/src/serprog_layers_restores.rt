@@ -1,5 +1,5 @@
 //! Runs over the ten layers of `flashnor-serprog` that are stopped twice: a session or a restore at each of its stops,
-//! and then the next restore at each of its stops. A restore without a stop follows.
+//! and then, if the vault is sealed, the next restore at each of its stops. A restore without a stop follows.
 use crate::held::{assert_held, assert_that};
 use crate::row::Row;
 use crate::serprog_layers::{Bench, Left, MOST_CALLS, Stop, Undo, stops_at};
@@ -12,7 +12,7 @@ use std::process::Abort;
 // The row has one included sector, which its session erases and programs.
 const ROW: Row = Row::ABitOf64BytesRises;
 
-// The least number of frames of a restore: seven transactions identify the chip, and one reads the sector.
+// A lower bound on the frames of a restore: seven transactions identify the chip, and one reads the sector.
 const FRAMES_OF_A_RESTORE: u64 = 8;
 
 #[derive(Clone, Copy)]

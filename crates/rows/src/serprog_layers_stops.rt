@@ -136,8 +136,8 @@ fn stop_at(
     played.add(rt, stop_run(rt, alloc, bench, run, all), calls)
 }
 
-/// Stops the run at each call of the port in turn, until it succeeds. Asserts that each stop leaves the chip as before,
-/// or a sealed vault that restores it.
+/// Stops the run at each call of the port in turn, until it succeeds, but at most at `MOST_CALLS` calls. Asserts that
+/// each stop leaves the chip as before, or a sealed vault that restores it.
 pub fn stop_at_each(rt: &impl Abort, alloc: Global, bench: &Bench, run: Run<'_>) -> Played {
     let mut played = Played::NONE;
     for calls in 0..MOST_CALLS {
@@ -149,7 +149,7 @@ pub fn stop_at_each(rt: &impl Abort, alloc: Global, bench: &Bench, run: Run<'_>)
     played
 }
 
-// Stops the session at each call. `unsealed` and `sealed` are the least numbers of frames before and after the seal.
+// Stops the session at each call. `unsealed` and `sealed` are lower bounds on the frames before and after the seal.
 fn stop_sessions(
     rt: &impl Abort,
     alloc: Global,
@@ -163,7 +163,7 @@ fn stop_sessions(
     played
 }
 
-// Runs the row's session, and stops its restore or rewrite at each call. It must send at least `frames` frames.
+// Runs the row's session, and stops its restore or rewrite, which must send at least `frames` frames, at each call.
 fn stop_undos(rt: &impl Abort, alloc: Global, row: Row, undo: Undo, frames: u64) -> Played {
     let bench = Bench::new(rt, alloc, row);
     let mut vault = MemVault::new(alloc);
@@ -198,7 +198,7 @@ fn each_call_of_the_port_fails_in_a_session_of_a_protected_sector(rt: HostRuntim
     assert_that!(&rt; played.unsealed != 0);
 }
 
-// Each row has a least number of frames of its restore and of its rewrite.
+// Each entry has a row and a lower bound on the frames of its restore and of its rewrite.
 const UNDONE: [(Row, u64); 3] = [
     (Row::ABitRises, 10),
     (Row::ABitOf64BytesRises, 10),

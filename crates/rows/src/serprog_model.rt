@@ -49,8 +49,8 @@ impl fmt::Display for Cause {
     }
 }
 
-/// A programmer that follows flashrom's Documentation/serprog-protocol.txt. The fields from `version` to `buffer` are
-/// replies to queries; `operations` counts complete O_SPIOP commands.
+/// A programmer that, except for its fault, follows flashrom's Documentation/serprog-protocol.txt. The fields from
+/// `version` to `buffer` are replies to queries; `operations` counts complete O_SPIOP commands.
 #[derive(Drop)]
 pub struct Model {
     pub chip: SimBus,

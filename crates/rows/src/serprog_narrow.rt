@@ -1,4 +1,4 @@
-//! `SplittingBus` over a serprog programmer whose limits are too small for a page program or for the read of a sector.
+//! `SplittingBus` over a serprog programmer with limits, mostly too small for a page program or the read of a sector.
 
 use crate::held::assert_that;
 use crate::serprog_model::{Fault, Model};

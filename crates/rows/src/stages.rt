@@ -1,4 +1,5 @@
-//! Calls on a bus on which each transaction fails in turn, or on which the polls of each wait show BUSY.
+//! Calls on a bus that stops at each transaction in turn or spoils its reply, or on which the polls of each wait show
+//! BUSY.
 ghost use Rattle.nor_journal.specs.Vault.{IsFresh};
 
 use crate::contents::{put, put_run};
@@ -19,7 +20,7 @@ use std::process::Abort;
 pub enum Job {
     /// A chip of two blocks of 64 KiB. The session erases the second block and the sector before it.
     OnTwoBlocks,
-    /// A W25Q64FV whose last 128 KiB are protected. The session lifts the protection and changes two of these sectors.
+    /// A W25Q64FV whose last 128 KiB are protected. The session lifts the protection and changes two sectors there.
     OnW25q64fv,
 }
 
@@ -150,7 +151,8 @@ impl Stage {
         vault.bytes().to_vec(self.alloc).expect(rt, "memory")
     }
 
-    // For a restore the chip has the contents that the session left. The allowance is the bound of a session.
+    // Returns a bus whose allowance is the bound of a session. The chip has the original contents, except for a
+    // restore: then it has the image's contents.
     fn bus(&self, rt: &impl Abort, call: Call, fault: Fault, after: Option<u64>) -> OnceBus {
         let bytes = if call == Call::Restore {
             &self.image
@@ -256,7 +258,7 @@ impl Stage {
 }
 
 // Returns the expected error and number of transactions of a call if the reply of transaction `n` is spoilt, or `None`
-// if `spoil_each` doesn't check it. `right` is the result without a fault; `met` is what transaction `n` sent.
+// if `spoil_each` doesn't check it. `right` has both values without a fault; `met` is how transaction `n` begins.
 fn expected_of_spoilt(
     call: Call,
     touched: u64,

@@ -1,4 +1,4 @@
-//! Malformed and very long layouts and journals.
+//! Malformed and very long layouts and journals, and short layouts with each byte in a name or an address.
 use crate::held::{assert_held, assert_that};
 use crate::row::{Row, Start};
 use crate::runs::Runs;
@@ -28,7 +28,8 @@ fn fault_of(told: Option<(usize, LineFault)>) -> Option<LayoutFault> {
     in_line(line, fault)
 }
 
-// Each row has the bytes before a million equal bytes, that byte, the bytes after them, and the fault with its line.
+// Each row has the bytes before a million equal bytes, that byte, the bytes after them, and the fault with its line, if
+// there is one.
 const LAYOUTS: &[(&[u8], u8, &[u8], Option<(usize, LineFault)>)] = &[
     (b"", b':', b"", Some((1, LineFault::Line))),
     (b"", b' ', b"", Some((1, LineFault::Line))),
@@ -98,8 +99,9 @@ fn each_name_of_two_bytes(rt: HostRuntime) {
 
 const HEAD: &[u8; 25] = b"NORUNDO2\xFE\x10\x10\0\0\0\0\0\0\0\0\0\0\0\0\x01\0";
 
-// Each row has a prefix, a byte that follows it a million times, and the expected fault. After a header, 00h makes each
-// record one of sector 0, FFh an end mark that more bytes follow, and 10h a record of a sector that the chip lacks.
+// Each row has a prefix, a byte that follows it a million times, and the expected fault. After a header, the
+// bytes 00h are records of sector 0, FFh is an end mark with more bytes after it, and 10h is a record of a sector that
+// the chip lacks.
 const JOURNALS: &[(&[u8], u8, JournalFault)] = &[
     (b"", 0x00, JournalFault::Magic),
     (b"", b'N', JournalFault::Magic),
@@ -129,7 +131,7 @@ fn journal_of_a_sector(rt: &impl Abort, alloc: Global) -> Vec<u8> {
     cut.vault.bytes().to_vec(alloc).expect(rt, "memory")
 }
 
-// Returns the fault of a journal in which the lowest bit of the byte at `place` is inverted.
+// Returns the fault of the `journal_of_a_sector` if the lowest bit of its byte at `place` is inverted.
 const fn fault_of_change(place: usize) -> JournalFault {
     match place {
         0..=7 => JournalFault::Magic,

@@ -5,10 +5,10 @@ use crate::runs::Runs;
 use std::alloc::Global;
 use std::process::Abort;
 
-// The numbers of bytes that a stop still sends, for rows whose transactions send at most six bytes.
+// The greatest numbers of bytes that a stop still sends, for calls that send at most six bytes in a transaction.
 const SHORT: [u32; 7] = [0, 1, 2, 3, 4, 5, 6];
 
-// The numbers of bytes that a stop still sends, for the row that programs whole pages with transactions of 260 bytes.
+// The greatest numbers of bytes that a stop still sends, for the row that programs pages in transactions of 260 bytes.
 const LONG: [u32; 10] = [0, 1, 2, 3, 4, 5, 6, 132, 259, 260];
 
 fn starts() -> [Start; 5] {

@@ -1,12 +1,13 @@
 //! Sessions and their restores that are stopped after each number of transactions. After a stopped restore a second one
-//! follows. A session that is stopped before its seal is one run. If a session is stopped later, or succeeds, it counts
-//! one run more than its restore has transactions.
+//! follows. The counts treat the end of a session as its last stop. A stop before the seal is one run. A later stop
+//! counts one run more than its restore has transactions.
 use crate::held::assert_that;
 use crate::row::{Row, Start};
 use crate::runs::Runs;
 
-// 23 stops precede the seal. At the next three stops the byte is as it was, and a restore has 8 transactions (9 runs).
-// At the last three the byte is programmed, so the restore erases the sector: 12 transactions (13 runs).
+// The number of runs. 23 stops precede the seal. At the next three stops the byte is as it was, and a restore has 8
+// transactions (9 runs). At the last three the byte is programmed, so the restore erases the sector: 12 transactions
+// (13 runs).
 const BYTE: u64 = 23 + 3 * 9 + 3 * 13;
 
 // On a slow chip, 26 stops precede the seal. At the next three the byte is as it was (9 runs). At the last five it is
@@ -20,7 +21,7 @@ const BIT: u64 = 23 + 2 * 9 + 6 * 14;
 // on, and at the five from the program on, two, one or no polls that show BUSY remain.
 const SLOW_BIT: u64 = 26 + 2 * 9 + 2 * (18 + 17 + 3 * 16);
 
-// 23 stops precede the seal. The next three leave the bytes as they were, and the last six leave some programmed.
+// 23 stops precede the seal. The next three leave the bytes as they were, and the last six leave two or all programmed.
 const TWO_PAGES: u64 = 23 + 3 * 9 + 6 * 13;
 
 // 8 stops precede the seal. At the next two the sector is as it was (9 runs). For each number of pages from 16 down to
@@ -59,7 +60,7 @@ fn each_stop_on_a_chip_with_its_latch_set(rt: HostRuntime) {
     }
 }
 
-// From 2,049 on, 3 stops precede the seal. The chip is unchanged at 2 stops, without protection at 4, also programmed
+// 3 stops (2,049 to 2,051) precede the seal. The chip is unchanged at 2 stops, without protection at 4, also programmed
 // at 3, and protected again at 2 and after the session. The restores send 5, 8, 12 and 15 transactions.
 #[test]
 fn each_stop_after_a_protected_byte(rt: HostRuntime) {

@@ -31,7 +31,7 @@ fn refuse(
 }
 
 // Refuses each of the vault's `calls` calls in turn. Asserts error 11 and an unsealed vault, which contains a whole
-// journal only if call `whole_from` or a later one was refused.
+// journal if and only if call `whole_from` or a later one was refused.
 fn refuse_each(rt: &impl Abort, alloc: Global, row: Row, calls: u64, kept: usize, whole_from: u64) {
     for nth in 1..=calls {
         let left = refuse(rt, alloc, row, nth, kept);

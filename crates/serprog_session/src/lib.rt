@@ -14,11 +14,11 @@
 //! let mut link = Link::new(SimPort::new(chip, u64::MAX));
 //! let programmer = Programmer::identify(&mut link, None)?;
 //! assert!(rt; link.port().is_idle());
-//! let mut bus = SerprogBus::new(link, programmer);
+//! let mut bus = SerprogBus::new(link, programmer, false);
 //!
 //! let mut image = before.clone()?;
 //! image[0] = 0x5A;
-//! let wanted = image.clone()?; // `session_over` uses the image up
+//! let wanted = image.clone()?; // `session_over` may overwrite `image`
 //! let mut vault = MemVault::new(rt.alloc());
 //! session_over(&mut bus, &mut vault, &mut image, &Request::write())?;
 //! assert_eq!(rt; bus.port().chip().bytes(), wanted.as_slice());

@@ -50,14 +50,14 @@ pub enum SimFailure {
 /// A well-behaved port to a simulated serprog programmer with a simulated chip. The port carries out at most the given
 /// number of calls, and then fails; after any failure no call succeeds.
 ///
-/// The programmer can be identified (`Programmer::identify`), and has a serial buffer of 512 bytes. It carries out an
-/// O_SPIOP frame only if one `send` sends nothing else, or sends two such frames that fit into the buffer, of which the
+/// The programmer can be identified (`Programmer::identify`), and has a serial buffer of 512 bytes. It carries out
+/// O_SPIOP frames only if a `send` sends exactly one frame, or exactly two that fit into the buffer and of which the
 /// first requests no reply bytes. Its reply to any other O_SPIOP frame is NAK.
 ///
-/// If the port fails while it sends an O_SPIOP, the chip stops as `SimBus::tear` and `SimBus::lose` specify. The last
-/// call that is left can't send two O_SPIOP frames: the chip stops in the second. `send` also fails if an O_SPIOP reads
-/// more than 4,096 bytes or is sent while a reply is pending, or if more than 4,098 reply bytes would be pending.
-/// `receive` also fails if it requests more bytes than are pending.
+/// If the port fails while it sends an O_SPIOP whose reply isn't NAK, the chip stops as `SimBus::tear` and
+/// `SimBus::lose` specify. The last call that is left can't send two O_SPIOP frames: it fails, at the latest in the
+/// second. `send` also fails if such an O_SPIOP reads more than 4,096 bytes or is sent while a reply is pending, or if
+/// more than 4,098 reply bytes would be pending. `receive` also fails if it requests more bytes than are pending.
 #[derive(Drop)]
 pub struct SimPort {
     chip: SimBus,
@@ -133,7 +133,8 @@ impl SimPort {
         Ok(())
     }
 
-    // Carries out two frames of O_SPIOP. If only one call is left, stops the chip at the second transaction.
+    // Carries out two frames of O_SPIOP, or stops the chip at one of the transactions and returns `Cut`. The chip stops
+    // at the second one only if one call was left.
     fn operate_both(&mut self, bytes: &[u8], first: &[u8], second: &[u8]) -> Result<(), SimFailure>
         requires { ArePair first.now second.now bytes.now }
         ensures asked { (⟦<SimPort as Port>⟧.state self.new).asked

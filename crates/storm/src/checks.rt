@@ -1,4 +1,4 @@
-//! Sessions that are not stopped, compared with the reference implementation.
+//! Runs sessions, and compares those that are not stopped with the reference implementation.
 
 use crate::cases::Case;
 use crate::chips::Chip;
@@ -59,7 +59,8 @@ fn is_quiet(bus: &SimBus, chip: &Chip) -> bool {
     now & 0x01 == 0 && (now & 0x02 == 0 || chip.status[0] & 0x02 != 0)
 }
 
-/// Checks a refused session: its error and transactions, and that the chip is unchanged and idle, the vault unsealed.
+/// Checks a refused session: its error and transactions, and that the chip is unchanged and idle. Also checks that
+/// the vault is unsealed.
 pub fn check_refused(alloc: Global, case: &Case, refusal: Refusal, ran: &Ran) -> Result<(), Fault> {
     agree_all(&[
         (ran.answer == Err(refusal), "the refusal of a session"),

@@ -47,7 +47,8 @@ impl Chip {
     }
 }
 
-/// Draws a chip of 64, 128 or 256 KiB without a row. A few have bad SFDP bytes, or an ID that means no chip.
+/// Draws a chip of 64, 128 or 256 KiB whose ID isn't in the table of chips. A few chips have bad SFDP bytes, or an ID
+/// that means no chip.
 pub fn small(alloc: Global, dice: &mut Dice) -> Result<Chip, Fault> {
     let told = Told {
         size: dice.pick(65_536, &[131_072, 262_144]),
@@ -68,7 +69,7 @@ pub fn small(alloc: Global, dice: &mut Dice) -> Result<Chip, Fault> {
     chip_of(alloc, dice, config, status)
 }
 
-// Draws an ID without a row in the table of chips. One ID in 40 means that there is no chip.
+// Draws an ID that isn't in the table of chips. One ID in 40 means that there is no chip.
 fn id_for(dice: &mut Dice) -> [u8; 3] {
     let last = dice.byte();
     let ids = [
@@ -104,7 +105,7 @@ pub fn large(alloc: Global, dice: &mut Dice) -> Result<Chip, Fault> {
     chip_of(alloc, dice, config, status)
 }
 
-/// Draws two status bytes. About a third are locked, and at least one in eight has undefined protection bits.
+/// Draws two status bytes. About one pair in three is locked, and at least one in eight has undefined protection bits.
 pub fn protection(dice: &mut Dice) -> Status {
     let lock1 = dice.pick(0x80, &[0x00, 0x00, 0x00, 0x00]);
     let lock2 = dice.pick(0x01, &[0x00, 0x00, 0x00, 0x00]);

@@ -6,7 +6,7 @@ use rand_pcg::Pcg32;
 #[derive(Drop)]
 pub struct Dice {
     words: Pcg32,
-    // A second stream, for stops inside a transaction, so that drawing from it doesn't change the rest of a case.
+    // A second stream, for stops inside a transaction, so that drawing from it takes no numbers from the first one.
     cuts: Pcg32,
 }
 
@@ -23,7 +23,7 @@ impl Dice {
         below(&mut self.words, n)
     }
 
-    /// Draws how many bytes of the interrupted transaction a stop sends (`u32::MAX`: all). `None` is a stop before it.
+    /// Draws how many bytes of the interrupted transaction a stop sends at most (`u32::MAX`: all; `None`: none).
     pub fn cut(&mut self) -> Option<u32> {
         match below(&mut self.cuts, 12) {
             0 | 1 => Some(below(&mut self.cuts, 7)),

@@ -1,4 +1,4 @@
-//! The faults that end a run early.
+//! Faults. A fault in a case ends the cases of its seed, and any other fault ends the program.
 
 use nor_chip::WrongLength;
 use nor_journal::JournalFault;
@@ -10,13 +10,13 @@ use std::io;
 pub enum Fault {
     System(io::Error),
     Memory,
-    /// The case can't be drawn or set up.
+    /// A case can't be drawn or set up, or doesn't have what the reference implementation or `wrongs.rt` needs.
     Case,
-    /// The result differs from that of the reference implementation, as the text says.
+    /// Something isn't as the test expects. The text says what.
     Differs(&'static str),
-    /// The named call sent other transactions than expected. The first difference has this number, counted from 1.
+    /// The trace of the named call differs from the expected one, first in the line with this number, counted from 1.
     Sends(&'static str, u64),
-    /// A comparison did not detect the planted error that the text names.
+    /// A comparison did not report the planted error that the text names, or reported another one.
     Untold(&'static str),
 }
 

@@ -87,7 +87,8 @@ pub fn guards_some(code: u8, size: u32, sector: u32) -> bool {
     false
 }
 
-/// Returns the least protection bits that protect exactly `len` bytes from `start` on (from anywhere if `len` is 0).
+/// Returns the least value of the protection bits with which exactly `len` bytes from `start` on are protected, or
+/// `None`. If `len` is 0, `start` doesn't matter. Undefined values don't count.
 pub fn least_code(start: u32, len: u32, size: u32) -> Option<u8> {
     (0..64).find(|code| !is_undefined(*code) && protects_exactly(*code, start, len, size))
 }

@@ -66,7 +66,7 @@ pub fn check_put(vault: &MemVault, begun: &[u8], sealed: bool) -> Result<(), Fau
     ])
 }
 
-/// Checks the vault of a session that was refused after its scan: the vault has no end mark and no digest.
+/// Checks the vault of a session that was refused with error 9 or 10: exactly the header and all records.
 pub fn check_refused(
     alloc: Global,
     case: &Case,

@@ -66,7 +66,7 @@ pub fn session(case: &Case, work: Work) -> u64 {
     sum(&[saving(case), changes(&case.chip, work), checked])
 }
 
-/// Counts the transactions of a restore, which always verifies the touched sectors.
+/// Counts the transactions of an accepted restore, which always verifies the touched sectors.
 pub fn restore(chip: &Chip, saved: u64, work: Work) -> u64 {
     sum(&[identity(chip), saved, changes(chip, work), work.touched])
 }

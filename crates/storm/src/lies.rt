@@ -241,7 +241,7 @@ fn lie_for(dice: &mut Dice, count: u64) -> Lie {
     }
 }
 
-// Draws a fault. At least half of the time the transaction of `Drop` or `BusyFrom` is in the call's last quarter.
+// Draws a fault. At least half of the time the transaction number of `Drop` or `BusyFrom` is `count / 4 * 3` or more.
 fn spoil_for(dice: &mut Dice, count: u64) -> Spoil {
     let late = count / 4 * 3;
     let number = if dice.hits(1, 2) {

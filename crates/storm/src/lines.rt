@@ -8,7 +8,7 @@ use nor_chip::SECTOR_LEN;
 use std::alloc::Global;
 use std::fmt::Write;
 
-/// The trace lines of the transactions so far, and the state of the chip that determines its next replies.
+/// The trace lines of the transactions so far (incomplete if `lost`), and the chip's status bits after these lines.
 #[derive(Drop)]
 pub struct Lines {
     text: String,

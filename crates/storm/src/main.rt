@@ -1,6 +1,6 @@
 //! A random differential test of sessions, restores, rehearsals and reading calls on simulated chips. The reference
-//! implementation, written from the specification, uses no code of the engine except the table of chips. `runs.rt` runs
-//! the cases of a seed, and `wrongs.rt` checks that the comparisons detect errors.
+//! implementation, written from the specification, uses only the table of chips and some types of the engine. `runs.rt`
+//! runs the cases of a seed, and `wrongs.rt` checks that the comparisons detect errors.
 #![tactic(auto)]
 
 mod cases;

@@ -45,7 +45,7 @@ pub struct Model {
 
 #[derive(Clone, Copy)]
 enum Work {
-    // An operation that began before the model was made.
+    // No operation began since the model was made. If the chip is busy, its operation began before.
     Unknown,
     // A program or an erase, with the first address and the number of bytes of its page or block.
     Bytes(u32, u32),
@@ -74,7 +74,7 @@ impl Model {
         }
     }
 
-    /// Returns a fault unless the chip on the bus equals the model, including BUSY and the write enable latch.
+    /// Returns a fault unless the chip on the bus has the model's bytes, non-volatile status bits, BUSY and WEL.
     pub fn check(&self, bus: &SimBus) -> Result<(), Fault> {
         let now = bus.status();
         let shown = now[0] & 0b0000_0011;
@@ -146,7 +146,7 @@ impl Model {
         self.pace().bits() == 0b0000_0010
     }
 
-    // Carries out a status write. An LB bit that is set stays set, and the reserved bit keeps its value.
+    // Carries out a status write if the chip accepts it. LB bits that are set stay set; the reserved bit stays.
     fn write_status(&mut self, one: u8, two: u8) {
         let before = guards::kept(self.chip.status);
         if !self.is_ready() || guards::is_locked(before) {
@@ -183,7 +183,7 @@ impl Model {
         }
     }
 
-    // Carries out a program. Bits change only from 1 to 0, and the first byte of the page follows its last one.
+    // Carries out a program if the chip accepts it. Bits change only from 1 to 0; a page's first byte follows its last.
     fn program(&mut self, sent: &str) {
         let address = self.address_of(sent);
         if !self.takes(address, 1) {

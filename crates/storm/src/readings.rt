@@ -1,4 +1,4 @@
-//! Checks the results of the calls that only read.
+//! Checks the results and the transactions of the calls that only read.
 
 use crate::cases::Case;
 use crate::dice::Dice;
@@ -233,7 +233,8 @@ fn copy_of(alloc: Global, case: &Case) -> Result<Vec<u8>, Fault> {
     Ok(copy)
 }
 
-// Checks a report on protection: an empty range must be 0, 0, and undefined protection bits have no range.
+// Checks a report on protection: an empty range must be 0, 0, and undefined protection bits have no range. Also checks
+// the reported lock and size.
 fn check_protection(case: &Case, told: Protection) -> Result<(), Fault> {
     let code = guards::code_of(case.chip.status);
     let size = case.chip.config.size;

@@ -42,7 +42,8 @@ pub fn run(
     }
 }
 
-// The chip and journal of a restore, and the target and the error that the reference implementation computes.
+// The chip of a restore, its journal and the journal's contents (`saved`), and the target and the error, if any, that
+// the reference implementation computes.
 #[derive(Clone, Copy)]
 struct Whole<'a> {
     chip: &'a Chip,

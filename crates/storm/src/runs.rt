@@ -116,7 +116,8 @@ fn check_accepted(
     go_on(alloc, dice, accepted, ran, tally)
 }
 
-// Checks an accepted session, with a stop and sometimes a rehearsal, a damaged journal and restores of another chip.
+// Checks an accepted session and the same session with a stop; sometimes also a rehearsal, and sometimes a damaged
+// journal and restores of a random chip.
 fn go_on(
     alloc: Global,
     dice: &mut Dice,

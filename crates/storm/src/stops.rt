@@ -17,7 +17,7 @@ use nor_session::Refusal;
 use std::alloc::Global;
 
 /// Runs an accepted session with a random stop. If its vault was sealed, runs up to four restores with stops, and then
-/// one without, until a restore succeeds. Returns how many of these stops sent a drawn number of bytes.
+/// one without, until a restore succeeds. Checks each call. Counts the stops that sent a drawn number of bytes.
 pub fn check(alloc: Global, dice: &mut Dice, accepted: Accepted<'_>) -> Result<Cuts, Fault> {
     let stop = Stop {
         after: stop_for(dice, accepted.case, accepted.wanted),
@@ -119,7 +119,7 @@ pub fn fill_for(dice: &mut Dice, case: &Case) -> Option<u8> {
     }
 }
 
-// Checks that untouched sectors, and status bits that flashnor never changes, are as before.
+// Checks that untouched sectors, and status bits that flashnor never changes on this chip, are as before.
 fn check_within(case: &Case, wanted: &Wanted, bus: &SimBus) -> Result<(), Fault> {
     check_outside(&case.chip, wanted, bus.bytes())?;
     let (before, after) = (guards::kept(case.chip.status), guards::kept(bus.status()));

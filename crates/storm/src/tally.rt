@@ -1,4 +1,4 @@
-//! Counts the cases of each kind that were run.
+//! Counts what the cases tested: sessions, restores, rehearsals, readings and stops.
 
 use crate::model::Stop;
 use nor_session::Refusal;
@@ -15,9 +15,9 @@ pub struct Tally {
     pub accepted: u64,
     /// The numbers of refused sessions, by the number of the error.
     pub refused: [u64; 21],
-    /// The number of accepted restores of the random chips of `restores.rt`.
+    /// The number of the random chips of `restores.rt` whose restore was accepted.
     pub restored: u64,
-    /// The numbers of refused restores of the random chips of `restores.rt`, by the number of the error.
+    /// The numbers of the random chips of `restores.rt` whose restore was refused, by the number of the error.
     pub kept_away: [u64; 21],
     pub rehearsed: u64,
     pub read: u64,
@@ -26,7 +26,7 @@ pub struct Tally {
     pub cuts: Cuts,
 }
 
-/// The numbers of stops of accepted calls that still sent a drawn number of bytes, from none to a whole transaction.
+/// The numbers of stops in `stops::check` that still sent a drawn number of bytes, from none to a whole transaction.
 #[derive(Clone, Copy)]
 pub struct Cuts {
     pub sessions: u64,

@@ -75,7 +75,7 @@ impl Caller<'_> {
         Ok(())
     }
 
-    /// Runs a reading call. After success, returns `case` with the chip that the replies describe.
+    /// Runs a reading call. After success, returns the case of `asked_of` with the chip that the replies describe.
     pub fn reading(&mut self, reading: Reading, case: &Case) -> Result<Case, CallError> {
         let (config, status1) = self.find(case.request.named)?;
         let chip = unread(self.alloc, config, [status1, 0])?;
@@ -137,7 +137,7 @@ impl Caller<'_> {
         Err(CallError::Refused(Refusal::Timeout { address }))
     }
 
-    // Finds the chip. Reads no SFDP if the ID has a row, or means that there is no chip.
+    // Finds the chip. Reads no SFDP if the ID is in the table of chips, or means that there is no chip.
     fn find(&mut self, named: Option<ChipName>) -> Result<(Config, u8), CallError> {
         let status1 = self.wait(0)?;
         let mut id = [0; 3];

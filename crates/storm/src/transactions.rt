@@ -1,7 +1,7 @@
 //! The trace lines of the transactions that each call must send, in order. A wait is polls (05h) up to the first one
 //! with BUSY clear. An operation is a write enable (06h), a command and a wait. A session or restore has these steps,
 //! with sectors in ascending order:
-//! 1. Find the chip: a wait, the ID, and three reads of SFDP, except for an ID that has a row or means no chip.
+//! 1. Find the chip: a wait, the ID, and three reads of SFDP unless the ID is in the table of chips or means no chip.
 //! 2. Identify the device: status 2 and the unique ID.
 //! 3. Read the sectors with an included address (session, unless it only sets a range) or the saved ones (restore).
 //! 4. Clear the protection bits, if a touched sector is protected.
@@ -157,7 +157,7 @@ fn change(lines: &mut Lines, chip: &Chip, wanted: &Wanted) {
 }
 
 pub fn prepare(lines: &mut Lines, chip: &Chip, wanted: &Wanted) {
-    // The write leaves the other non-volatile status bits as they are.
+    // The status write clears the protection bits, and leaves the other non-volatile status bits as they are.
     if wanted.first_guarded(chip).is_some() {
         lines.write_status(guards::with_code(chip.status, 0));
     }
@@ -205,7 +205,8 @@ fn erase_half(lines: &mut Lines, chip: &Chip, wanted: &Wanted, first: u32) {
     }
 }
 
-/// Appends step 6 for one sector. Each page that differs from the target is one operation.
+/// Appends step 6 for one sector. Each page that differs from the target, after the erase
+/// if there was one, is one operation.
 pub fn program_sector(lines: &mut Lines, chip: &Chip, wanted: &Wanted, number: u32) {
     let is_erased = wanted.raises_all(number, 1);
     if !is_erased {

@@ -122,7 +122,8 @@ pub fn of_journal(config: &Config, saved: Saved<'_>) -> Option<Refusal> {
     }
 }
 
-/// Returns error 20 for a journal of another device, or error 17 if status bits that no restore changes differ.
+/// Returns error 20 for a journal of another device, error 17 if status bits that no restore of this chip changes
+/// differ, or `None`.
 pub fn of_unit(chip: &Chip, saved: Saved<'_>) -> Option<Refusal> {
     if chip.config.unique != saved.chip.config.unique {
         return Some(Refusal::OtherUnit);

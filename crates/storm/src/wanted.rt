@@ -91,7 +91,8 @@ impl Wanted {
         }
     }
 
-    // Counts the status writes: one that clears the protection bits if needed, and one that sets those of the target.
+    // Counts the status writes: one that clears the protection bits if a touched sector is protected, and one that sets
+    // the protection bits of the target if they differ then.
     fn status_writes(&self, chip: &Chip) -> u64 {
         let lifted = self.first_guarded(chip).is_some();
         let code = if lifted {

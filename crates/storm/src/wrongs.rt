@@ -140,7 +140,7 @@ fn check_model(
     model.check(bus)
 }
 
-// Checks that an additional line and a modifying command are detected.
+// Checks that an additional line and a modifying command in the trace of a refused session are detected.
 fn check_refusal(alloc: Global) -> Result<(), Fault> {
     let case = Case::next(alloc, &mut Dice::new(1, 18))?;
     let Some(refusal) = verdicts::of_opening(&case) else {

@@ -123,7 +123,8 @@ impl<'a> Answers<'a> {
         Err(Fault::Differs)
     }
 
-    // Checks that `words` is the next protectable range, and that `wanted` has the least protection bits for it.
+    // Checks that `words` is the next protectable range, and that the status `wanted` has the least protection bits for
+    // this range and protects exactly this range (see `guards::check`).
     fn check_set(&mut self, came: &mut String, words: &str, wanted: &str) -> Result<(), Fault> {
         let set = pair_of(words)?;
         let status = status_of(wanted)?;
@@ -181,7 +182,7 @@ fn put_made(came: &mut String, words: &str) -> Result<(), Fault> {
     put_text(came, if config.is_some() { "made" } else { "none" })
 }
 
-// Appends `taken` to `came` if a simulated chip may have the number of bytes in `words`, otherwise the error's text.
+// Appends `taken` to `came` if a chip of this `config` may have the number of bytes in `words`, otherwise the error.
 fn put_length(alloc: Global, came: &mut String, config: Config, words: &str) -> Result<(), Fault> {
     let bytes = vec![in alloc; 0xFF; words.parse()?]?;
     let delays = Delays { now: 0, each: 0 };

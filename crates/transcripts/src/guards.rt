@@ -49,7 +49,7 @@ pub fn put_unit(came: &mut String, config: &Config, words: &str) -> Result<(), F
     put_text(came, word(is_protected))
 }
 
-/// Appends to `came` the least protection bits that protect exactly the range in `words`, or `none`.
+/// Appends to `came` the least protection bits that protect exactly the range in `words`, in decimal, or `none`.
 pub fn put_least(came: &mut String, config: &Config, words: &str) -> Result<(), Fault> {
     let (start, len) = pair_of(words)?;
     match code_for(start, len, config.size) {

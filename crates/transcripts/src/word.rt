@@ -1,6 +1,6 @@
 //! The words with which the lines of a case begin.
 
-/// The first word of a line. The file `stdin` of this crate explains each word. Proofs of a `match` on texts are slow.
+/// The first word of a line, as the file `stdin` explains. This type avoids a `match` on texts, whose proofs are slow.
 #[derive(Clone, Copy)]
 pub enum Word {
     /// The line is blank, or begins with `#`.
