@@ -2,7 +2,8 @@
 
 Each chip is either refused, or written and restored. After a write the chip must hold each byte of the target. After
 the restore it must hold each byte and status bit of the original, even if the program was killed or the chip lost its
-power. A chip that is refused receives only reads, and the program creates no journal.
+power. A chip that is refused receives only reads, ABh, and opcodes that it doesn't know, and the program creates no
+journal.
 """
 import hashlib
 import random
@@ -16,8 +17,8 @@ from models import Model, action_of
 
 SECTOR, BLOCK = 4096, 65536
 READS = ("data", "status", "id", "sfdp", "unique", "wake")
-# The events that stop a session, each at a pair of numbers: an operation, and a poll after it (poll 0 is the
-# operation's own command). The first operations erase, and the later ones program. `dip` is a short loss of power.
+# The events that stop a session (or disturb it: `dip`, a short loss of power), each at a pair of numbers: an operation,
+# and a poll after it (poll 0 is the operation's own command). The first operations erase, and the later ones program.
 # `RESTORE_STOPS` stop a restore.
 STOPS = (("kill", (1, 0)), ("power", (1, 1)), ("lose", (2, 0)), ("power", (3, 0)), ("kill", (6, 1)), ("power", (9, 0)),
          ("dip", (2, 0)), ("dip", (8, 0)))
@@ -29,8 +30,8 @@ IN_REGIONS = "-w", "new", "-N", "-l", "layout", "-i", "low", "-i", "middle", "-i
 LEVELS = 0xFF, 0x00
 # The longest time in seconds that a refused run may take, even on a busy machine.
 SOON = 20
-# If no chip replies, the program reads the ID and status 1 ten times (`ASKED`). Then it sends `LEAVING`, which ends QPI
-# mode and continuous reads.
+# If no chip replies, the program reads the ID and status 1 ten times (`ASKED`). If the replies are FFh, it then sends
+# `LEAVING`, which ends continuous reads and, on some chips, QPI mode.
 ASKED, LEAVING = [b"\x9f", b"\x05"] * 10, [b"\xff", b"\xff\xff"]
 
 
@@ -136,7 +137,7 @@ class Play:
         check(f"other opcodes than those of reads in {words}", sent, [])
 
     def expect(self, *words, out=()):
-        """Runs the program, which must succeed and name the chip in its first line.
+        """Runs the program, which must succeed and print the chip's ID and size in its first line.
 
         The next lines must begin with the texts in `out`.
         """
@@ -194,9 +195,9 @@ def is_written(play, journal="j"):
 
 
 def is_restored(play):
-    """Interrupts a session in regions at each of `STOPS`, and restores the chip after each of them.
+    """Stops or disturbs a session in regions at each of `STOPS`, and restores the chip after each of these sessions.
 
-    After the first two sessions, the first restore is interrupted, too.
+    After the first two sessions, the first restore is stopped, too.
     """
     for number, (event, at) in enumerate(STOPS):
         journal = f"j{number}"
@@ -235,7 +236,7 @@ def is_protected(play):
 
 
 def is_refused(play, refused):
-    """Checks that the refused jobs end soon, send only reads and create no journal. Other jobs must read the chip."""
+    """Checks that the refused jobs end soon, send only reads and ABh, and create no journal. Others must succeed."""
     for words in refused.jobs:
         began = time.monotonic()
         got = play.run(*words)
@@ -252,7 +253,7 @@ def is_refused(play, refused):
         play.bench.check_file("out", play.old)
 
 
-# The chips whose ID is in the program's table of chips. Only on these chips a case changes the protected range.
+# The chips whose ID is in the program's table of chips. Only on these chips a case uses --wp-range.
 ROWS = "W25Q64FV", "W25Q64JV", "W25Q128JV", "W25Q64JV-M"
 
 
@@ -277,13 +278,23 @@ def moves(start, it):
 
 
 def stops(start, it):
-    """a chip that is restored after kills, lost replies and losses of power in a session and in a restore"""
+    """a chip that is restored after kills and losses of power in sessions and restores, and lost replies in sessions"""
     is_restored(Play(start, it))
 
 
 def protects(start, it):
     """a chip whose first half is protected, so a write there ends with error 10, until a restore unprotects it"""
     is_protected(Play(start, it))
+
+
+def clears_wel_late(start, it):
+    """a chip that is written and restored although WEL stays set for one, two or three reads of status 1 after BUSY"""
+    for late in 1, 2, 3:
+        play = Play(start, it)
+        play.chip.late = late
+        is_written(play)
+        if it.name in ROWS:
+            is_protected(play)
 
 
 def has_own_locks(start, it):
@@ -318,7 +329,7 @@ def is_in_qpi_at_00(start, it):
 
 
 def stays_lost(start, it, level):
-    """Checks that each job on a chip in QPI mode ends with error 1, and sends FFh only if the floating line is high.
+    """Checks that three jobs on a chip in QPI mode end with error 1, and send FFh only if the floating line is high.
 
     If the line is low, the chip would receive another byte than FFh.
     """
@@ -335,9 +346,10 @@ def stays_lost(start, it, level):
 
 
 def begins_in_four_byte_mode(start, it):
-    """a chip in four-byte mode, on which each job sends only ABh and reads, and ends with programmer fault 15"""
+    """a chip in four-byte mode, on which each run sends only ABh and 03h, and ends with programmer fault 15"""
     for level in LEVELS:
-        # The chip waits for a fourth address byte, so the first byte of each reply has the level of the floating line.
+        # The chip waits for a fourth address byte of each 03h, so the first byte of the reply has the level of the
+        # floating line.
         play = Play(start, it)
         play.chip.floating, play.chip.has_four = level, True
         for words in (), ("-r", "out"), CHANGES[1], BACKUP:
@@ -380,7 +392,7 @@ def ends_continuous_reads(start, it):
 
 
 def case_of(played, it, name=None):
-    """Returns a case that runs `played` on the chip `it`. Its name ends with the name of the chip."""
+    """Returns a case that runs `played` on the chip `it`. The case's name ends with the chip's name in lower case."""
     def case(start):
         played(start, it)
     case.__name__ = f"{name or played.__name__}_{it.name.lower().replace('-', '_')}"
@@ -394,6 +406,7 @@ def cases():
             yield case_of(played, it)
         if it.name not in REFUSED and not {0x35, 0x4B} <= set(it.opcodes):
             yield case_of(moves, it)
+    yield from (case_of(clears_wel_late, ALL[name]) for name in ("W25Q64FV", "MT25QL128"))
     yield from (case_of(has_own_locks, ALL[name]) for name in ("W25Q128JV", *LOCKED))
     yield from (case_of(is_in_qpi, ALL[name]) for name in ("MX25L12835F", "IS25LP128", "MT25QL128"))
     for it in (it for it in ALL.values() if 0xFF in it.leaves_qpi):

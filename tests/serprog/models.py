@@ -3,7 +3,7 @@
 The rules come from JESD216 and from the datasheets that a description names, not from docs/SPECIFICATION.md. A
 transaction is the bytes sent, and then received, while CS# is low. The chip gets 00h while the programmer receives, so
 a page program that also receives bytes programs zeros. If the chip ignores a transaction, the line to the programmer
-floats, and the transaction is appended to `ignored`, except if it is a read.
+floats. The transaction is appended to `ignored`, except if it receives bytes and its action isn't in CHANGING.
 """
 import random
 from typing import NamedTuple
@@ -29,10 +29,11 @@ def by_parts(registers, size):
 
 
 def by_blocks(bits, top_bit=None, register=0):
-    """Returns a function that returns the protected range: 2^(BP-1) blocks of 64 KiB (Macronix, Micron, ISSI, Eon).
+    """Returns a function that returns the protected range of chips of Macronix, Micron, ISSI and Eon.
 
-    `bits` are the positions of BP0, BP1 and so on in status 1. The range is at the end of the chip, or at its start if
-    the bit `top_bit` of the register `register` is set.
+    The range has 2^(BP-1) blocks of 64 KiB, or no block if BP is 0, and at most the whole chip. `bits` are the
+    positions of BP0, BP1 and so on in status 1. The range is at the end of the chip, or at its start if the bit
+    `top_bit` of the register `register` is set.
     """
     def protected(registers, size):
         bp = sum((registers[0] >> at & 1) << place for place, at in enumerate(bits))
@@ -102,25 +103,29 @@ class Model:
         self.wel = self.is_asleep = self.is_in_qpi = self.is_armed = self.has_four = self.is_stuck = False
         # The number of lines of a continuous read (2 or 4), or 0 if none is in progress.
         self.lines = 0
-        # `left` is the number of reads of status 1 that still show BUSY. Until then, `changing` is the address and the
-        # former bytes of a program or an erase, and `writing` the registers before a status write.
+        # `late` is the number of reads of status 1 that still show WEL after an operation has ended, and `shows` the
+        # number of those that are left, or `None`. A chip that shows each bit as it is when the bit is sent has one
+        # such read if the operation ends between WEL and BUSY of a byte.
+        self.late, self.shows = 0, None
+        # `left` is the number of reads of status 1 that still show BUSY. Until it is 0, `changing` is the address and
+        # the former bytes of a program or an erase, and `writing` the registers before a status write.
         self.left, self.changing, self.writing, self.is_erase = 0, None, None, False
         self.ignored, self.chance = [], random.Random(it.name)
         self.count_anew()
 
     def count_anew(self):
-        """Resets the number of operations, and that of the polls after the last one."""
+        """Resets the number of operations and the number of polls after the last operation."""
         self.operations = self.polls = 0
 
     def lose_power(self):
-        """Interrupts the operation in progress, and sets all volatile bits to their values after power-up."""
+        """Interrupts the operation in progress, and sets volatile bits, except error bits, to their power-up values."""
         self.tear()
         if self.it.has_srp1 and not self.status[0] & 0x80:
             self.status[1] &= ~1
         for register, bits in enumerate(self.it.power_up):
             self.status[register] |= bits
         self.wel = self.is_asleep = self.is_in_qpi = self.is_armed = self.has_four = self.is_stuck = False
-        self.lines = 0
+        self.lines, self.shows = 0, None
 
     def tear(self):
         """Interrupts the operation in progress.
@@ -166,8 +171,9 @@ class Model:
     def in_qpi(self, out, replies):
         """Receives a transaction in QPI mode, in which each clock carries four bits.
 
-        WP# and HOLD# are high, the line to the programmer floats, and the fourth line has the bit sent. The first two
-        bits sent are therefore the low bits of the two digits of the opcode. An opcode of `leaves_qpi` ends the mode.
+        WP# and HOLD# are high, the line to the programmer floats, and the line from the programmer has the bit sent.
+        The first two bits sent are therefore the lowest bits of the two digits of the opcode. An opcode of
+        `leaves_qpi` ends the mode.
         """
         digits = [0xC | (self.floating & 1) << 1 | out[0] >> at & 1 for at in (7, 6)]
         if digits[0] << 4 | digits[1] in self.it.leaves_qpi:
@@ -220,12 +226,23 @@ class Model:
         for _ in range(len(out) - 1 + replies):
             value = self.status[register]
             if register == 0:
-                value = value & 0xFC | self.it.busy * self.is_busy() | WEL * self.wel
+                was_busy = self.is_busy()
+                value = value & 0xFC | self.it.busy * was_busy | WEL * self.wel
                 self.left = max(0, self.left - 1)
                 if not self.is_busy():
-                    self.wel, self.changing, self.writing = self.wel and value & BUSY == 0, None, None
+                    self.changing = self.writing = None
+                    self.end(was_busy)
             found.append(value)
         return bytes(found[len(out) - 1 :])
+
+    def end(self, was_busy):
+        """Clears WEL when the operation has ended and, after this, as many reads of status 1 as `late` showed WEL."""
+        if was_busy:
+            self.shows = self.late
+        elif self.shows:
+            self.shows -= 1
+        if self.shows == 0:
+            self.wel, self.shows = False, None
 
     def do_data(self, out, replies, header=4):
         start = self.address(out + bytes(replies))
@@ -263,7 +280,7 @@ class Model:
 
     def do_latch(self, out, replies, is_set):
         if self.alone(out, replies):
-            self.wel = is_set
+            self.wel, self.shows = is_set, None
         return bytes([self.floating]) * replies
 
     def do_qpi(self, out, replies):
@@ -293,7 +310,7 @@ class Model:
         return bytes([self.floating]) * replies
 
     def do_write(self, out, replies, registers, clears=False):
-        """Writes the sent bytes to the first registers. The other registers become 0 if `clears`, else stay."""
+        """Writes the sent bytes (then 00h if `clears`) to the writable bits of `registers`. `once` bits stay set."""
         sent = out[1:] + bytes(replies)
         locked = self.status[0] & 0x80 and self.wp_low or self.it.has_srp1 and self.status[1] & 1
         if not self.wel or locked or not 1 <= len(sent) <= len(registers):
@@ -364,7 +381,7 @@ class Model:
         self.left = SAMPLES[kind]
 
 
-# The actions that change the chip, or what the chip takes the next transactions for.
+# The actions, except `wake`, that change the chip or how the chip takes the next transactions.
 CHANGING = ("latch", "write", "program", "erase", "erase_in", "unlock", "chip_erase", "sleep", "qpi", "arm", "reset",
             "four", "clear")
 

@@ -27,6 +27,14 @@ ready_shown {status} {old} {new} made even =
     eqb-true old.chip.busy 0
     (ready_by (old.chip.busy == 0) old.chip.latch old.chip.kept.one (subst (λ (n : ℕ). n % 2 ≡ 0) shown even))
 
+-- Two polls show the same status if the chip, when the later one began, was as when the earlier one began.
+pub polls_agree : {status again : ℕ} {old mid later new : BusState} → MakesStep (0x05 ∷ []) (status ∷ []) old mid
+    → KeepsAll old later → MakesStep (0x05 ∷ []) (again ∷ []) later new → again ≡ status
+polls_agree {status} {again} {old} {mid} {later} {new} first keeps last =
+    let one : status ≡ status1_of old.chip = first.step.replies 0 (omega arith) in
+    let two : again ≡ status1_of later.chip = last.step.replies 0 (omega arith) in
+    two ∙ ap status1_of keeps.chip ∙ sym one
+
 poll_same : {chip new : Chip} {answer : List ℕ} → chip.busy ≡ 0 → Step chip (0x05 ∷ []) answer new → new ≡ chip
 poll_same {chip} {new} {answer} ready does =
     let least : chip.busy - 1 ≡ chip.busy = omega (arith, ready) in
@@ -111,6 +119,7 @@ quiet_then {old} {mid} {new} first last = record {
     unlimited = last.nature.unlimited ∙ first.nature.unlimited;
     longer = last.nature.longer ∙ first.nature.longer;
     punctual = last.nature.punctual ∙ first.nature.punctual;
+    further = last.nature.further ∙ first.nature.further;
     config = λ honest. last.nature.config (first.nature.honest ∙ honest) ∙ first.nature.config honest;
   };
   keeps = keeps_then first.keeps last.keeps;
@@ -145,7 +154,15 @@ quiet_made {out} {answer} {old} {mid} {new} first whole made = made_then made re
 }
 
 pub nature_none : {state : BusState} → SameNature state state
-nature_none = record { honest = refl; steady = refl; unlimited = refl; longer = refl; punctual = refl; config = λ honest. refl }
+nature_none = record {
+  honest = refl;
+  steady = refl;
+  unlimited = refl;
+  longer = refl;
+  punctual = refl;
+  further = refl;
+  config = λ honest. refl;
+}
 
 bare : (out : List ℕ) (opcode : ℕ) → slice_index out 0 ≡ opcode → 1 ≤ length out → length out < 2
     → out ≡ opcode ∷ []

@@ -87,8 +87,9 @@ impl<B: Bus + Drop> CheckedStatus<B> {
         }
     }
 
-    // Polls once, with two reply bytes. Returns a byte that shows BUSY, if there is one. Otherwise stops if the two
-    // bytes differ, and returns their value if they are equal.
+    // Polls once, with two reply bytes. Returns a byte that shows BUSY, if there is one, or the value of both bytes if
+    // they are equal. If they differ, an operation may have ended between two bits of the reply: WEL comes before BUSY.
+    // After a modifying command this counts as a poll that shows BUSY. Before the first one this bus stops.
     pub(super) fn poll_once(&mut self) -> Result<u8, Stopped>
         ensures history { history_of self.new ≡ history_of self.old }
         ensures status { KeepsStatus (known_of self.old) (known_of self.new) }
@@ -115,13 +116,17 @@ impl<B: Bus + Drop> CheckedStatus<B> {
             return Ok(last);
         }
         if first != last {
+            if self.known.is_changing {
+                return Ok(BUSY);
+            }
             return Err(self.differ());
         }
         Ok(first)
     }
 
-    // Polls once, and returns the status if it shows BUSY. Otherwise reads the ID, polls again, and reads the ID again.
-    // Stops if the polls differ. After a second poll that shows BUSY no ID is read, because a busy chip ignores 9Fh.
+    // Polls once, and returns the status if it shows BUSY. Otherwise reads the ID, polls again and, if the polls agree,
+    // reads the ID again. If they differ, returns BUSY after a modifying command, as `poll_once` does. Before the first
+    // one this bus stops, and reads the ID before that unless the second poll shows BUSY (a busy chip ignores 9Fh).
     pub(super) fn poll_twice(&mut self) -> Result<u8, Stopped>
         ensures history { history_of self.new ≡ history_of self.old }
         ensures status { KeepsStatus (known_of self.old) (known_of self.new) }
@@ -144,6 +149,9 @@ impl<B: Bus + Drop> CheckedStatus<B> {
         }
         self.read_id()?;
         let again = self.poll_once()?;
+        if again != status && self.known.is_changing {
+            return Ok(BUSY);
+        }
         if again & BUSY != 0 {
             return Err(self.stop(CheckFault::Differs));
         }
