@@ -6,15 +6,15 @@ The other scripts for these pages name no definitions. scripts/statement_page.md
 # STATEMENT.md may have at most this number of lines of definitions and contracts, without comments and blank lines.
 MOST_LINES = 220
 
-# STATEMENT.md has the contracts of these calls. Each has its file, and the names of those of its clauses that make up
-# the headline. The conditions that a caller must ensure (`requires`) are always included.
+# STATEMENT.md has the contracts of these calls. Each has its file, and the names of those of its clauses that the page
+# shows. The conditions that a caller must ensure (`requires`) are always included.
 HEADLINE = {
     "session": "nor_session/src/sessions.rt keeps always modelled",
     "restore": "nor_session/src/restores.rt restores_original modelled",
     "Journal::read": "nor_journal/src/journal.rt found only",
 }
 
-# STATEMENT.md has only these fields of the records. STATEMENT-FULL.md has all fields.
+# For each of these records, STATEMENT.md has only the given fields. STATEMENT-FULL.md has all fields.
 FIELDS = {
     "VaultState": "telling bytes sealed",
     "BusState": "chip left honest sent steady",
@@ -83,19 +83,19 @@ NAMES = {
         "`Unknown` is cut, `new` may be anything.",
     "Stopped": "`Stopped`: what a failed transaction returns.",
     "SameNature":
-        "`SameNature old new`: `honest`, `steady`, `punctual`, `unlimited`, `longer` and, if `honest`, the chip's "
-        "`config` are the same.",
+        "`SameNature old new`: `honest`, `steady`, `punctual`, `unlimited`, `longer`, `further` and, if `honest`, the "
+        "chip's `config` are the same.",
     "IsHonestFor":
         "`IsHonestFor out n bus`: the bus is well-behaved, and accepts a transaction of this length: `out` has at most "
         "260 bytes and `n` is at most 4,096 + `bus.longer`, or the bus is `unlimited`. No transaction of the engine "
         "sends more than 260 bytes or reads more than 4,096.",
     "IsGenuine":
-        "`IsGenuine config`: if the ID has a row (W25Q64FV or W25Q128FV), the size, erase types and block protection "
-        "are those of the row. If the ID has no row, the chip has no block protection and, if its SFDP is accepted, "
-        "the size and erase types in the SFDP.",
+        "`IsGenuine further config`: if the ID has a row (W25Q64FV, W25Q128FV or, if `further`, a further row), the "
+        "size, erase types and block protection are those of the row. If the ID has no row, the chip has no block "
+        "protection and, if its SFDP is accepted, the size and erase types in the SFDP.",
     "IsKnown":
-        "`IsKnown config`: the chip is genuine, and its ID isn't FF FF FF or 00 00 00. The table has a row for the ID, "
-        "or the chip's SFDP is accepted.",
+        "`IsKnown further config`: the chip is genuine, and its ID isn't FF FF FF or 00 00 00. The ID has a row, or the "
+        "chip's SFDP is accepted.",
     "unique_of": "`unique_of config`: the chip's unique ID.",
     "SavedSector": "`SavedSector`: the `number` of a saved sector, and its `bytes`.",
     "IsContent":
@@ -131,8 +131,8 @@ NAMES = {
     "Refusal": "`Refusal`: the errors of calls.",
     "refusal_number": "`refusal_number refusal`: the error's number.",
     "RefusalHolds":
-        "`RefusalHolds request image chip refusal`: the error is one of errors 1 to 10, and SPECIFICATION.md says that "
-        "it applies to the request and the chip.",
+        "`RefusalHolds further request image chip refusal`: the error is one of errors 1 to 10, and SPECIFICATION.md "
+        "says that it applies to the request and the chip.",
     "CountsRefusal": "`CountsRefusal old new`: the vault refused a call between these states.",
     "SessionAlways":
         "`SessionAlways ..` includes: on every bus, an error from 1 to 11 leaves the vault unsealed (`answers`: "
@@ -149,8 +149,9 @@ NAMES = {
 }
 
 # These are the appendices of STATEMENT-FULL.md. Each has its title, a text that says what breaks if it is wrong, and
-# the definitions and contracts that it explains, with all their clauses. An appendix also has all definitions that
-# these need, except those that STATEMENT.md or an earlier appendix has.
+# the definitions and contracts that it explains, with all their clauses (for `work_on_chip` only two). An appendix also
+# has all definitions that these need, except those of ELSEWHERE, and those that STATEMENT.md or an earlier appendix has
+# whole.
 APPENDICES = {
     "Block protection": (
         "If this is wrong, errors 7 to 10 are wrong for a real chip, and so is the chip's protected range.",
@@ -335,7 +336,7 @@ NOTES = {
         "promises all this for each job on a chip.",
 }
 
-# Both pages have their definitions by these subjects, in this order. Each subject lists the files whose definitions it
+# Each appendix has its definitions by these subjects, in this order. Each subject lists the files whose definitions it
 # has. If a definition uses one of a later subject, the order is changed.
 SUBJECTS = {
     "The chip": "nor_geometry: specs/Size nor_model: src/config specs/Makers src/running specs/Sfdp specs/Chip",

@@ -1,9 +1,9 @@
 #!/usr/bin/env python3
 """scripts/twice.py: checks that no two definitions of crates/*/specs have equal names, except those of ALLOWED.
 
-A definition is a record, type, abbreviation or function that `pub` exports. For each name that two definitions have,
-the script prints their places. It also prints each name of ALLOWED that doesn't have two definitions. If it printed a
-name, it ends with exit status 1.
+A definition is a record, type, abbreviation or function that `pub` exports. For each other name that several
+definitions have, the script prints their places. It also prints each name of ALLOWED that doesn't have several
+definitions. If it printed such a name, it ends with exit status 1.
 """
 import collections
 import re
@@ -14,10 +14,11 @@ import texts
 from sources import CRATES, TOP
 
 DEFINED = re.compile(r"^(?=.*\bpub\b)(?:(?:pub|abbrev|unfoldable|pattern) )+(?:(?:record|data) )?(?!use |mod )(\S+)", re.M)
-# These names may have two definitions. Each group has the reason.
+# These names may have several definitions. Each group has the reason.
 ALLOWED = {
-    # Two buses of nor_serprog send different bytes, so each has these definitions for its own state.
-    *"cause_of is_ready link_of polled_ready_of port_in sent_of serprog_state".split(),
+    # Two buses of nor_serprog send different bytes, so each has these definitions for its own state. `cause_of` of
+    # nor_console is the line with the cause of a fault.
+    *"cause_of has_further is_ready link_of polled_ready_of port_in sent_of serprog_state".split(),
     # Each kind of bus has its own history.
     "history_of",
     # Two buses of nor_buses were given rows of the table of chips. Each reads their IDs from its own field.

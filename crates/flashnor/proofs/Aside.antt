@@ -9,6 +9,7 @@ use Rattle.nor_files.specs.Files.{AreAtRest, FilesState, Found, Name}
 use Rattle.nor_journal.specs.Text.{Content as Journal}
 use Rattle.nor_session.specs.Headline.{CanRestore}
 use Rattle.nor_args.specs.Text.{Text}
+use Rattle.nor_session.proofs.WrittenBack.{known_kept}
 use Rattle.flashnor.specs.Left.{LeavesAsLong, MayFind}
 use Rattle.nor_console.specs.Stored.{IsFileFound}
 use Rattle.flashnor.specs.Undone.{NameOne}
@@ -50,8 +51,9 @@ pick (Some one) (Some other) was found left len mid new same rest may_stay is wh
 pick _ _ was found left len mid new same rest may_stay is whole long can fits = absurd same
 
 pub mixed_can_restore : (journal : Journal) (first : Chip) (state later : BusState) → CanRestore journal first state
-    → later.chip.config ≡ first.config
+    → later.further ≡ state.further → later.chip.config ≡ first.config
     → ((a : ℕ) → (later.chip.bytes a ≡ state.chip.bytes a) ⊎ (later.chip.bytes a ≡ first.bytes a))
     → (later.chip.kept ≡ state.chip.kept) ⊎ (later.chip.kept ≡ first.kept) → later.chip.busy ≡ 0
     → CanRestore journal first later
-mixed_can_restore journal first state later can config bytes kept idle = grind arith
+mixed_can_restore journal first state later can further config bytes kept idle =
+    let known = known_kept first further can.known in grind arith

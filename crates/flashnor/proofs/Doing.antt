@@ -1,4 +1,4 @@
--- Lemmas about the results of sessions and of `read_out`, with the request and the included addresses of the job.
+-- Lemmas: the promises of sessions and reads imply those of a job (`HasMadeChange`, `ChangesChip`, `DoesRead`).
 use Rattle.std.proofs.Common.{◌≡◌, ◌≤◌, ℕ, List, Option, None, Result, Ok, Err, IfOk, IsOk, MatchResult, OnErr, arith}
 use Rattle.std.proofs.Common.{false, true}
 use Rattle.std.specs.Borrow.{Bor}
@@ -72,10 +72,10 @@ module _ (request : Request) (image : List ℕ) (old new : BusState) (vault vaul
     sealed = sealed;
     same = same only_reads;
     undo = undo;
-    over = λ opened written. record {
+    over = λ opened written further. record {
       same = λ unsealed. same_over old.chip new.chip opened.chip (same only_reads unsealed) written;
       back = λ sealed telling journal sound read.
-          session_over request image old new opened vault' journal modelled is telling (undo sealed) sound read written;
+          session_over request image old new opened vault' journal modelled is telling (undo sealed) sound read written further;
     };
   }
 

@@ -95,7 +95,7 @@ module _ (job : ChipJob) (held : Held) (s0 s1 s2 : FilesState) (bus bus' : BusSt
         is_amid.status
 
     over : (image status : Found) (later : BusState) → MayFind job.programmer.image read.bytes.found image s3
-        → MayFind job.programmer.status read.status.found status s3 → IsOpenedFrom image status bus.chip.config later.chip
+        → MayFind job.programmer.status read.status.found status s3 → IsOpenedFrom image status bus.chip.config later
         → IsWrittenOver bus.chip bus'.chip later.chip
     over image status later can can_status from =
         let holds = opens.holds in
@@ -152,7 +152,7 @@ module _ (job : ChipJob) (held : Held) (s0 s1 s2 : FilesState) (bus bus' : BusSt
             sound = saves.saves.is;
             left = λ any can. (in_file.durable is).leaves any can ∙ ap Some saves.is;
             back = λ i s later can can_s from.
-                (made.done.over later (over i s later can can_s from)).back is in_file.telling saves.content
+                (made.done.over later (over i s later can can_s from) (from.further ∙ sym opens.ready.further)).back is in_file.telling saves.content
                 saves.saves.is saves.is;
           },
           rw saves.is at (in_file.durable is),
@@ -175,7 +175,8 @@ module _ (job : ChipJob) (held : Held) (s0 s1 s2 : FilesState) (bus bus' : BusSt
           status = status_whole;
           first = first;
           sealed = made.vault'.sealed;
-          same = λ is i s later can can_s from. (made.done.over later (over i s later can can_s from)).same is;
+          same = λ is i s later can can_s from.
+              (made.done.over later (over i s later can can_s from) (from.further ∙ sym opens.ready.further)).same is;
           back = λ is. (restorable_kept file made in_file is).0;
         })
     keeps_change (uses.Rehearse stops) keeps stay' one other traced made = absurd cc
@@ -201,7 +202,8 @@ module _ (job : ChipJob) (held : Held) (s0 s1 s2 : FilesState) (bus bus' : BusSt
           stays = stays_on (are_held.stay journal.now)
               (stays_on (call_stays None stay' journal.now not tt) (file_stays journal one other));
           back = λ chip can i s later left left_status from.
-              does.restored.over chip later can (over i s later left left_status from);
+              does.restored.over chip later can (over i s later left left_status from)
+              (from.further ∙ sym opens.ready.further);
         })
     keeps_files _ named outcome puts stay' one other traced does = absurd cc
 

@@ -25,8 +25,9 @@ pub steady_or_idle-ready : (programmer : Programmer) (bus : BusState) → IsRead
 steady_or_idle-ready programmer bus ready = inr ready.idle
 
 shows : (programmer : Programmer) (bus : BusState) (part : Part) → IsReady programmer bus
-    → shown_as bus.chip.config ≡ Ok part → emulated_part programmer.chip ≡ part
+    → shown_as bus.further bus.chip.config ≡ Ok part → emulated_part programmer.chip ≡ part
 shows programmer bus part ready shown =
+    let plain = rw ready.further at shown in
     cc (shown_with programmer.chip programmer.unique bus.chip.config ready.config)
 
 pub finds_ready : (programmer : Programmer) (named : Option ChipName) (old new : BusState) (found : Found)
@@ -39,7 +40,9 @@ finds_ready programmer named old new found ready name finds =
 pub refuses_ready : (programmer : Programmer) (named : Option ChipName) (old new : BusState) (fault : ProbeFault)
     → IsReady programmer old → ProbeErrors named old new fault → FindRefuses programmer named (of_probe fault)
 refuses_ready programmer named old new fault ready errors =
-    grind (arith, shows, shown_with programmer.chip programmer.unique old.chip.config ready.config)
+    let shown : shown_as old.further old.chip.config ≡ Ok (emulated_part programmer.chip) =
+    rw ready.further (shown_with programmer.chip programmer.unique old.chip.config ready.config) in
+    grind (arith, shows)
 
 pub opens_held : (programmer : Programmer) (content : Content) (allowed : ℕ) (first last : BusState)
     → HoldsFiles programmer content first → allowed ≡ allowance_of programmer
@@ -51,9 +54,9 @@ pub same_after_reads : (most : ℕ) (old new : BusState) → OnlyReads most old 
 same_after_reads most old new only_reads honest steady_or_idle = grind arith
 
 pub passes_probe : (named : Option ChipName) (old new : BusState) (found : Found)
-    → IsModelled old → new.honest ≡ old.honest → IsWanted named found.name → Finds old new found
-    → Passes named old new
-passes_probe named old new found modelled honest name finds = grind arith
+    → IsModelled old → new.honest ≡ old.honest → new.further ≡ old.further → IsWanted named found.name
+    → Finds old new found → Passes named old new
+passes_probe named old new found modelled honest further name finds = grind arith
 
 pub passes_none : (bus : BusState) → IsModelled bus → IsSteadyOrIdle bus → Passes None bus bus
 passes_none bus modelled steady_or_idle = grind arith

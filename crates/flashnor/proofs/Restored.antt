@@ -1,5 +1,5 @@
--- On a modelled bus that is steady or idle, the result of a restore follows from what `restore` promises on every bus.
-use Rattle.std.proofs.Common.{◌∙◌, Option, None, Some, Result, Ok, Err, inl, inr, true}
+-- On a modelled bus that is steady or idle, the promise of `restore_named` implies `HasRestoredEmulated`.
+use Rattle.std.proofs.Common.{◌∙◌, Option, None, Some, Result, Ok, Err, inl, inr, sym, true}
 use Rattle.nor_model.specs.Bus.{BusState}
 use Rattle.nor_driver.specs.OnlyReads.{IsSteadyOrIdle, OnlyReads}
 use Rattle.nor_journal.specs.Text.{Content as Journal}
@@ -32,7 +32,8 @@ passes_named : (named : Option ChipName) (old found : BusState) → IsModelled o
 passes_named None old found modelled steady_or_idle same = rw same (passes_none old modelled steady_or_idle)
 passes_named (Some name) old found modelled steady_or_idle is =
     let has = has_found (Some name) old found is.0 is.1 in
-    passes_probe (Some name) old found is.0 modelled has.always.only_reads.nature.honest has.always.wanted
+    passes_probe (Some name) old found is.0 modelled has.always.only_reads.nature.honest
+    has.always.only_reads.nature.further has.always.wanted
     (has.honest modelled.honest).finds
 
 module _ (journal : Journal) (named : Option ChipName) (old new : BusState) (modelled : IsModelled old)
@@ -49,8 +50,9 @@ module _ (journal : Journal) (named : Option ChipName) (old new : BusState) (mod
         config = same.config;
         name = tt;
         returned = inr (has.fault, has.is, (has.honest modelled.honest).errors);
-        over = λ first opened can. restore_over journal first old new opened can
-            (can_restore_after_reads journal first most_probe old new modelled.honest has.always.only_reads can);
+        over = λ first opened can written kept. restore_over journal first old new opened can
+            (can_restore_after_reads journal first most_probe old new modelled.honest has.always.only_reads can) written
+            (kept ∙ sym has.always.only_reads.nature.further);
         back = tt;
       }
 
@@ -65,9 +67,10 @@ module _ (journal : Journal) (named : Option ChipName) (old new : BusState) (mod
     config = done.leaves.config ∙ passes.same.config;
     name = passes.name;
     returned = rw passed done.done;
-    over = λ first opened can. restore_over journal first old new opened can
+    over = λ first opened can written kept. restore_over journal first old new opened can
         (original.within first
-        (can_restore_after_reads journal first most_probe old found modelled.honest only_reads can));
+        (can_restore_after_reads journal first most_probe old found modelled.honest only_reads can)) written
+        (kept ∙ sym (always.spends.nature.further ∙ only_reads.nature.further));
     back = λ first can. original.back first
         (can_restore_after_reads journal first most_probe old found modelled.honest only_reads can);
   }
@@ -82,9 +85,10 @@ module _ (journal : Journal) (named : Option ChipName) (old new : BusState) (mod
       same = λ judged.
           same_after_reads 69638 _ _ (always.only_reads judged) passes.modelled.honest passes.steady_or_idle;
     });
-    over = λ first opened can. restore_over journal first old new opened can
+    over = λ first opened can written kept. restore_over journal first old new opened can
         (original.within first
-        (can_restore_after_reads journal first most_probe old found modelled.honest only_reads can));
+        (can_restore_after_reads journal first most_probe old found modelled.honest only_reads can)) written
+        (kept ∙ sym (always.spends.nature.further ∙ only_reads.nature.further));
     back = tt;
   })
   ran found _ _ only_reads passes original always done passed = absurd passed

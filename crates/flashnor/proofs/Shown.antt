@@ -1,5 +1,5 @@
 -- The configuration of an emulated chip with any unique ID, and the chip type that is found for this configuration.
-use Rattle.std.proofs.Common.{◌≡◌, ◌∙◌, List, ℕ, Option, Ok, sym, arith}
+use Rattle.std.proofs.Common.{◌≡◌, ◌∙◌, List, ℕ, false, Option, Ok, sym, arith}
 use Rattle.nor_model.specs.declared.config.Config.{Config}
 use Rattle.nor_probe.specs.Known.{IsKnown, shown_as}
 use Rattle.nor_probe.proofs.Emulated.{emulated_known, emulated_shown, renumbered_known, renumbered_shown}
@@ -19,8 +19,8 @@ module _ (chip : Emulated) (number : Option (List ℕ)) (config : Config) (is : 
   abbrev plain : Config
   plain = record config { unique = made.0 }
 
-  pub known_with : IsKnown config
-  known_with = renumbered_known plain config.unique (emulated_known plain (chip.part, chip.emulated, made.1))
+  pub known_with : IsKnown false config
+  known_with = renumbered_known false plain config.unique (emulated_known plain (chip.part, chip.emulated, made.1))
 
-  pub shown_with : shown_as config ≡ Ok (emulated_part chip)
-  shown_with = sym (renumbered_shown config made.0) ∙ emulated_shown chip.part plain chip.emulated made.1
+  pub shown_with : shown_as false config ≡ Ok (emulated_part chip)
+  shown_with = sym (renumbered_shown false config made.0) ∙ emulated_shown chip.part plain chip.emulated made.1

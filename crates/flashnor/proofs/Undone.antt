@@ -117,7 +117,7 @@ module _ (programmer : Programmer) (file : Text) (start : FilesState) (first : O
           same_with programmer.chip programmer.unique found.bus.chip.config first.bus.chip.config
           (rw (← same.chip, ← same.unique) found.opens.ready.config) first.opens.ready.config
 
-      from : IsOpenedFrom found.read.bytes.found found.read.status.found first.bus.chip.config found.bus.chip
+      from : IsOpenedFrom found.read.bytes.found found.read.status.found first.bus.chip.config found.bus
       from = grind (arith, one_setup, opened_size found)
 
       can_restore_then : (journal : Journal) → IsContent journal → IsRead mid.view file 16793662 (text journal)
@@ -133,7 +133,7 @@ module _ (programmer : Programmer) (file : Text) (start : FilesState) (first : O
         (kept : LeavesRestorable other file mid new) (image status : Found) (later : BusState)
         (can_image : MayFind programmer.image first.read.bytes.found image new)
         (can_status : MayFind programmer.status first.read.status.found status new)
-        (is : IsOpenedFrom image status first.bus.chip.config later.chip) where
+        (is : IsOpenedFrom image status first.bus.chip.config later) where
       abbrev found : Opened other mid
       found = kept.found
 
@@ -176,11 +176,12 @@ module _ (programmer : Programmer) (file : Text) (start : FilesState) (first : O
             bytes = λ a. refl;
             kept = refl;
             idle = is.idle;
+            further = is.further;
           }))
 
       can_later : CanRestore restorable.journal first.bus.chip later
       can_later =
-          mixed_can_restore restorable.journal first.bus.chip state later can_state is.config
+          mixed_can_restore restorable.journal first.bus.chip state later can_state refl is.config
           (λ a. grind (arith, kept_image.3, setup, is.bytes a, first_byte)) (grind (arith, kept_status.3, is.kept, first_kept))
           is.idle
 

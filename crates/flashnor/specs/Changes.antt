@@ -1,5 +1,5 @@
 -- The results of the jobs that change a chip, and of rehearsals.
-use Rattle.std.specs.Prelude.{◌≡◌, ◌≤◌, ◌/◌, ◌⊎◌, ℕ, List, Option, None, Some, Result, false, true, drop, length}
+use Rattle.std.specs.Prelude.{◌≡◌, ◌≤◌, ◌/◌, ◌⊎◌, ℕ, Bool, List, Option, None, Some, Result, false, true, drop, length}
 use Rattle.std.specs.Prelude.{IsOk, MatchResult, OnOk, ⊤}
 use Rattle.nor_model.specs.Bus.{BusState}
 use Rattle.nor_model.specs.Chip.{Chip, IsSame}
@@ -38,15 +38,16 @@ abbrev pub ReportsChange : Request → List ℕ → (old new : BusState) → Ans
 ReportsChange request image old new (answer.Done report) = IsDone request image old new report
 ReportsChange request image old new _ = ⊥
 
--- Holds if a session may return this error. Errors 1 to 11 leave the chip as it was, errors 1 to 8 also the vault.
+-- Holds if a session on a modelled bus may return this error. Errors 1 to 11 leave the chip as it was, and errors 1 to
+-- 8 also leave the vault as it was.
 pub record FailsSession (request : Request) (image : List ℕ) (old new : BusState)
     (vault vault' : VaultState) (refusal : Refusal) : Type 0 where
   pub refuses : SessionErrors request image old new vault vault' refusal
   pub same : refusal_number refusal ≤ 11 → IsSame old.chip new.chip
   pub unused : refusal_number refusal ≤ 8 → vault' ≡ vault
 
--- Holds if the chip that a later run opens is the original chip, unless the vault is sealed. If the vault is sealed and
--- faithful (`telling`), its journal must be able to restore the original chip.
+-- If the vault isn't sealed: holds if the chip that a later run opens (`opened`) is the original chip. If it is sealed:
+-- holds if the journal of a faithful (`telling`) vault can restore the original chip from `opened`.
 pub record IsSafe (old opened : BusState) (vault : VaultState) : Type 0 where
   pub same : vault.sealed ≡ false → IsSame old.chip opened.chip
   pub back : vault.sealed ≡ true → vault.telling ≡ true
@@ -61,33 +62,38 @@ pub record HasKeptChange (request : Request) (image : List ℕ) (old new : BusSt
   pub sealed : IsOk outcome → vault'.sealed ≡ true
   pub same : vault'.sealed ≡ false → IsSame old.chip new.chip
   pub undo : vault'.sealed ≡ true → CanBeUndone request image old new vault'
-  pub over : (opened : BusState) → IsWrittenOver old.chip new.chip opened.chip → IsSafe old opened vault'
+  pub over : (opened : BusState) → IsWrittenOver old.chip new.chip opened.chip → opened.further ≡ old.further
+      → IsSafe old opened vault'
 
--- Holds if a rehearsal of this request may have this result, with `chip` as before and `vault` as after the rehearsal.
-pub record IsRehearsed (request : Request) (image stops : List ℕ) (chip : Chip)
+-- Holds if a rehearsal of this request on `chip` may have this result, on a bus with or without further types. `vault`
+-- is the vault after the rehearsal.
+pub record IsRehearsed (further : Bool) (request : Request) (image stops : List ℕ) (chip : Chip)
     (vault : VaultState) (rehearsal : Rehearsal) : Type 0 where
   pub counts : IsRehearsal (length stops) vault rehearsal
   pub ended : most_of (chip.config.size / 4096) ≤ first_allowance stops → rehearsal.ended ≡ true
-  pub enough : rehearsal.ended ≡ true → CanEnd request image (first_allowance stops) chip
-  pub fits : SealFits request (first_allowance stops) chip rehearsal.sealed
-  pub accepted : rehearsal.sealed ≡ true → IsAccepted request image chip
+  pub enough : rehearsal.ended ≡ true → CanEnd further request image (first_allowance stops) chip
+  pub fits : SealFits further request (first_allowance stops) chip rehearsal.sealed
+  pub accepted : rehearsal.sealed ≡ true → IsAccepted further request image chip
   pub saves : rehearsal.sealed ≡ true
       → JournalSaves (header_of chip) chip.bytes (is_touched chip.bytes (wanted request image chip)) vault.bytes
   pub restores : rehearsal.sealed ≡ true
       → AreRestores (sector_count (is_touched chip.bytes (wanted request image chip))) (drop 1 stops) rehearsal.restores
 
-abbrev pub ReportsRehearsal : Request → (image stops : List ℕ) → Chip → VaultState → Answer → Type 0
-ReportsRehearsal request image stops chip vault (answer.Rehearsed rehearsal) =
-    IsRehearsed request image stops chip vault rehearsal
-ReportsRehearsal request image stops chip vault _ = ⊥
+abbrev pub ReportsRehearsal : (further : Bool) → Request → (image stops : List ℕ) → Chip → VaultState → Answer
+    → Type 0
+ReportsRehearsal further request image stops chip vault (answer.Rehearsed rehearsal) =
+    IsRehearsed further request image stops chip vault rehearsal
+ReportsRehearsal further request image stops chip vault _ = ⊥
 
 pub record HasRehearsed (request : Request) (image stops : List ℕ) (old new : BusState) (vault vault' : VaultState)
     (outcome : Result Answer Refusal) : Type 0 where
   pub same : IsSame old.chip new.chip
-  pub returned : MatchResult outcome (ReportsRehearsal request image stops old.chip vault')
-      (RehearsalErrors request image old.chip vault vault')
+  pub returned : MatchResult outcome (ReportsRehearsal old.further request image stops old.chip vault')
+      (RehearsalErrors old.further request image old.chip vault vault')
 
--- Holds if lawful files keep `vault'` in the journal's file, or if the vault of a rehearsal is faithful (`telling`).
+-- For a journal in a file: holds if `vault'` is faithful (`telling`), and this file has its bytes, which are durable
+-- once it is sealed (`IsKeptFile`), or if the files don't obey their contract. For a rehearsal: holds if `vault` is
+-- faithful.
 abbrev pub IsKeptIn : JournalUse → (vault vault' : VaultState) → FilesState → Type 0
 IsKeptIn (uses.Journal file) vault vault' files =
     is_lawful files.view ≡ true → IsKeptFile file.now vault' files
@@ -123,18 +129,18 @@ pub record RestoreRefuses (journal : Journal) (old new : BusState) (refusal : Re
   pub refuses : RestoreErrors journal old new refusal
   pub same : IsCheckedFirst refusal → IsSame old.chip new.chip
 
-abbrev pub HasGivenName : Option ChipName → Chip → Type 0
-HasGivenName None chip = ⊤
-HasGivenName (Some name) chip = IsNamed (Some name) chip.config
+abbrev pub HasGivenName : (further : Bool) → Option ChipName → Chip → Type 0
+HasGivenName further None chip = ⊤
+HasGivenName further (Some name) chip = IsNamed further (Some name) chip.config
 
 pub record Passes (named : Option ChipName) (old new : BusState) : Type 0 where
   pub same : IsSame old.chip new.chip
   pub modelled : IsModelled new
   pub steady_or_idle : IsSteadyOrIdle new
-  pub name : HasGivenName named old.chip
+  pub name : HasGivenName old.further named old.chip
 
--- Holds if a restore, after a check of the name, may have this outcome. Even if writing to the chip's files is
--- interrupted, the journal can restore each original chip that it could restore before.
+-- Holds if a restore that first checks the chip's name, if a name is given, may have this outcome. Even if writing to
+-- the chip's files is interrupted, the journal can restore each original chip that it could restore before.
 pub record HasRestoredEmulated (journal : Journal) (named : Option ChipName) (old new : BusState)
     (outcome : Result Answer Refusal) : Type 0 where
   -- the bus after the identification that checks the name or, if no name is given, the bus before the restore
@@ -142,9 +148,9 @@ pub record HasRestoredEmulated (journal : Journal) (named : Option ChipName) (ol
   pub only_reads : OnlyReads most_probe old found
   pub same : IsSame old.chip found.chip
   pub config : new.chip.config ≡ old.chip.config
-  pub name : OnOk outcome (HasGivenName named old.chip)
+  pub name : OnOk outcome (HasGivenName old.further named old.chip)
   pub returned : MatchResult outcome (ReportsRestore journal found new)
       (λ refusal. RestoreRefuses journal found new refusal ⊎ ProbeRefuses named old new refusal)
   pub over : (first : Chip) (opened : BusState) → CanRestore journal first old
-      → IsWrittenOver old.chip new.chip opened.chip → CanRestore journal first opened
+      → IsWrittenOver old.chip new.chip opened.chip → opened.further ≡ old.further → CanRestore journal first opened
   pub back : OnOk outcome ((first : Chip) → CanRestore journal first old → IsSame first new.chip)

@@ -1,5 +1,5 @@
 -- The emulated chip that a run opens, and the bus to it.
-use Rattle.std.specs.Prelude.{◌≡◌, ◌⊎◌, ◌/◌, ◌%◌, ◌==◌, ◌∷◌, [], ℕ, List, true, Option, Some, None, IsSomeAnd}
+use Rattle.std.specs.Prelude.{◌≡◌, ◌⊎◌, ◌/◌, ◌%◌, ◌==◌, ◌∷◌, [], ℕ, List, true, false, Option, Some, None, IsSomeAnd}
 use Rattle.std.specs.Prelude.{is_none, replicate, slice_index, unwrap_or}
 use Rattle.std.specs.Borrow.{Bor}
 use Rattle.nor_model.specs.Bus.{BusState}
@@ -31,8 +31,8 @@ IsConfigWith chip (Some unique) config =
 abbrev pub allowance_of : Programmer → ℕ
 allowance_of programmer = unwrap_or programmer.stop 18446744073709551615
 
--- Holds if the bus is well-behaved and punctual with the allowance of `stop=`, its emulated chip is idle, and nothing
--- that may modify a chip was sent over the bus. The bus is steady if and only if `power=` is missing.
+-- Holds if the bus is well-behaved and punctual with the allowance of `stop=`, has no further types, its emulated chip
+-- is idle, and nothing that may modify a chip was sent. The bus is steady if and only if `power=` is missing.
 pub record IsReady (programmer : Programmer) (bus : BusState) : Type 0 where
   pub config : IsConfigWith programmer.chip programmer.unique bus.chip.config
   pub idle : bus.chip.busy ≡ 0
@@ -40,6 +40,7 @@ pub record IsReady (programmer : Programmer) (bus : BusState) : Type 0 where
   pub honest : bus.honest ≡ true
   pub punctual : bus.punctual ≡ true
   pub steady : bus.steady ≡ is_none programmer.power
+  pub further : bus.further ≡ false
   pub unsent : bus.sent ≡ []
 
 -- Holds if a run reads `content` from the chip's files. A missing image is all FFh, a missing status file two zeros.
@@ -62,12 +63,13 @@ pub record HoldsFiles (programmer : Programmer) (content : Content) (bus : BusSt
   pub idle : bus.chip.busy ≡ 0
   pub honest : bus.honest ≡ true
   pub punctual : bus.punctual ≡ true
+  pub further : bus.further ≡ false
   pub unsent : bus.sent ≡ []
   pub bytes : (a : ℕ) → bus.chip.bytes a ≡ slice_index content.bytes.items a
   pub kept : bus.chip.kept ≡ kept_in content.status
   pub latch : bus.chip.latch ≡ (slice_index content.status 0 / 2 % 2 == 1)
 
--- Holds if the simulated bus is ready with this content on its chip, the delay of `busy=` and the byte of `power=`.
+-- Holds if the bus is ready (`IsReady`), its chip has this content, and the bus has the values of `busy=` and `power=`.
 pub record StartsBus (programmer : Programmer) (content : Content) (bus : SimBus) : Type 0 where
   pub opens : OpensChip programmer content (sim_state bus)
   pub pace : pace_of bus ≡ unwrap_or programmer.busy 0
@@ -83,8 +85,8 @@ FailsToHold view programmer fault = (fault ≡ end.Refused Memory)
     ⊎ (IsSomeAnd programmer.image (λ name. IsLockingFault view name.now (emulated_part programmer.chip).size fault)
     ⊎ IsSomeAnd programmer.status (λ name. IsLockingFault view name.now 2 fault))
 
--- Holds if the chip's bytes and status bytes are durably in its files (if the files obey their contract), except in the
--- files `image` and `status`, which could not be written.
+-- Holds if the chip's bytes and status bytes are durable in the chip's files (or the files don't obey their contract).
+-- `image` and `status`, if given, name the exceptions: files that could not be written.
 pub record AreWrittenBack (programmer : Programmer) (chip : Chip) (image status : Option (Bor Text))
     (files : FilesState) : Type 0 where
   pub bytes : List ℕ

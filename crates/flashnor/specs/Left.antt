@@ -15,20 +15,23 @@ use Rattle.flashnor.specs.Chips.{IsContentOf, OpensChip}
 use Rattle.nor_console.specs.Stored.{IsNot, IsRead, LeavesNoMoreOf}
 use Rattle.flashnor.specs.declared.chips.Content.{Content}
 
--- Holds if a host crash may leave `found`, or if `found` is `None` and the file was missing at first or isn't named.
+-- Holds if a later run may find the contents `found` of this file (`None` if it is missing): if a host crash may leave
+-- `found`, or if `found` is `None` and the file was missing at first. For an unnamed file, `found` must be `None`.
 abbrev pub MayFind : Option (Bor Text) → (was found : Found) → FilesState → Type 0
 MayFind None was found files = found ≡ None
 MayFind (Some name) was found files = files.may_leave name.now found ⊎ ((was ≡ None) × (found ≡ None))
 
--- Holds if `chip` is idle, has the configuration `setup`, and has the bytes of `image` (FFh if `None`) and the
--- non-volatile status bits of `status` (zeros if `None`), and if `image` and `status` have the right lengths.
-pub record IsOpenedFrom (image status : Found) (setup : Config) (chip : Chip) : Type 0 where
-  pub config : chip.config ≡ setup
+-- Holds if the bus has no further types, and its chip is idle and has the configuration `setup`, the bytes of `image`
+-- (FFh if `None`) and the non-volatile status bits of `status` (zeros if `None`). Also, `image` and `status` have the
+-- right lengths.
+pub record IsOpenedFrom (image status : Found) (setup : Config) (bus : BusState) : Type 0 where
+  pub config : bus.chip.config ≡ setup
   pub whole : IfSome image (λ bytes. length bytes ≡ setup.size)
   pub two : IfSome status (λ bits. length bits ≡ 2)
-  pub bytes : (a : ℕ) → chip.bytes a ≡ slice_index (unwrap_or image (replicate setup.size 255)) a
-  pub kept : chip.kept ≡ kept_in (unwrap_or status (0 ∷ 0 ∷ []))
-  pub idle : chip.busy ≡ 0
+  pub bytes : (a : ℕ) → bus.chip.bytes a ≡ slice_index (unwrap_or image (replicate setup.size 255)) a
+  pub kept : bus.chip.kept ≡ kept_in (unwrap_or status (0 ∷ 0 ∷ []))
+  pub idle : bus.chip.busy ≡ 0
+  pub further : bus.further ≡ false
 
 abbrev pub LeavesOneJournal : (file : Text) → Journal → FilesState → Type 0
 LeavesOneJournal file journal files = (left : Found) → files.may_leave file left → left ≡ Some (text journal)
@@ -46,7 +49,7 @@ abbrev pub LeavesOnly : {programmer : Programmer} {old : FilesState} → Opened 
 LeavesOnly {programmer} first Is files = (image status : Found) (opened : BusState)
     → MayFind programmer.image first.read.bytes.found image files
     → MayFind programmer.status first.read.status.found status files
-    → IsOpenedFrom image status first.bus.chip.config opened.chip → Is opened
+    → IsOpenedFrom image status first.bus.chip.config opened → Is opened
 
 -- Holds if a host crash always leaves the same valid journal in `file`, and this journal can restore the original chip
 -- (the chip of `first`) from every chip that a later run may open (`LeavesOnly`).
@@ -81,7 +84,8 @@ pub record LeavesOriginalRestorable (programmer : Programmer) (file : Text) (old
   pub same : sealed ≡ false → LeavesOnly first (λ opened. IsSame first.bus.chip opened.chip) new
   pub back : sealed ≡ true → IsRestorableFrom file first new
 
--- Holds if a host crash can leave only what it could before, any trace, and an empty file for a missing journal.
+-- Holds if a host crash can leave of each file only what it could leave before. There are two exceptions: the trace may
+-- have any contents, and a journal's file that was missing may be empty.
 pub record LeavesAll (programmer : Programmer) (file : Text) (old new : FilesState) : Type 0 where
   pub image : LeavesNoMoreOf programmer.image old new
   pub status : LeavesNoMoreOf programmer.status old new
@@ -114,7 +118,8 @@ pub record LeavesRestorable (programmer : Programmer) (file : Text) (old new : F
   pub stays : KeepsFile file old new
   pub back : (first : Chip) → CanRestore journal first found.bus → LeavesOnly found (CanRestore journal first) new
 
--- Holds if only what `LeavesSources` allows changed, or if the journal can still restore (`LeavesRestorable`).
+-- Holds if only what `LeavesSources` allows changed, or if the journal in `file` can still restore each chip that it
+-- could restore before (`LeavesRestorable`).
 abbrev pub KeepsRestorable : Programmer → (file : Text) → (old new : FilesState) → Type 0
 KeepsRestorable programmer file old new =
     LeavesSources programmer file old new ⊎ LeavesRestorable programmer file old new

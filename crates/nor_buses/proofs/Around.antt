@@ -27,6 +27,7 @@ nature_around nature = record {
   unlimited = nature.unlimited;
   longer = nature.longer;
   punctual = refl;
+  further = nature.further;
   config = nature.config;
 }
 
@@ -107,6 +108,7 @@ module _ {out : List ℕ} {a b : BusState} {h h' : List Exchange} where
       unlimited = nature.unlimited;
       longer = nature.longer;
       punctual = refl;
+      further = nature.further;
       config = nature.config;
     };
     stops = λ fits. on_err_weaker outcome stops_beside (stops (beside_fits fits));
@@ -167,6 +169,7 @@ transfers_unsteady {out} {before} {answer} {a} {b} {h} {h'} outcome nature stops
       unlimited = nature.unlimited;
       longer = nature.longer;
       punctual = nature.punctual;
+      further = nature.further;
       config = nature.config;
     })
     (λ fits. stops (fits_unsteady {inside = a} fits))
@@ -257,6 +260,7 @@ transfers_splits out before answer a b h h' wide wide' sends receives receives' 
         unlimited = refl;
         longer = longer_same receives receives' a b kept nature;
         punctual = nature.punctual;
+        further = nature.further;
         config = λ honest. nature.config (and_parts a.honest wide honest).0;
       };
       stops = λ fits.

@@ -1,4 +1,4 @@
--- Lemmas on the block of a `ReadAhead` over a well-behaved bus: its bytes are those that the chip returns if they are
+-- Lemmas on the block of a `ReadAhead` if `takes_blocks` is true: its bytes are those that the chip returns if they are
 -- read again.
 use Rattle.std.proofs.Common.{◌≡◌, ◌∙◌, ◌<◌, ◌≤◌, ◌+◌, ◌-◌, ◌*◌, ◌/◌, ◌%◌, ◌++◌, ◌&&◌, ◌||◌, ℕ, zero, suc, Bool, true, false, List, [], ◌∷◌, length, refl, sym, ap, subst, arith, inl, inr, length-drop}
 use Rattle.std.specs.Prelude.{◌==◌, Result, Ok, Err, OnOk, OnErr, nat_le, take, drop, slice_index, if◌then◌else◌}
@@ -186,6 +186,7 @@ transfers_ahead out before answer a b h h' longest longest' outcome same nature 
     unlimited = nature.unlimited;
     longer = nature.longer;
     punctual = refl;
+    further = nature.further;
     config = λ honest. nature.config (and_parts a.honest (a.unlimited || nat_le longest (4096 + a.longer)) honest).0;
   };
   stops = λ fits. on_err_weaker outcome (stops_ahead out a b h h' longest longest') (stops fits);

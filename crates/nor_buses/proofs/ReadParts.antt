@@ -25,6 +25,7 @@ nature_then old mid new one two = record {
   unlimited = two.unlimited ∙ one.unlimited;
   longer = two.longer ∙ one.longer;
   punctual = two.punctual ∙ one.punctual;
+  further = two.further ∙ one.further;
   config = λ honest. two.config (one.honest ∙ honest) ∙ one.config honest;
 }
 
@@ -32,6 +33,7 @@ pub record_then : (old mid new : BusState) → KeepsRecord old mid → KeepsReco
 record_then old mid new one two = record {
   sent = two.sent ∙ one.sent;
   allowances = two.allowances ∙ one.allowances;
+  further = two.further ∙ one.further;
   polled_ready = two.polled_ready ∙ one.polled_ready;
 }
 

@@ -31,6 +31,7 @@ nature_only {fits} {fits'} {a} {b} nature same = record {
   unlimited = nature.unlimited;
   longer = nature.longer;
   punctual = nature.punctual;
+  further = nature.further;
   config = λ honest. nature.config (and_parts a.honest fits honest).0;
 }
 

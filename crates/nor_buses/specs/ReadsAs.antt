@@ -1,4 +1,4 @@
--- Reads of data, and the state of a bus that replaces them by other reads of the bus inside.
+-- Reads of data, and the states of buses that wrap another bus, the bus inside.
 use Rattle.std.specs.Prelude.{◌≡◌, ◌<◌, ◌≤◌, ◌==◌, ◌+◌, ◌-◌, ◌*◌, ℕ, Bool, true, false, List, [], ◌∷◌, length, take, drop}
 use Rattle.nor_model.specs.Bus.{BusState, unknown_bus}
 use Rattle.nor_model.specs.Exchange.{Exchange}
@@ -21,8 +21,8 @@ part bytes at n = take n (drop at bytes)
 abbrev pub around : (inside : BusState) → (history : List Exchange) → BusState
 around inside history = record inside { history = history; punctual = false }
 
--- The state of a bus with its own history and the chip of the bus inside. The modifying commands and the result of the
--- last poll are those of this history.
+-- The state of a bus with its own history and the chip of the bus inside. The transactions that may modify the chip
+-- and the result of the last poll are those of this history.
 abbrev pub beside : (inside : BusState) → (history : List Exchange) → BusState
 beside inside history = record (unknown_bus history) {
   chip = inside.chip;
@@ -34,10 +34,11 @@ beside inside history = record (unknown_bus history) {
   further = inside.further;
 }
 
--- Holds if the transactions that may modify the chip, the allowances and the result of the last poll are as they were.
+-- Holds if the transactions of `sent`, the allowances, `further` and the result of the last poll are as they were.
 pub record KeepsRecord (old new : BusState) : Type 0 where
   pub sent : new.sent ≡ old.sent
   pub allowances : new.allowances ≡ old.allowances
+  pub further : new.further ≡ old.further
   pub polled_ready : new.polled_ready ≡ old.polled_ready
 
 abbrev pub last_out : List Exchange → List ℕ

@@ -1,4 +1,4 @@
--- The results of an identification on any bus. It is a whole job, or precedes another call to the engine.
+-- The results of an identification on any bus, as a whole job or before another call to the engine.
 use Rattle.std.specs.Prelude.{◌≡◌, true, Option, None, Some, Result, Ok, Err, IfOk}
 use Rattle.nor_model.specs.Bus.{BusState}
 use Rattle.nor_probe.specs.Found.{IsConfigOf, ProbeAlways, ProbeHonest}
@@ -23,7 +23,7 @@ pub record HasIdentified (named : Option ChipName) (old new : BusState) (result 
   pub probed : Result Found ProbeFault
   pub always : ProbeAlways named old new probed
   pub honest : old.honest ≡ true → ProbeHonest named old new probed
-  pub modelled : IsModelled old → IfOk probed (IsConfigOf old.chip.config)
+  pub modelled : IsModelled old → IfOk probed (IsConfigOf old.further old.chip.config)
   pub returned : IsProbed probed result
 
 abbrev pub ReportsFound : Found → Answer → Type 0

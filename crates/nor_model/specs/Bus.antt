@@ -13,11 +13,12 @@ use Rattle.nor_model.specs.Step.{Step, done_of, wears}
 
 pub record BusState : Type 0 where
   pub chip : Chip
-  -- The number of transactions that a punctual bus will still carry out unless `allow` is called. Code can't read it.
+  -- How many transactions a well-behaved, punctual bus will still carry out unless `allow` is called. Code can't read
+  -- this number.
   pub left : ℕ
   -- Whether the bus is well-behaved. The trait `Bus` explains this and `steady`, `unlimited`, `longer` and `punctual`.
   pub honest : Bool
-  -- All transactions that the bus was asked to carry out, each with its reply, the last one first.
+  -- All transactions that the bus was asked to carry out, each with its reply or stop, the last one first.
   pub history : List Exchange
   -- The bytes of each transaction that the bus was asked to carry out and that may modify a chip, the last one first.
   pub sent : Sent
@@ -31,7 +32,7 @@ pub record BusState : Type 0 where
   pub punctual : Bool
   -- Whether the last poll that received at least one reply byte showed that the chip is ready.
   pub polled_ready : Bool
-  -- Whether the chip may be of a further type, which only programs for real chips know.
+  -- Whether the chip may be of a type in `further_chips` (nor_probe). Only programs for real chips identify these.
   pub further : Bool
 
 pub record SameNature (old new : BusState) : Type 0 where
@@ -40,6 +41,7 @@ pub record SameNature (old new : BusState) : Type 0 where
   pub unlimited : new.unlimited ≡ old.unlimited
   pub longer : new.longer ≡ old.longer
   pub punctual : new.punctual ≡ old.punctual
+  pub further : new.further ≡ old.further
   pub config : old.honest ≡ true → new.chip.config ≡ old.chip.config
 
 -- Holds for the states before and after any sequence of transactions on any bus.
@@ -49,6 +51,7 @@ pub record KeepsNature (old new : BusState) : Type 0 where
   pub unlimited : new.unlimited ≡ old.unlimited
   pub longer : new.longer ≡ old.longer
   pub punctual : new.punctual ≡ old.punctual
+  pub further : new.further ≡ old.further
   pub config : old.honest ≡ true → new.chip.config ≡ old.chip.config
   pub history : Continues old.history new.history
   pub allowances : new.allowances ≡ old.allowances
@@ -58,7 +61,7 @@ pub record IsHonestFor (out : List ℕ) (replies : ℕ) (bus : BusState) : Type 
   pub honest : bus.honest ≡ true
   pub fits : (bus.unlimited ≡ true) ⊎ ((length out ≤ 260) × (replies ≤ 4096 + bus.longer))
 
--- Holds after a transaction on any bus, even a faulty one, that ended with `outcome` and left `answer` in the buffer.
+-- Holds after a transaction that ended with `outcome` and left `answer` in the buffer, on any bus, even a faulty one.
 pub record Records (out answer : List ℕ) (outcome : Result Unit Stopped) (old new : BusState) : Type 0 where
   pub history : new.history ≡ exchange_of out answer outcome ∷ old.history
   pub sent : new.sent ≡ with_sent out old.sent

@@ -1,5 +1,5 @@
 //! The traits of a bus to a chip.
-ghost use Rattle.std.specs.Prelude.{◌≡◌, true, false};
+ghost use Rattle.std.specs.Prelude.{◌≡◌, true};
 ghost use Rattle.nor_model.specs.Chip.{IsChip};
 ghost use Rattle.nor_model.specs.Bus.{BusState, Transfers, Allows};
 
@@ -21,11 +21,11 @@ impl std::error::Error for Stopped {}
 ///
 /// Contracts see a bus as a `BusState`. Their clauses depend on these properties:
 ///
-/// - A *well-behaved* bus (`honest`) carries out each transaction that it takes as the modelled chip would, or stops.
-/// - A *punctual* bus stops if and only if it has no transaction left. Other buses may stop at any transaction.
-/// - If a *steady* bus stops, it sends no byte of the transaction and keeps the chip's power.
-/// - An *unlimited* bus takes transactions of any length. Any other well-behaved bus takes those that send at most 260
-///   bytes (a page program) and read at most 4,096 (a sector) plus `longer`.
+/// - A *well-behaved* bus (`honest`) stops at a transaction that it takes, or carries it out like the modelled chip.
+/// - A well-behaved bus is *punctual* if it stops when, and only when, it has no transaction left.
+/// - A well-behaved bus is *steady* if a stop sends no byte of the transaction and leaves the chip its power.
+/// - A well-behaved bus is *unlimited* if it takes transactions of any length (its contract covers them). Otherwise it
+///   takes those that send at most 260 bytes (a page program) and read at most 4,096 (a sector) plus `longer`.
 pub trait Bus {
     ghost state: { Self → BusState };
 
@@ -35,15 +35,14 @@ pub trait Bus {
         ensures { Transfers out.now reply.old reply.new result (state self.old) (state self.new) };
 
     /// Returns whether the chip may be of a further type, which only programs for real chips know. A bus to a real chip
-    /// returns true, a well-behaved bus false, and a bus that wraps another one what the inner bus returns.
+    /// must return true. A bus that wraps another bus returns what the inner bus returns. No transaction changes this.
     fn has_further_types(&self) -> bool
-        ensures further { result ≡ (state self.now).further }
-        ensures honest { (state self.now).honest ≡ true → result ≡ false };
+        ensures { result ≡ (state self.now).further };
 
     ghost reaches: { (bus : Self) → (state bus).honest ≡ true → IsChip (state bus).chip };
 }
 
-/// A bus with an allowance: the number of transactions that it carries out before it stops.
+/// A bus with an allowance: the number of transactions that a well-behaved, punctual bus carries out before it stops.
 pub trait Meter: Bus {
     /// Sets the allowance to `n` and records it. A well-behaved and punctual bus then has `n` transactions left.
     fn allow(&mut self, n: u64)

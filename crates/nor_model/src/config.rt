@@ -9,15 +9,15 @@ use nor_geometry::is_chip_size;
 pub const TINY64_SFDP: [u8; 52] = [
     0x53, 0x46, 0x44, 0x50, 0x00, 0x01, 0x00, 0xFF, // signature, revision 1.0, one header
     0x00, 0x00, 0x01, 0x09, 0x10, 0x00, 0x00, 0xFF, // basic table, nine double words, at 10h
-    0x05, 0x20, 0x00, 0x00, // 1: 4 KiB erase by 20h, pages of 64 bytes or more, three address bytes
-    0xFF, 0xFF, 0x07, 0x00, // 2: size in bits, minus one
-    0x00, 0x00, 0x00, 0x00, 0x00, 0x00, 0x00, 0x00, 0x00, 0x00, // 3 to 7
+    0x05, 0x20, 0x00, 0x00, // double word 1: 20h erases 4 KiB, pages of 64 bytes or more, 3 address bytes
+    0xFF, 0xFF, 0x07, 0x00, // double word 2: the chip's size in bits, minus one
+    0x00, 0x00, 0x00, 0x00, 0x00, 0x00, 0x00, 0x00, 0x00, 0x00, // double words 3 to 7
     0x00, 0x00, 0x00, 0x00, 0x00, 0x00, 0x00, 0x00, 0x00, 0x00, //
-    0x0C, 0x20, 0x0F, 0x52, // 8: erases of 4 KiB and 32 KiB
-    0x10, 0xD8, 0x00, 0x00, // 9: erases of 64 KiB
+    0x0C, 0x20, 0x0F, 0x52, // double word 8: 20h erases 4 KiB, 52h erases 32 KiB
+    0x10, 0xD8, 0x00, 0x00, // double word 9: D8h erases 64 KiB
 ];
 
-/// The erase types that a chip has besides 4 KiB (20h) and the whole chip (C7h), which every chip has.
+/// The erase types that a chip has besides 4 KiB (20h) and the whole chip (C7h), which every modelled chip has.
 #[derive(Clone, Copy, Debug, PartialEq, Eq)]
 pub struct Kinds {
     /// True if 52h erases 32 KiB.
@@ -94,7 +94,7 @@ impl Config {
     }
 
     /// Returns an emulated chip with these properties and a unique ID of zeros. `size` must be a power of two from
-    /// 65,536 to 16,777,216. The SFDP bytes describe all erase types, even those that `kinds` lacks.
+    /// 65,536 to 16,777,216. The SFDP bytes describe the erase types 20h, 52h and D8h, even those that `kinds` lacks.
     pub fn emulated(id: [u8; 3], size: u32, kinds: Kinds, scheme: bool) -> Config
         requires { IsTrue (is_chip_size size) }
         ensures { IsEmulatedWith id size kinds scheme result }

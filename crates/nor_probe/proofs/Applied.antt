@@ -5,22 +5,10 @@ use Rattle.std.proofs.lemmas.Bool.{eqb-true}
 use Rattle.std.proofs.lemmas.Slice.Eq.{bytes_eq-Decides}
 use Rattle.nor_model.specs.Size.{is_chip_size}
 use Rattle.nor_probe.specs.declared.table.Part.{Part}
-use Rattle.nor_probe.specs.Table.{chips, further_chips, part_with_id, further_with_id, row_or, part_for}
+use Rattle.nor_probe.specs.Table.{part_for}
 use Rattle.nor_probe.specs.Known.{is_no_chip}
 use Rattle.nor_probe.specs.Steps.{IsIdentified, reads_under}
-use Rattle.nor_probe.proofs.Configs.{found_has}
-
-module _ (holds : Part → Bool) (of_id : List ℕ) (part : Part) (all : list_all holds chips ≡ true)
-    (more : list_all holds further_chips ≡ true) where
-  either_has : (row : Option Part) → part_with_id of_id ≡ row → row_or (further_with_id of_id) row ≡ Some part
-      → (bytes_eq part.id of_id ≡ true) × (holds part ≡ true)
-  either_has (Some row) listed is = found_has (λ p. bytes_eq p.id of_id) holds chips part all (listed ∙ is)
-  either_has None listed is = found_has (λ p. bytes_eq p.id of_id) holds further_chips part more is
-
-  applied_has : (further : Bool) → part_for further of_id ≡ Some part
-      → (bytes_eq part.id of_id ≡ true) × (holds part ≡ true)
-  applied_has false is = found_has (λ p. bytes_eq p.id of_id) holds chips part all is
-  applied_has true is = either_has (part_with_id of_id) refl is
+use Rattle.nor_probe.proofs.Configs.{applied_has}
 
 pub row_identified : (further : Bool) (of_id : List ℕ) (part : Part) → is_no_chip of_id ≡ false
     → part_for further of_id ≡ Some part → IsIdentified further of_id part

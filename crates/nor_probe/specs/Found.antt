@@ -11,7 +11,7 @@ use Rattle.nor_probe.specs.declared.probes.Found.{Found}
 use Rattle.nor_probe.specs.declared.probes.Probed.{Probed}
 use Rattle.nor_probe.specs.declared.probes.ProbeFault.{ProbeFault}
 use Rattle.nor_probe.specs.declared.probes.ProbeFault.TheVariants.{NoChip, UnknownChip, OtherName, Stopped, Timeout}
-use Rattle.nor_probe.specs.Table.{part_with_id, part_for}
+use Rattle.nor_probe.specs.Table.{part_for}
 use Rattle.nor_driver.specs.OnlyReads.{OnlyReads, Rested, Spent, RanOut}
 use Rattle.nor_driver.specs.Waits.{latch_when_idle}
 use Rattle.nor_probe.specs.Known.{id_of, is_no_chip, shown_as, IsKnown}
@@ -35,15 +35,12 @@ abbrev pub reads_by : Option Part → ℕ
 reads_by (Some part) = 1
 reads_by None = 4
 
-abbrev pub reads_of : List ℕ → ℕ
-reads_of of_id = if is_no_chip of_id then 1 else reads_by (part_with_id of_id)
-
 abbrev pub reads_for : (further : Bool) → List ℕ → ℕ
 reads_for further of_id = if is_no_chip of_id then 1 else reads_by (part_for further of_id)
 
 -- The number of transactions that a probe of this chip needs; each BUSY that the chip still shows takes one poll.
-abbrev pub needed : Chip → ℕ
-needed chip = chip.busy + 1 + reads_of (id_of chip.config)
+abbrev pub needed : (further : Bool) → Chip → ℕ
+needed further chip = chip.busy + 1 + reads_for further (id_of chip.config)
 
 -- Holds for each chip that a probe finds, on every bus.
 pub record IsPart (further : Bool) (found : Found) : Type 0 where
@@ -58,43 +55,44 @@ pub record IsPart (further : Bool) (found : Found) : Type 0 where
 pub record IsCounted (old : BusState) (probed : Probed) : Type 0 where
   pub least : 1 + reads_for old.further probed.found.id ≤ probed.transactions
   pub most : probed.transactions ≤ most_probe
-  pub sent : old.honest ≡ true → probed.transactions ≡ needed old.chip
+  pub sent : old.honest ≡ true → probed.transactions ≡ needed old.further old.chip
 
 pub record Finds (old new : BusState) (found : Found) : Type 0 where
   pub rested : Rested old new
-  pub part : shown_as old.chip.config ≡ Ok (part_in found)
+  pub part : shown_as old.further old.chip.config ≡ Ok (part_in found)
   pub idle : new.chip.busy ≡ 0
   pub latch : new.chip.latch ≡ latch_when_idle old.chip
   pub status1 : found.status1 ≡ status1_of new.chip
-  pub count : Spent (needed old.chip) old new
+  pub count : Spent (needed old.further old.chip) old new
 
-pub record IsConfigOf (config : Config) (found : Found) : Type 0 where
-  pub known : IsKnown config
+pub record IsConfigOf (further : Bool) (config : Config) (found : Found) : Type 0 where
+  pub known : IsKnown further config
   pub id : found.id ≡ id_of config
   pub size : found.size ≡ config.size
   pub kinds : found.kinds ≡ config.kinds
   pub scheme : found.scheme ≡ config.scheme
 
-pub record IsNamed (named : Option ChipName) (config : Config) : Type 0 where
+pub record IsNamed (further : Bool) (named : Option ChipName) (config : Config) : Type 0 where
   pub part : Part
-  pub shown : shown_as config ≡ Ok part
+  pub shown : shown_as further config ≡ Ok part
   pub wanted : IsWanted named part.name
 
-pub record HasOtherName (named : Option ChipName) (config : Config) : Type 0 where
+pub record HasOtherName (further : Bool) (named : Option ChipName) (config : Config) : Type 0 where
   pub part : Part
-  pub shown : shown_as config ≡ Ok part
+  pub shown : shown_as further config ≡ Ok part
   pub other : ¬ IsWanted named part.name
 
 pub record HasProbed (old new : BusState) : Type 0 where
   pub rested : Rested old new
-  pub count : Spent (needed old.chip) old new
+  pub count : Spent (needed old.further old.chip) old new
 
 -- Holds if a probe on a well-behaved bus may return this fault.
 abbrev pub ProbeErrors : Option ChipName → (old new : BusState) → ProbeFault → Type 0
-ProbeErrors named old new NoChip = (shown_as old.chip.config ≡ Err NoChip) × HasProbed old new
-ProbeErrors named old new (UnknownChip fault) = (shown_as old.chip.config ≡ Err (UnknownChip fault)) × HasProbed old new
-ProbeErrors named old new OtherName = HasOtherName named old.chip.config × HasProbed old new
-ProbeErrors named old new Stopped = RanOut (needed old.chip) old new × RanOut most_probe old new
+ProbeErrors named old new NoChip = (shown_as old.further old.chip.config ≡ Err NoChip) × HasProbed old new
+ProbeErrors named old new (UnknownChip fault) =
+    (shown_as old.further old.chip.config ≡ Err (UnknownChip fault)) × HasProbed old new
+ProbeErrors named old new OtherName = HasOtherName old.further named old.chip.config × HasProbed old new
+ProbeErrors named old new Stopped = RanOut (needed old.further old.chip) old new × RanOut most_probe old new
 ProbeErrors named old new Timeout = ⊥
 
 pub record ProbeAlways (named : Option ChipName) (old new : BusState) (result : Result Found ProbeFault) : Type 0 where

@@ -10,7 +10,7 @@ use Rattle.nor_probe.specs.declared.probes.Found.{Found}
 use Rattle.nor_probe.specs.declared.probes.ProbeFault.{ProbeFault}
 use Rattle.nor_probe.specs.declared.probes.ProbeFault.TheVariants.{NoChip, UnknownChip}
 use Rattle.nor_probe.specs.Sfdp.{sfdp_says}
-use Rattle.nor_probe.specs.Table.{part_with_id, IsEmulatedPart, IsMadeOf}
+use Rattle.nor_probe.specs.Table.{part_for, IsEmulatedPart, IsMadeOf}
 
 abbrev pub part_in : Found → Part
 part_in found =
@@ -20,7 +20,7 @@ part_in found =
 abbrev pub is_no_chip : (of_id : List ℕ) → Bool
 is_no_chip of_id = bytes_eq of_id (0xFF ∷ 0xFF ∷ 0xFF ∷ []) || bytes_eq of_id (0x00 ∷ 0x00 ∷ 0x00 ∷ [])
 
--- The address of the table that a parameter header contains: three bytes, little-endian (JESD216).
+-- The address that a parameter header contains for its table: three bytes, little-endian (JESD216).
 abbrev pub pointer_in : (first : List ℕ) → ℕ
 pointer_in first = slice_index first 4 + 256 * slice_index first 5 + 65536 * slice_index first 6
 
@@ -39,28 +39,30 @@ abbrev pub listed_or : (by_sfdp : Result Part ProbeFault) → Option Part → Re
 listed_or by_sfdp (Some part) = Ok part
 listed_or by_sfdp None = by_sfdp
 
--- The chip type that a chip shows: the row of the table with its ID or, without a row, the type by its SFDP.
-abbrev pub shown_as : Config → Result Part ProbeFault
-shown_as config =
+-- The chip type that a chip shows, or a fault: the row that applies to its ID (`part_for`) or, without a row, its type
+-- by SFDP. `further` says whether the bus has further types.
+abbrev pub shown_as : (further : Bool) → Config → Result Part ProbeFault
+shown_as further config =
     if is_no_chip (id_of config) then Err NoChip
-    else listed_or (part_by_sfdp (id_of config) (chip_says config)) (part_with_id (id_of config))
+    else listed_or (part_by_sfdp (id_of config) (chip_says config)) (part_for further (id_of config))
 
 pub record HasGeometry (geometry : Geometry) (config : Config) : Type 0 where
   pub size : config.size ≡ geometry.size
   pub kinds : config.kinds ≡ geometry.kinds
 
--- Holds for the configuration of a genuine chip. Without a row for its ID, a genuine chip has no block protection and,
--- if its SFDP is accepted, the size and the erase types that the SFDP describes.
-pub record IsGenuine (config : Config) : Type 0 where
-  pub listed : (part : Part) → part_with_id (id_of config) ≡ Some part
+-- Holds for the configuration of a genuine chip on a bus with or without further types (`further`). If a row applies to
+-- its ID, the chip has the row's size, erase types and block protection. Otherwise the chip has no block protection
+-- and, if its SFDP is accepted, the geometry that the SFDP describes.
+pub record IsGenuine (further : Bool) (config : Config) : Type 0 where
+  pub listed : (part : Part) → part_for further (id_of config) ≡ Some part
       → HasGeometry (record { size = part.size; kinds = part.kinds }) config × (config.scheme ≡ part.scheme)
-  pub unlisted : part_with_id (id_of config) ≡ None → config.scheme ≡ false
-  pub described : part_with_id (id_of config) ≡ None
+  pub unlisted : part_for further (id_of config) ≡ None → config.scheme ≡ false
+  pub described : part_for further (id_of config) ≡ None
       → (geometry : Geometry) → chip_says config ≡ Ok geometry → HasGeometry geometry config
 
-pub record IsKnown (config : Config) : Type 0 where
-  pub genuine : IsGenuine config
-  pub shown : IsOk (shown_as config)
+pub record IsKnown (further : Bool) (config : Config) : Type 0 where
+  pub genuine : IsGenuine further config
+  pub shown : IsOk (shown_as further config)
 
 -- Holds for the configuration of an emulated chip whose unique ID is all zeros.
 abbrev pub IsEmulated : Config → Type 0
@@ -68,4 +70,4 @@ IsEmulated config = (part : Part) × IsEmulatedPart part × IsMadeOf part config
 
 pub record IsModelled (state : BusState) : Type 0 where
   pub honest : state.honest ≡ true
-  pub genuine : IsGenuine state.chip.config
+  pub genuine : IsGenuine state.further state.chip.config

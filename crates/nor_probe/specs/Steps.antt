@@ -14,7 +14,7 @@ use Rattle.nor_driver.specs.declared.waits.OperationError.TheVariants as Operati
 use Rattle.nor_probe.specs.Table.{part_for}
 use Rattle.nor_driver.specs.OnlyReads.{Rested, Spent, RanOut}
 use Rattle.nor_probe.specs.Known.{id_of, is_no_chip, shown, pointer_in, chip_says, shown_as}
-use Rattle.nor_probe.specs.Found.{reads_of, reads_for}
+use Rattle.nor_probe.specs.Found.{reads_for}
 
 abbrev pub fault_of : OperationError → ProbeFault
 fault_of OperationFails.Stopped = Stopped
@@ -54,9 +54,9 @@ GeometryErrors old new (UnknownChip fault) =
 GeometryErrors old new Stopped = RanOut 3 old new
 GeometryErrors old new _ = ⊥
 
--- Holds if a punctual bus carried out the reads of a probe except the read of the ID. `reads_of` counts all reads.
+-- Holds if a punctual bus carried out the reads of a probe except the read of the ID. `reads_for` counts all reads.
 abbrev pub SpentAfterId : (old new : BusState) → Type 0
-SpentAfterId old new = old.punctual ≡ true → old.left + 1 ≡ new.left + reads_of (id_of old.chip.config)
+SpentAfterId old new = old.punctual ≡ true → old.left + 1 ≡ new.left + reads_for old.further (id_of old.chip.config)
 
 abbrev pub IsIdentityFault : ProbeFault → Type 0
 IsIdentityFault NoChip = ⊤
@@ -67,11 +67,11 @@ IsIdentityFault Timeout = ⊥
 
 pub record Identifies (old new : BusState) (part : Part) : Type 0 where
   pub rested : Rested old new
-  pub shows : shown_as old.chip.config ≡ Ok part
+  pub shows : shown_as old.further old.chip.config ≡ Ok part
   pub count : SpentAfterId old new
 
 abbrev pub IdentityErrors : (old new : BusState) → ProbeFault → Type 0
 IdentityErrors old new Stopped =
-    old.punctual ≡ true → (new.left ≡ 0) × (old.left + 1 < reads_of (id_of old.chip.config))
+    old.punctual ≡ true → (new.left ≡ 0) × (old.left + 1 < reads_for old.further (id_of old.chip.config))
 IdentityErrors old new fault =
-    (shown_as old.chip.config ≡ Err fault) × SpentAfterId old new × Rested old new
+    (shown_as old.further old.chip.config ≡ Err fault) × SpentAfterId old new × Rested old new

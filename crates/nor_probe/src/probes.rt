@@ -24,7 +24,7 @@ pub enum ProbeFault {
     /// The ID reads `FF FF FF` or `00 00 00`, as it does if nothing drives the bus.
     #[error("there is no chip")]
     NoChip,
-    /// No row of the table of chips applies to the ID, and the chip's SFDP is refused for this reason.
+    /// No row applies to the ID (`part_for`), and the chip's SFDP is refused for this reason.
     #[error("the chip isn't known: {0}")]
     UnknownChip(SfdpFault),
     #[error("the chip has another name")]
@@ -68,20 +68,21 @@ pub fn probe<B: Bus>(bus: &mut B, named: Option<ChipName>) -> Result<Found, Prob
     ensures honest { (B.state bus.old).honest ≡ true
         → ProbeHonest named (B.state bus.old) (B.state bus.new) result }
     ensures modelled { IsModelled (B.state bus.old)
-        → IfOk result (IsConfigOf (B.state bus.old).chip.config) }
+        → IfOk result (IsConfigOf (B.state bus.old).further (B.state bus.old).chip.config) }
 {
     let probed = probe_counted(bus, named)?;
     Ok(probed.found)
 }
 
-/// Identifies the chip as `probe` does, and also returns the number of transactions sent, which is at most 65,540.
+/// Identifies the chip as `probe` does. On success also returns the number of transactions sent, at most 65,540.
 #[tactic(auto, using(crate::proofs::Sizes::size_at_least, crate::proofs::Sizes::size_at_most, crate::proofs::Sizes::size_in_blocks))]
 pub fn probe_counted<B: Bus>(bus: &mut B, named: Option<ChipName>) -> Result<Probed, ProbeFault>
     ensures always { ProbeAlways named (B.state bus.old) (B.state bus.new) (found_in result) }
     ensures honest { (B.state bus.old).honest ≡ true
         → ProbeHonest named (B.state bus.old) (B.state bus.new) (found_in result) }
     ensures modelled { IsModelled (B.state bus.old)
-        → IfOk (found_in result) (IsConfigOf (B.state bus.old).chip.config) }
+        → IfOk (found_in result)
+        (IsConfigOf (B.state bus.old).further (B.state bus.old).chip.config) }
     ensures counted { IfOk result (IsCounted (B.state bus.old)) }
 {
     let further = bus.has_further_types();
@@ -129,11 +130,12 @@ fn identify<B: Bus>(bus: &mut B, further: bool, id: [u8; 3]) -> Result<Part, Pro
         (KeepsReplies (begins_with 0x5A) (B.state bus.old).history (B.state bus.new).history) }
     ensures by_sfdp { part_for further id ≡ None → IfOk result (IsTypeBySfdp (B.state bus.new).history) }
     ensures last { IfErr result (ProbeEndsAt (B.state bus.new).history) }
-
-    ensures shown { further ≡ false → (B.state bus.old).honest ≡ true → (B.state bus.old).chip.busy ≡ 0
+    ensures shown { further ≡ (B.state bus.old).further → (B.state bus.old).honest ≡ true
+        → (B.state bus.old).chip.busy ≡ 0
         → id ≡ id_of (B.state bus.old).chip.config
         → IfOk result (Identifies (B.state bus.old) (B.state bus.new)) }
-    ensures errors { further ≡ false → (B.state bus.old).honest ≡ true → (B.state bus.old).chip.busy ≡ 0
+    ensures errors { further ≡ (B.state bus.old).further → (B.state bus.old).honest ≡ true
+        → (B.state bus.old).chip.busy ≡ 0
         → id ≡ id_of (B.state bus.old).chip.config
         → IfErr result (IdentityErrors (B.state bus.old) (B.state bus.new)) }
 {

@@ -45,11 +45,11 @@ range_read chip (Some places) scheme is =
 module _ (named : Option ChipName) where
   refused : {old new : BusState} (refusal : Refusal) → OnlyReads most_status old new → IsProtectionRefusal refusal
       → EndsAtError refusal new.history → (old.honest ≡ true → ReadingErrors most_status named old new refusal)
-      → (IsModelled old → ProtectionErrors named old.chip refusal) → HasReported named old new (Err refusal)
+      → (IsModelled old → ProtectionErrors old.further named old.chip refusal) → HasReported named old new (Err refusal)
   refused refusal only_reads is last errors own = search
 
   unfound_errors : (old new : BusState) (refusal : Refusal) → IdentificationErrors most_probe named old new refusal
-      → IsProtectionRefusal refusal × ProtectionErrors named old.chip refusal
+      → IsProtectionRefusal refusal × ProtectionErrors old.further named old.chip refusal
   unfound_errors old new (Timeout address) errors = (errors.0, tt)
   unfound_errors old new _ errors = search
 

@@ -60,7 +60,7 @@ pub record Reports (named : Option ChipName) (included : Option (List Span)) (ol
   pub part : ReportsPart named old.further report
   pub polled_ready : new.polled_ready ≡ true
   pub reads : old.honest ≡ true → ReportsReads (sectors_included included report.found.size) old new report
-  pub config : IsModelled old → IsConfigOf old.chip.config report.found
+  pub config : IsModelled old → IsConfigOf old.further old.chip.config report.found
 
 status1_stays : (old new : BusState) → old.chip.busy ≡ 0 → Rested old new → status1_of new.chip ≡ status1_of old.chip
 status1_stays old new idle rested =
@@ -98,15 +98,15 @@ module _ {named : Option ChipName} {old mid : BusState} {probed : Probed}
   open_after known =
       let rested = found.rested known.honest in let size = size_of known in search (arith, found.idle)
 
-  pub has_name : old.honest ≡ true → IsNamed named old.chip.config
+  pub has_name : old.honest ≡ true → IsNamed old.further named old.chip.config
   has_name honest = search found.is.shown
 
   pub is_taken : {included : Option (List Span)} → FitsInto included probed.found.size → IsModelled old
-      → IsTaken named included old.chip.config
+      → IsTaken old.further named included old.chip.config
   is_taken fits known = search (has_name, rw (size_of known) at fits)
 
   pub is_passed : {included : Option (List Span)} → ReachesPast included probed.found.size → IsModelled old
-      → IsPassed named included old.chip.config
+      → IsPassed old.further named included old.chip.config
   is_passed past known = search (has_name, rw (size_of known) at past)
 
   pub reported : {included : Option (List Span)} {new : BusState} {reads : ℕ} → HasOnlyRead reads mid new

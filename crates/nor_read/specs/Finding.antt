@@ -1,4 +1,4 @@
--- Definitions about identifying the chip, its errors, and reports, which the calls of this crate share.
+-- Definitions that calls of this crate share: about the identification of the chip, about errors, and about reports.
 use Rattle.std.specs.Prelude.{◌≡◌, ◌≤◌, ◌+◌, ◌/◌, ℕ, Bool, true, Option, Ok, List, ⊤}
 use Rattle.nor_model.specs.declared.config.Config.{Config}
 use Rattle.nor_model.specs.Chip.{status1_of}
@@ -25,8 +25,8 @@ most_status = 65541
 pub record IsFound (named : Option ChipName) (old : BusState) (found : Found) : Type 0 where
   pub part : IsPart old.further found
   pub has_name : IsWanted named found.name
-  pub shown : old.honest ≡ true → shown_as old.chip.config ≡ Ok (part_in found)
-  pub config : IsModelled old → IsConfigOf old.chip.config found
+  pub shown : old.honest ≡ true → shown_as old.further old.chip.config ≡ Ok (part_in found)
+  pub config : IsModelled old → IsConfigOf old.further old.chip.config found
 
 pub record HasFound (named : Option ChipName) (old new : BusState) (probed : Probed) : Type 0 where
   pub is : IsFound named old probed.found
@@ -35,25 +35,27 @@ pub record HasFound (named : Option ChipName) (old new : BusState) (probed : Pro
   pub rested : old.honest ≡ true → Rested old new
   pub idle : old.honest ≡ true → new.chip.busy ≡ 0
   pub status1 : old.honest ≡ true → probed.found.status1 ≡ status1_of new.chip
-  pub count : old.honest ≡ true → probed.transactions ≡ needed old.chip
+  pub count : old.honest ≡ true → probed.transactions ≡ needed old.further old.chip
   pub fell : old.honest ≡ true → Spent probed.transactions old new
 
 -- Holds if the chip can be identified (`IsNamed`), has the requested name, if any, and ends before an included address.
-pub record IsPassed (named : Option ChipName) (included : Option (List Span)) (config : Config) : Type 0 where
-  pub is : IsNamed named config
+pub record IsPassed (further : Bool) (named : Option ChipName) (included : Option (List Span))
+    (config : Config) : Type 0 where
+  pub is : IsNamed further named config
   pub past : ReachesPast included config.size
 
 -- Holds if the chip can be identified (`IsNamed`), has the requested name, if any, and has all included addresses.
-pub record IsTaken (named : Option ChipName) (included : Option (List Span)) (config : Config) : Type 0 where
-  pub is : IsNamed named config
+pub record IsTaken (further : Bool) (named : Option ChipName) (included : Option (List Span))
+    (config : Config) : Type 0 where
+  pub is : IsNamed further named config
   pub fits : FitsInto included config.size
 
 -- A bound on the transactions of `read_out` or `verify`, with `size` in bytes: 65,540 for a probe, and one per sector.
 abbrev pub most_read : ℕ → ℕ
 most_read size = most_probe + size / 4096
 
--- Holds if `report` can be that of `read_out` or `verify` on any bus. `further` says whether further rows of the table
--- of chips apply.
+-- Holds for each report that `read_out` or `verify` returns, on any bus. `further` says whether further rows of the
+-- table of chips apply.
 pub record ReportsPart (named : Option ChipName) (further : Bool) (report : Report) : Type 0 where
   pub part : IsPart further report.found
   pub has_name : IsWanted named report.found.name
@@ -62,13 +64,13 @@ pub record ReportsPart (named : Option ChipName) (further : Bool) (report : Repo
   pub programs : report.programs ≡ 0
   pub most : report.transactions ≤ most_read report.found.size
 
--- Holds if `report` can be that of a call that read `reads` sectors after its probe, on a well-behaved bus.
+-- Holds for the report of a call that read `reads` sectors after its probe, on a well-behaved bus.
 pub record ReportsReads (reads : ℕ) (old new : BusState) (report : Report) : Type 0 where
-  pub shown : shown_as old.chip.config ≡ Ok (part_in report.found)
+  pub shown : shown_as old.further old.chip.config ≡ Ok (part_in report.found)
   pub rested : Rested old new
   pub idle : new.chip.busy ≡ 0
   pub status1 : report.found.status1 ≡ status1_of new.chip
-  pub count : report.transactions ≡ needed old.chip + reads
+  pub count : report.transactions ≡ needed old.further old.chip + reads
   pub fell : Spent report.transactions old new
 
 abbrev pub IsFindRefusal : Refusal → Type 0
@@ -79,7 +81,7 @@ IsFindRefusal Stopped = ⊤
 IsFindRefusal (Timeout address) = address ≡ 0
 IsFindRefusal _ = ⊥
 
--- Holds if a call may return this error on a well-behaved bus.
+-- Holds if a call that sends at most `most` transactions may return this error on a well-behaved bus.
 abbrev pub ReadingErrors : ℕ → Option ChipName → (old new : BusState) → Refusal → Type 0
 ReadingErrors most named old new NoChip = ProbeErrors named old new Probes.NoChip
 ReadingErrors most named old new (UnknownChip fault) = ProbeErrors named old new (Probes.UnknownChip fault)

@@ -1,5 +1,5 @@
 -- The report of `wp_status` on a chip's block protection.
-use Rattle.std.specs.Prelude.{◌≡◌, ◌<◌, ◌≤◌, ◌+◌, ◌↔◌, ℕ, true, false, Option, MatchOption, ⊤}
+use Rattle.std.specs.Prelude.{◌≡◌, ◌<◌, ◌≤◌, ◌+◌, ◌↔◌, ℕ, Bool, true, false, Option, MatchOption, ⊤}
 use Rattle.std.specs.Prelude.{Result, IfOk, IfErr, OnOk}
 use Rattle.nor_model.specs.Chip.{Chip, is_locked}
 use Rattle.nor_model.specs.Guard.{code_of, is_protected, is_undefined}
@@ -43,16 +43,16 @@ pub record ProtectionHonest (named : Option ChipName) (old new : BusState)
     (result : Result Protection Refusal) : Type 0 where
   pub rested : OnOk result (Rested old new)
   pub idle : OnOk result (new.chip.busy ≡ 0)
-  pub is : OnOk result (IsNamed named old.chip.config)
+  pub is : OnOk result (IsNamed old.further named old.chip.config)
   pub errors : IfErr result (ReadingErrors most_status named old new)
 
 -- Holds for error 6 if the chip can be identified and has the requested name, if any (`IsNamed`), but has no block
 -- protection. Holds for all other errors.
-abbrev pub ProtectionErrors : Option ChipName → Chip → Refusal → Type 0
-ProtectionErrors named chip NoProtection = IsNamed named chip.config × (chip.config.scheme ≡ false)
-ProtectionErrors named chip _ = ⊤
+abbrev pub ProtectionErrors : (further : Bool) → Option ChipName → Chip → Refusal → Type 0
+ProtectionErrors further named chip NoProtection = IsNamed further named chip.config × (chip.config.scheme ≡ false)
+ProtectionErrors further named chip _ = ⊤
 
 pub record ProtectionModelled (named : Option ChipName) (old : BusState)
     (result : Result Protection Refusal) : Type 0 where
   pub returned : IfOk result (IsProtection old.chip)
-  pub errors : IfErr result (ProtectionErrors named old.chip)
+  pub errors : IfErr result (ProtectionErrors old.further named old.chip)

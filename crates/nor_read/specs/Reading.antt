@@ -67,14 +67,14 @@ pub record ReadOutHonest (named : Option ChipName) (included : Option (List Span
 -- Holds if `read_out` may return error 19 with the number `written` on a modelled bus.
 pub record BreaksOff (named : Option ChipName) (included : Option (List Span)) (written : ℕ) (old : BusState)
     (vault vault' : VaultState) : Type 0 where
-  pub taken : IsTaken named included old.chip.config
+  pub taken : IsTaken old.further named included old.chip.config
   pub within : written ≤ old.chip.config.size
   pub copy : vault.telling ≡ true → Copies included old.chip.bytes written vault vault'
 
 -- Holds for error 5, 12 or 19 if `read_out` may return it on a modelled bus. Holds for all other errors.
 abbrev pub ReadOutErrors : Option ChipName → Option (List Span) → (old new : BusState) → (vault vault' : VaultState)
     → Refusal → Type 0
-ReadOutErrors named included old new vault vault' RegionOutside = IsPassed named included old.chip.config
+ReadOutErrors named included old new vault vault' RegionOutside = IsPassed old.further named included old.chip.config
 ReadOutErrors named included old new vault vault' Stopped = RanOut (most_read old.chip.config.size) old new
 ReadOutErrors named included old new vault vault' (Output written) = BreaksOff named included written old vault vault'
 ReadOutErrors named included old new vault vault' _ = ⊤
@@ -82,7 +82,7 @@ ReadOutErrors named included old new vault vault' _ = ⊤
 pub record ReadOutModelled (named : Option ChipName) (included : Option (List Span)) (old new : BusState)
     (vault vault' : VaultState) (result : Result Report Refusal) : Type 0 where
   pub only_reads : OnlyReads (most_read old.chip.config.size) old new
-  pub config : IfOk result (λ report. IsConfigOf old.chip.config report.found)
+  pub config : IfOk result (λ report. IsConfigOf old.further old.chip.config report.found)
   pub copy : IfOk result (λ report. vault.telling ≡ true
       → Copies included old.chip.bytes old.chip.config.size vault vault')
   pub errors : IfErr result (ReadOutErrors named included old new vault vault')
@@ -134,7 +134,8 @@ CopyErrors included size old new vault vault' Stopped = HasStopped (size / 4096)
 CopyErrors included size old new vault vault' (Output written) = BreaksCopy included size written old new vault vault'
 CopyErrors included size old new vault vault' _ = ⊥
 
--- Holds if appending piece number `piece` may return this error. Each earlier piece added 65,536 to `written`.
+-- Holds if appending piece number `piece` (from 0) may return this error. `written` is 65,536 for each earlier piece,
+-- plus the number of bytes of this piece that a faithful vault accepted.
 abbrev pub PutErrors : ℕ → List ℕ → (old new : VaultState) → Refusal → Type 0
 PutErrors piece bytes old new (Output written) =
     (kept : ℕ) × (written ≡ 65536 * piece + kept) × PutRefused old bytes kept new

@@ -36,17 +36,17 @@ pub record IsFirstOther (included : Option (List Span)) (image : List ℕ) (cont
   pub differs : slice_index image address ≢ content address
   pub before : AgreeIn included image content from address
 
-pub record IsOtherSize (named : Option ChipName) (image : List ℕ) (config : Config)
+pub record IsOtherSize (further : Bool) (named : Option ChipName) (image : List ℕ) (config : Config)
     (chip_size image_size : ℕ) : Type 0 where
-  pub is : IsNamed named config
+  pub is : IsNamed further named config
   pub of_chip : chip_size ≡ config.size
   pub of_image : image_size ≡ length image
   pub differ : length image ≢ config.size
 
 -- Holds if `verify` may return error 14 with `address` on a modelled bus: the first included address with a difference.
-pub record IsMismatch (named : Option ChipName) (included : Option (List Span)) (image : List ℕ) (chip : Chip)
-    (address : ℕ) : Type 0 where
-  pub taken : IsTaken named included chip.config
+pub record IsMismatch (further : Bool) (named : Option ChipName) (included : Option (List Span)) (image : List ℕ)
+    (chip : Chip) (address : ℕ) : Type 0 where
+  pub taken : IsTaken further named included chip.config
   pub whole : length image ≡ chip.config.size
   pub first : IsFirstOther included image chip.bytes 0 chip.config.size address
 
@@ -72,7 +72,7 @@ abbrev pub included_below : Option (List Span) → (size : ℕ) → (a : ℕ) �
 included_below included size a = includes included a && nat_lt a size
 
 -- Holds if the result fits the last reply to a read of each sector: after success these replies have the image's byte
--- at each included address, and error 14 has the first included address at which they differ.
+-- at each included address, and error 14 has the first included address at which a reply differs from the image.
 abbrev pub HasReadBack : Option (List Span) → List ℕ → (old new : List Exchange) → Result Report Refusal → Type 0
 HasReadBack included image old new (Ok report) =
     EndsReadBack (included_below included (length image)) (slice_index image) old new
@@ -99,17 +99,19 @@ pub record VerifyHonest (named : Option ChipName) (included : Option (List Span)
 
 -- Holds for error 4, 5, 12 or 14 if `verify` may return it on a modelled bus. Holds for all other errors.
 abbrev pub VerifyErrors : Option ChipName → Option (List Span) → List ℕ → (old new : BusState) → Refusal → Type 0
-VerifyErrors named included image old new (ImageSize chip len) = IsOtherSize named image old.chip.config chip len
+VerifyErrors named included image old new (ImageSize chip len) =
+    IsOtherSize old.further named image old.chip.config chip len
 VerifyErrors named included image old new RegionOutside =
-    IsPassed named included old.chip.config × (length image ≡ old.chip.config.size)
+    IsPassed old.further named included old.chip.config × (length image ≡ old.chip.config.size)
 VerifyErrors named included image old new Stopped = RanOut (most_read old.chip.config.size) old new
-VerifyErrors named included image old new (Mismatch address) = IsMismatch named included image old.chip address
+VerifyErrors named included image old new (Mismatch address) =
+    IsMismatch old.further named included image old.chip address
 VerifyErrors named included image old new _ = ⊤
 
 pub record VerifyModelled (named : Option ChipName) (included : Option (List Span)) (image : List ℕ)
     (old new : BusState) (result : Result Report Refusal) : Type 0 where
   pub only_reads : OnlyReads (most_read old.chip.config.size) old new
-  pub config : IfOk result (λ report. IsConfigOf old.chip.config report.found)
+  pub config : IfOk result (λ report. IsConfigOf old.further old.chip.config report.found)
   pub equal : IfOk result (λ report. AgreeIn included image old.chip.bytes 0 old.chip.config.size)
   pub errors : IfErr result (VerifyErrors named included image old new)
 
@@ -120,8 +122,8 @@ FindsFirst included image content from to first =
 abbrev pub ReadsDifference : (old new : List Exchange) → Option ℕ → Type 0
 ReadsDifference old new first = MatchOption first ⊤ (λ address. HasReadAt address old new)
 
--- Holds if `first` is the first included address in this sector, if any, at which the last replies differ from the
--- image, in a history whose latest transactions are `reads`.
+-- Holds if `first` is the first included address in this sector, if any, at which the last reply to a read of the
+-- sector differs from the image. The history is `reads` after `earlier`, and `reads` reads no other sector.
 pub record ComparesReply (included : Option (List Span)) (image : List ℕ) (sector : ℕ) (reads earlier : List Exchange)
     (first : Option ℕ) : Type 0 where
   pub others : (a : ℕ) → a / 4096 ≢ sector → sector_read (reads ++ earlier) a ≡ sector_read earlier a

@@ -87,7 +87,7 @@ begins_touched request image bytes chip =
 abbrev pub head_read : Identity → (status : List ℕ) → Content
 head_read identity status = empty_content identity.found.id (Some identity.unique) status identity.found.size
 
-module _ {chip : Chip} {identity : Identity} {old : BusState} (is : IsIdentityOf chip identity) (shows : HasIdleChip chip old) where
+module _ {further : Bool} {chip : Chip} {identity : Identity} {old : BusState} (is : IsIdentityOf further chip identity) (shows : HasIdleChip chip old) where
   pub same_bytes : old.chip.bytes ≡ chip.bytes
   same_bytes = fun_ext shows.same.bytes
 
@@ -119,13 +119,13 @@ module _ {chip : Chip} {identity : Identity} {old : BusState} (is : IsIdentityOf
       cc
 
 abbrev pub PutsHead : {V : Type 0} → (V → VaultState) → Writer V → Identity → BusState → Type 0
-PutsHead state writer identity old = (chip : Chip) → IsIdentityOf chip identity → HasIdleChip chip old
+PutsHead state writer identity old = (further : Bool) (chip : Chip) → IsIdentityOf further chip identity → HasIdleChip chip old
     → HasPutSectors state writer (header_of chip) old.chip.bytes none 0
 
 pub head_put : {V : Type 0} {state : V → VaultState} {writer : Writer V} {status : List ℕ} (identity : Identity)
     (old : BusState) → (old.honest ≡ true → IsChip old.chip) → status ≡ kept_read identity
     → HasWritten state writer (head_read identity status) → PutsHead state writer identity old
-head_put {state = state} {writer = writer} identity old reaches read written = λ chip is shows.
+head_put {state = state} {writer = writer} identity old reaches read written = λ further chip is shows.
     rw (head_same is shows (reaches shows.honest).kept2 read) at
     (HasKept-none state writer identity.found.id (Some identity.unique) _ identity.found.size old.chip.bytes none 0
     written (λ s. refl))
@@ -136,19 +136,19 @@ FromHead state writer size old promise = IsOpen size old → (head : Content) �
 
 pub from_head : {V : Type 0} {state : V → VaultState} {writer : Writer V} {identity : Identity} {old : BusState}
     {promise : Content → Type 0} → PutsHead state writer identity old
-    → FromHead state writer identity.found.size old promise → (chip : Chip) → IsIdentityOf chip identity → HasIdleChip chip old
+    → FromHead state writer identity.found.size old promise → (further : Bool) (chip : Chip) → IsIdentityOf further chip identity → HasIdleChip chip old
     → promise (header_of chip)
-from_head puts promised chip is shows = promised (is_open is shows) (header_of chip) (sym is.config.size) (puts chip is shows)
+from_head puts promised further chip is shows = promised (is_open is shows) (header_of chip) (sym is.config.size) (puts further chip is shows)
 
 pub judged_errors : {request : Request} {identity : Identity} {image image' : List ℕ} {old new : BusState}
     {scanned : Scanned} (code : ℕ) (refusal : Refusal) → Scans request identity.found.size image image' old new scanned
     → IsScanRefusal refusal
-    → OfTouched request identity code (has scanned.touched) (λ image chip. IsVerdict request image chip refusal)
+    → OfTouched request identity code (has scanned.touched) (λ further image chip. IsVerdict further request image chip refusal)
     → SaveErrors request identity code image old new refusal
 judged_errors {image = image} code StatusLocked scans is judges =
-    λ chip opened shows accepts. judges chip image opened accepts (touched_right opened shows scans)
+    λ further chip opened shows accepts. judges further chip image opened accepts (touched_right opened shows scans)
 judged_errors {image = image} code (Protected address) scans is judges =
-    λ chip opened shows accepts. judges chip image opened accepts (touched_right opened shows scans)
+    λ further chip opened shows accepts. judges further chip image opened accepts (touched_right opened shows scans)
 judged_errors code _ scans is judges = absurd is
 
 pub cut_in_head : (request : Request) (image : List ℕ) (seen vault : VaultState) {identity : Identity} {status : List ℕ}
@@ -156,7 +156,7 @@ pub cut_in_head : (request : Request) (image : List ℕ) (seen vault : VaultStat
     → IsContent (head_read identity status) → HoldsPrefix seen (front (head_read identity status)) → seen ≡ vault
     → SaveCuts request identity image old vault
 cut_in_head request image seen vault reaches read content holds same =
-    rw (← same) (λ faithful chip is shows.
+    rw (← same) (λ faithful further chip is shows.
     let head = header_of chip in
     let e = head_same is shows (reaches shows.honest).kept2 read in
     begins_touched request image seen.bytes chip
@@ -170,16 +170,16 @@ module _ {V : Type 0} {state : V → VaultState} {first : Writer V} {identity : 
   pub cut_in_scan : (seen : VaultState) → FromHead state first identity.found.size old (λ head.
       HoldsCut seen head old.chip.bytes (is_touched old.chip.bytes (wanted_at request image identity.found.size
       old.chip.bytes)) (identity.found.size / 4096)) → seen ≡ vault → SaveCuts request identity image old vault
-  cut_in_scan seen promised same = rw (← same) (λ faithful chip is shows.
+  cut_in_scan seen promised same = rw (← same) (λ faithful further chip is shows.
       begins_touched request image seen.bytes chip
-      (rw (same_bytes is shows, is.config.size) at (from_head puts promised chip is shows faithful)))
+      (rw (same_bytes is shows, is.config.size) at (from_head puts promised further chip is shows faithful)))
 
   pub begins_scan : {last : Writer V} {refusal : Refusal} → FromHead state first identity.found.size old (λ head.
       refusal ≢ Vault → HasKeptBelow state last head old.chip.bytes (is_touched old.chip.bytes (wanted_at request image
       identity.found.size old.chip.bytes)) (identity.found.size / 4096)) → vault_seen state last ≡ vault
       → SaveBegins request identity image old vault refusal
-  begins_scan promised same = rw (← same) (λ other faithful chip is shows.
-      let below = rw (same_bytes is shows, is.config.size) at (from_head puts promised chip is shows other) in
+  begins_scan promised same = rw (← same) (λ other faithful further chip is shows.
+      let below = rw (same_bytes is shows, is.config.size) at (from_head puts promised further chip is shows other) in
       let kept = below.kept in let inside = below.inside in
       record {
         content = kept.content;
@@ -195,14 +195,14 @@ module _ {V : Type 0} {state : V → VaultState} {first last : Writer V} {reques
     (scans : Scans request identity.found.size image image' old new scanned)
     (keeps : FromHead state first identity.found.size old (λ head. HasPutSectors state last head old.chip.bytes
     (has scanned.touched) (identity.found.size / 4096))) where
-  pub all_put : (chip : Chip) → IsIdentityOf chip identity → HasIdleChip chip old → HasPutSectors state last (header_of chip)
+  pub all_put : (further : Bool) (chip : Chip) → IsIdentityOf further chip identity → HasIdleChip chip old → HasPutSectors state last (header_of chip)
       chip.bytes (is_touched chip.bytes (wanted request image chip)) (identity.found.size / 4096)
-  all_put chip is shows = rw (same_bytes is shows, fun_ext (touched_right is shows scans)) at
-      (from_head puts keeps chip is shows)
+  all_put further chip is shows = rw (same_bytes is shows, fun_ext (touched_right is shows scans)) at
+      (from_head puts keeps further chip is shows)
 
   pub cut_at_end : (vault : VaultState) → vault_seen state last ≡ vault → SaveCuts request identity image old vault
-  cut_at_end vault same = rw (← same) (λ faithful chip is shows.
-      let kept = all_put chip is shows in
+  cut_at_end vault same = rw (← same) (λ faithful further chip is shows.
+      let kept = all_put further chip is shows in
       record {
         content = kept.content;
         same = kept.same;
@@ -213,8 +213,8 @@ module _ {V : Type 0} {state : V → VaultState} {first last : Writer V} {reques
 
   pub begins_all : (vault : VaultState) {refusal : Refusal} → vault_seen state last ≡ vault
       → SaveBegins request identity image old vault refusal
-  begins_all vault same = rw (← same) (λ other faithful chip is shows.
-      let kept = all_put chip is shows in
+  begins_all vault same = rw (← same) (λ other faithful further chip is shows.
+      let kept = all_put further chip is shows in
       record {
         content = kept.content;
         bound = chip.config.size / 4096;

@@ -94,11 +94,11 @@ needs_unlock _ unlock code touched chip about_bytes off needs = let on = needs.0
 never_lifted : (unlock lifted : Bool) → (lifted ≡ true → unlock ≡ true) → unlock ≡ false → lifted ≡ false
 never_lifted unlock lifted asked off = grind arith
 
-pub record IsClear (request : Request) (image : List ℕ) (chip : Chip) (n : ℕ) : Type 0 where
+pub record IsClear (further : Bool) (request : Request) (image : List ℕ) (chip : Chip) (n : ℕ) : Type 0 where
   pub few : n ≤ 9
-  pub there : 1 < n → shown_as chip.config ≢ Err Probes.NoChip
-  pub known : 2 < n → (fault : SfdpFault) → shown_as chip.config ≢ Err (Probes.UnknownChip fault)
-  pub named : 3 < n → IsNamed request.named chip.config
+  pub there : 1 < n → shown_as further chip.config ≢ Err Probes.NoChip
+  pub known : 2 < n → (fault : SfdpFault) → shown_as further chip.config ≢ Err (Probes.UnknownChip fault)
+  pub named : 3 < n → IsNamed further request.named chip.config
   pub image_size : 4 < n → is_data request.what ≡ true → length image ≡ chip.config.size
   pub regions : 5 < n → is_data request.what ≡ true → ¬ ReachesPast request.included chip.config.size
   pub scheme : 6 < n → is_data request.what ≡ false → chip.config.scheme ≡ true
@@ -109,9 +109,9 @@ number_few : (refusal : Refusal) → refusal_number refusal < 21
 number_few NoChip = omega arith
 number_few _ = omega arith
 
-module _ {request : Request} {image : List ℕ} {chip : Chip} where
-  none_below : {n : ℕ} (refusal : Refusal) → IsClear request image chip n → refusal_number refusal < n
-      → ¬ RefusalHolds request image chip refusal
+module _ {further : Bool} {request : Request} {image : List ℕ} {chip : Chip} where
+  none_below : {n : ℕ} (refusal : Refusal) → IsClear further request image chip n → refusal_number refusal < n
+      → ¬ RefusalHolds further request image chip refusal
   none_below NoChip is low holds = is.there low holds
   none_below (UnknownChip fault) is low holds = is.known low fault holds
   none_below OtherName is low holds =
@@ -126,12 +126,12 @@ module _ {request : Request} {image : List ℕ} {chip : Chip} where
   none_below (Protected address) is low holds = let few = is.few in absurd (omega arith)
   none_below _ is low holds = holds
 
-  pub first_of : (refusal : Refusal) → IsClear request image chip (refusal_number refusal)
-      → RefusalHolds request image chip refusal → IsVerdict request image chip refusal
+  pub first_of : (refusal : Refusal) → IsClear further request image chip (refusal_number refusal)
+      → RefusalHolds further request image chip refusal → IsVerdict further request image chip refusal
   first_of refusal is holds = record { holds = holds; first = λ other. none_below other is }
 
-  pub opening_judged : (refusal : Refusal) → IsNamed request.named chip.config
-      → OpeningJudges request (length image) chip refusal → IsVerdict request image chip refusal
+  pub opening_judged : (refusal : Refusal) → IsNamed further request.named chip.config
+      → OpeningJudges request (length image) chip refusal → IsVerdict further request image chip refusal
   opening_judged (ImageSize size len) named judges = first_of (ImageSize size len) (search (rules, arith))
       (judges.0, judges.1, judges.2, λ same. judges.3 (sym judges.2 ∙ same ∙ judges.1))
   opening_judged RegionOutside named judges = first_of RegionOutside (search (rules, arith)) (judges.0, judges.2)
@@ -143,12 +143,12 @@ module _ {request : Request} {image : List ℕ} {chip : Chip} where
       first_of RangeNotOffered (search (rules, arith)) judges.1
   opening_judged _ named judges = absurd judges
 
-  pub opening_accepted : {code : ℕ} → IsNamed request.named chip.config
-      → OpeningPasses request (length image) chip code → IdentityAccepts request image chip code
+  pub opening_accepted : {code : ℕ} → IsNamed further request.named chip.config
+      → OpeningPasses request (length image) chip code → IdentityAccepts further request image chip code
   opening_accepted {code = code} named passes =
       let offered = λ (none : AsksForNone request.what chip).
       none_or_code request.what chip code none passes.is_wanted in
-      let clear : IsClear request image chip 9 = search (rules, arith) in
+      let clear : IsClear further request image chip 9 = search (rules, arith) in
       record { clear = λ refusal low. none_below refusal clear (omega arith); is_wanted = passes.is_wanted }
 
 pub some_protected-found : (touched : ℕ → Bool) (chip : Chip) (found : Option ℕ)
@@ -157,11 +157,11 @@ pub some_protected-found : (touched : ℕ → Bool) (chip : Chip) (found : Optio
 some_protected-found touched chip None none = none
 some_protected-found touched chip (Some s) least = record { sector = s; held = least.is }
 
-module _ (request : Request) (image : List ℕ) (chip : Chip) where
+module _ (further : Bool) (request : Request) (image : List ℕ) (chip : Chip) where
   abbrev touches : (s : ℕ) → Bool
   touches = is_touched chip.bytes (wanted request image chip)
 
-  needs_code : {code : ℕ} → IdentityAccepts request image chip code → NeedsStatusWrite request image chip
+  needs_code : {code : ℕ} → IdentityAccepts further request image chip code → NeedsStatusWrite request image chip
       → NeedsStatus request.what request.unlock code touches chip
   needs_code accepts needs = needs_same request.what _ needs.0 _ _ chip needs.1 accepts.is_wanted needs.2
 
@@ -170,10 +170,10 @@ module _ (request : Request) (image : List ℕ) (chip : Chip) where
       let touched = (and_parts (touches s) (is_block_protected chip (4096 * s) 4096) held).0 in
       needs_unlock request.what request.unlock needs.0 _ chip (touched_data request image chip s touched) off needs.2
 
-  scan_first : (n : ℕ) (refusal : Refusal) → NoneHoldsTo 8 request image chip
-      → (9 < n → ¬ RefusalHolds request image chip StatusLocked)
-      → (10 < n → (address : ℕ) → ¬ RefusalHolds request image chip (Protected address))
-      → refusal_number refusal < n → ¬ RefusalHolds request image chip refusal
+  scan_first : (n : ℕ) (refusal : Refusal) → NoneHoldsTo further 8 request image chip
+      → (9 < n → ¬ RefusalHolds further request image chip StatusLocked)
+      → (10 < n → (address : ℕ) → ¬ RefusalHolds further request image chip (Protected address))
+      → refusal_number refusal < n → ¬ RefusalHolds further request image chip refusal
   scan_first n StatusLocked clear writable free low holds = writable low holds
   scan_first n (Protected address) clear writable free low holds = free low address holds
   scan_first n NoChip clear writable free low holds = clear NoChip (omega arith) holds
@@ -186,35 +186,35 @@ module _ (request : Request) (image : List ℕ) (chip : Chip) where
   scan_first n RangeNotOffered clear writable free low holds = clear RangeNotOffered (omega arith) holds
   scan_first n _ clear writable free low holds = holds
 
-module _ {request : Request} {image : List ℕ} {chip : Chip} {code : ℕ} {touched : ℕ → Bool}
-    (accepts : IdentityAccepts request image chip code)
+module _ {further : Bool} {request : Request} {image : List ℕ} {chip : Chip} {code : ℕ} {touched : ℕ → Bool}
+    (accepts : IdentityAccepts further request image chip code)
     (same : (s : ℕ) → touched s ≡ is_touched chip.bytes (wanted request image chip) s) where
   pub scan_judged : (refusal : Refusal) → ScanJudges request code touched chip refusal
-      → IsVerdict request image chip refusal
+      → IsVerdict further request image chip refusal
   scan_judged StatusLocked judges =
       let needs = rw (fun_ext same) at judges.1 in
       record {
         holds = (judges.0, (code, accepts.is_wanted, needs));
-        first = λ other low. scan_first request image chip 9 other accepts.clear (omega arith)
+        first = λ other low. scan_first further request image chip 9 other accepts.clear (omega arith)
             (λ past. absurd (omega arith)) low;
       }
   scan_judged (Protected address) judges =
       let least = rw (fun_ext same) at judges.3 in
       record {
         holds = (judges.0, judges.1, judges.2, least);
-        first = λ other low. scan_first request image chip 10 other accepts.clear
-            (λ past locked. never_needed request image chip judges.1 judges.0 least.is locked.1)
+        first = λ other low. scan_first further request image chip 10 other accepts.clear
+            (λ past locked. never_needed further request image chip judges.1 judges.0 least.is locked.1)
             (λ past. absurd (omega arith)) low;
       }
   scan_judged _ judges = absurd judges
 
   pub scan_accepted : {unlock : Bool} → ScanPasses request code touched chip unlock
-      → ScanAccepts request image chip unlock
+      → ScanAccepts further request image chip unlock
   scan_accepted {unlock = unlock} passes' =
       let passes = rw (fun_ext same) at passes' in
       record {
-        accepted = λ refusal. scan_first request image chip 21 refusal accepts.clear
-            (λ past locked. passes.not_locked locked.0 (needs_code request image chip accepts locked.1))
+        accepted = λ refusal. scan_first further request image chip 21 refusal accepts.clear
+            (λ past locked. passes.not_locked locked.0 (needs_code further request image chip accepts locked.1))
             (λ past address held. both_ways (is_touched_protected (is_touched chip.bytes (wanted request image chip)) chip held.1)
             (passes.free (never_lifted request.unlock unlock (λ on. (passes.lifts on).0) held.0) held.1) held.3.is)
             (number_few refusal);
@@ -222,6 +222,6 @@ module _ {request : Request} {image : List ℕ} {chip : Chip} {code : ℕ} {touc
         free = passes.free;
       }
 
-pub accepted_only : (request : Request) (image : List ℕ) (chip : Chip) (refusal : Refusal)
-    → IsAccepted request image chip → IsVerdict request image chip refusal → ⊥
-accepted_only request image chip refusal accepted verdict = accepted refusal verdict.holds
+pub accepted_only : (further : Bool) (request : Request) (image : List ℕ) (chip : Chip) (refusal : Refusal)
+    → IsAccepted further request image chip → IsVerdict further request image chip refusal → ⊥
+accepted_only further request image chip refusal accepted verdict = accepted refusal verdict.holds

@@ -65,7 +65,7 @@ pub whole_in_head : (seen vault : VaultState) {identity : Identity} {status : Li
     → (old.honest ≡ true → IsChip old.chip) → status ≡ kept_read identity
     → IsContent (head_read identity status) → HoldsPrefix seen (front (head_read identity status)) → seen ≡ vault
     → BeginsWholeChip identity old vault
-whole_in_head seen vault reaches read content holds same = rw (← same) (λ faithful chip is shows.
+whole_in_head seen vault reaches read content holds same = rw (← same) (λ faithful further chip is shows.
     let head = header_of chip in
     let e = head_same is shows (reaches shows.honest).kept2 read in
     let total = chip.config.size / 4096 in
@@ -79,13 +79,13 @@ module _ {V : Type 0} {state : V → VaultState} {first : Writer V} {identity : 
   pub whole_in_sectors : (seen vault : VaultState) → FromHead state first identity.found.size old (λ head.
       HoldsCut seen head old.chip.bytes (sectors_below (identity.found.size / 4096)) (identity.found.size / 4096))
       → seen ≡ vault → BeginsWholeChip identity old vault
-  whole_in_sectors seen vault promised same = rw (← same) (λ faithful chip is shows.
+  whole_in_sectors seen vault promised same = rw (← same) (λ faithful further chip is shows.
       cut_whole (chip.config.size / 4096)
-      (rw (chip_bytes is shows, is.config.size) at (from_head puts promised chip is shows faithful)))
+      (rw (chip_bytes is shows, is.config.size) at (from_head puts promised further chip is shows faithful)))
 
   pub all_sectors : {last : Writer V} → FromHead state first identity.found.size old (λ head. HasPutSectors state last
       head old.chip.bytes (sectors_below (identity.found.size / 4096)) (identity.found.size / 4096))
-      → (chip : _) → IsIdentityOf chip identity → HasIdleChip chip old
+      → (further : Bool) (chip : _) → IsIdentityOf further chip identity → HasIdleChip chip old
       → HasPutSectors state last (header_of chip) chip.bytes (sectors_below (chip.config.size / 4096)) (chip.config.size / 4096)
-  all_sectors promised chip is shows =
-      rw (chip_bytes is shows, is.config.size) at (from_head puts promised chip is shows)
+  all_sectors promised further chip is shows =
+      rw (chip_bytes is shows, is.config.size) at (from_head puts promised further chip is shows)

@@ -1,5 +1,5 @@
 -- The result of the identification of a chip.
-use Rattle.std.specs.Prelude.{◌≡◌, ◌≤◌, ◌+◌, ℕ, true, Option, Ok, List, [], ◌∷◌}
+use Rattle.std.specs.Prelude.{◌≡◌, ◌≤◌, ◌+◌, ℕ, Bool, true, Option, Ok, List, [], ◌∷◌}
 use Rattle.nor_model.specs.Chip.{Chip, status1_of}
 use Rattle.nor_model.specs.Exchange.{Exchange}
 use Rattle.nor_model.specs.History.{Answered, begins_with}
@@ -17,8 +17,8 @@ use Rattle.nor_scan.specs.Replied.{IsIdentifiedBy}
 abbrev pub most_identity : ℕ
 most_identity = 65542
 
-abbrev pub needed_to_identify : Chip → ℕ
-needed_to_identify chip = needed chip + 2
+abbrev pub needed_to_identify : (further : Bool) → Chip → ℕ
+needed_to_identify further chip = needed further chip + 2
 
 abbrev pub status_read : Identity → List ℕ
 status_read identity = identity.found.status1 ∷ identity.status2 ∷ []
@@ -46,10 +46,10 @@ pub record ReadsIdentity (named : Option ChipName) (old new : BusState) (identit
   pub polled_ready : new.polled_ready ≡ true
   pub rested : old.honest ≡ true → Rested old new
   pub idle : old.honest ≡ true → new.chip.busy ≡ 0
-  pub shown : old.honest ≡ true → shown_as old.chip.config ≡ Ok (part_in identity.found)
-  pub genuine : IsModelled old → IsConfigOf old.chip.config identity.found
+  pub shown : old.honest ≡ true → shown_as old.further old.chip.config ≡ Ok (part_in identity.found)
+  pub genuine : IsModelled old → IsConfigOf old.further old.chip.config identity.found
   pub status1 : old.honest ≡ true → identity.found.status1 ≡ status1_of new.chip
   pub status2 : old.honest ≡ true → identity.status2 ≡ new.chip.kept.two
   pub unique : old.honest ≡ true → identity.unique ≡ unique_of new.chip.config
   pub count : old.honest ≡ true → Spent identity.transactions old new
-  pub exact : old.honest ≡ true → identity.transactions ≡ needed_to_identify old.chip
+  pub exact : old.honest ≡ true → identity.transactions ≡ needed_to_identify old.further old.chip

@@ -25,8 +25,8 @@ IsIdentityRefusal UndefinedProtection = ⊤
 IsIdentityRefusal RangeNotOffered = ⊤
 IsIdentityRefusal _ = ⊥
 
--- Holds if `code` has the protection bits that a session leaves on the chip: for a protection range the least defined
--- value that protects exactly this range, otherwise the bits that were read.
+-- Holds if `code` has the target protection bits: for a protection range the least defined value that protects exactly
+-- this range, otherwise the bits that were read.
 abbrev pub IsFoundCode : What → Identity → ℕ → Type 0
 IsFoundCode (WpRange start len) identity code = IsLeastCode identity.found.size start len code
 IsFoundCode _ identity code = code ≡ code_of (kept_in (status_read identity))
@@ -39,39 +39,44 @@ IsScanRefusal _ = ⊥
 abbrev pub Lifts : Request → SectorSet → Bool → Type 0
 Lifts request touched unlock = unlock ≡ true → (request.unlock ≡ true) × HasSome touched
 
--- Holds if a request that `judge_identity` accepts satisfies `IdentityAccepts`, for each image of `len` bytes and each
--- chip with this identification and the requested name, if any.
+-- Holds if `judged` (the result of `judge_identity`) is an error, or its code satisfies `IdentityAccepts` for every
+-- image of `len` bytes and every chip that has this identification and, if the request has a name, this name.
 abbrev pub AcceptsIdentity : Request → ℕ → Identity → Result ℕ Refusal → Type 0
-AcceptsIdentity request len identity judged = (chip : Chip) (image : List ℕ) → IsIdentityOf chip identity
-    → IsNamed request.named chip.config → length image ≡ len → IfOk judged (IdentityAccepts request image chip)
+AcceptsIdentity request len identity judged =
+    (further : Bool) (chip : Chip) (image : List ℕ) → IsIdentityOf further chip identity
+    → IsNamed further request.named chip.config → length image ≡ len
+    → IfOk judged (IdentityAccepts further request image chip)
 
 abbrev pub RefusesIdentity : Request → ℕ → Identity → Result ℕ Refusal → Type 0
-RefusesIdentity request len identity judged = (chip : Chip) (image : List ℕ) → IsIdentityOf chip identity
-    → IsNamed request.named chip.config → length image ≡ len → IfErr judged (IsVerdict request image chip)
+RefusesIdentity request len identity judged =
+    (further : Bool) (chip : Chip) (image : List ℕ) → IsIdentityOf further chip identity
+    → IsNamed further request.named chip.config → length image ≡ len
+    → IfErr judged (IsVerdict further request image chip)
 
 abbrev pub FindsProtected : (ℕ → Bool) → Identity → Option ℕ → Type 0
 FindsProtected touched identity found =
-    (chip : Chip) → IsIdentityOf chip identity
+    (further : Bool) (chip : Chip) → IsIdentityOf further chip identity
     → MatchOption found (NoneProtected touched chip) (IsLeastProtected touched chip)
 
 abbrev pub FindsNeed : Request → Identity → Bool → ℕ → Bool → Type 0
-FindsNeed request identity is_touched_protected code needed = (chip : Chip) (touched : ℕ → Bool)
-    → IsIdentityOf chip identity
+FindsNeed request identity is_touched_protected code needed = (further : Bool) (chip : Chip) (touched : ℕ → Bool)
+    → IsIdentityOf further chip identity
     → MatchBool is_touched_protected (SomeProtected touched chip) (NoneProtected touched chip)
     → MatchBool needed (NeedsStatus request.what request.unlock code touched chip)
     (¬ NeedsStatus request.what request.unlock code touched chip)
 
 -- Holds if `promise` holds for each chip with this identification and each image, provided that `IdentityAccepts` holds
 -- with `code` and the request touches exactly the sectors in `touched`.
-abbrev pub OfTouched : Request → Identity → ℕ → (ℕ → Bool) → (List ℕ → Chip → Type 0) → Type 0
-OfTouched request identity code touched promise = (chip : Chip) (image : List ℕ) → IsIdentityOf chip identity
-    → IdentityAccepts request image chip code
-    → ((s : ℕ) → touched s ≡ is_touched chip.bytes (wanted request image chip) s) → promise image chip
+abbrev pub OfTouched : Request → Identity → ℕ → (ℕ → Bool) → (Bool → List ℕ → Chip → Type 0) → Type 0
+OfTouched request identity code touched promise =
+    (further : Bool) (chip : Chip) (image : List ℕ) → IsIdentityOf further chip identity
+    → IdentityAccepts further request image chip code
+    → ((s : ℕ) → touched s ≡ is_touched chip.bytes (wanted request image chip) s) → promise further image chip
 
 abbrev pub AcceptsScan : Request → Identity → ℕ → (ℕ → Bool) → Result Bool Refusal → Type 0
 AcceptsScan request identity code touched judged =
-    OfTouched request identity code touched (λ image chip. IfOk judged (ScanAccepts request image chip))
+    OfTouched request identity code touched (λ further image chip. IfOk judged (ScanAccepts further request image chip))
 
 abbrev pub RefusesScan : Request → Identity → ℕ → (ℕ → Bool) → Result Bool Refusal → Type 0
 RefusesScan request identity code touched judged =
-    OfTouched request identity code touched (λ image chip. IfErr judged (IsVerdict request image chip))
+    OfTouched request identity code touched (λ further image chip. IfErr judged (IsVerdict further request image chip))

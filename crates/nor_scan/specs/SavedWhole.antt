@@ -1,5 +1,5 @@
 -- The effect of `save_whole`, which saves a whole chip in a journal.
-use Rattle.std.specs.Prelude.{◌≡◌, ◌/◌, ℕ, true}
+use Rattle.std.specs.Prelude.{◌≡◌, ◌/◌, ℕ, Bool, true}
 use Rattle.nor_model.specs.Chip.{Chip}
 use Rattle.nor_model.specs.Bus.{BusState}
 use Rattle.nor_driver.specs.OnlyReads.{HasStopped}
@@ -15,13 +15,13 @@ use Rattle.nor_scan.specs.Scanning.{sectors_below}
 -- this chip is idle and has this identification.
 abbrev pub HasWholeChip : Identity → BusState → VaultState → Type 0
 HasWholeChip identity old vault = vault.telling ≡ true
-    → (chip : Chip) → IsIdentityOf chip identity → HasIdleChip chip old
+    → (further : Bool) (chip : Chip) → IsIdentityOf further chip identity → HasIdleChip chip old
     → JournalSaves (header_of chip) chip.bytes (sectors_below (chip.config.size / 4096)) vault.bytes
 
 -- Holds if a faithful vault (`telling`) has a prefix of the chip's journal, under the premises of `HasWholeChip`.
 abbrev pub BeginsWholeChip : Identity → BusState → VaultState → Type 0
 BeginsWholeChip identity old vault = vault.telling ≡ true
-    → (chip : Chip) → IsIdentityOf chip identity → HasIdleChip chip old
+    → (further : Bool) (chip : Chip) → IsIdentityOf further chip identity → HasIdleChip chip old
     → IsJournalPrefix (header_of chip) chip.bytes (sectors_below (chip.config.size / 4096)) vault.bytes
 
 -- Holds if `save_whole` may return this error: 12 (the bus stopped) or 11 (the vault refused a call).

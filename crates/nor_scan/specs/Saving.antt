@@ -11,9 +11,10 @@ use Rattle.nor_scan.specs.declared.identity.Identity.{Identity}
 use Rattle.nor_request.specs.declared.request.What.{What}
 use Rattle.nor_request.specs.declared.request.What.TheVariants.{WpRange}
 
--- Holds if `chip` is known (`IsKnown`) and has this identification.
-pub record IsIdentityOf (chip : Chip) (identity : Identity) : Type 0 where
-  pub config : IsConfigOf chip.config identity.found
+-- Holds if `chip` is genuine and can be identified on a bus with or without further types (`further`), and its ID,
+-- size, erase types, block protection, non-volatile status bits and unique ID are those of `identity`.
+pub record IsIdentityOf (further : Bool) (chip : Chip) (identity : Identity) : Type 0 where
+  pub config : IsConfigOf further chip.config identity.found
   pub one : identity.found.status1 / 4 ≡ chip.kept.one
   pub two : identity.status2 ≡ chip.kept.two
   pub unique : identity.unique ≡ unique_of chip.config

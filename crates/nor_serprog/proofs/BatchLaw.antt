@@ -1,7 +1,6 @@
--- If the chip of a `BatchingBus` made one step, or this step was cut, the bus meets its contract (`Transfers`).
+-- If the chip of a `BatchingBus` made one step, or the step was interrupted, the bus meets its contract (`Transfers`).
 use Rattle.std.proofs.Common.{◌≡◌, ◌∙◌, ℕ, Bool, true, false, List, Ok, Err, inl, inr, refl, ap}
-use Rattle.std.specs.Prelude.{◌&&◌, not}
-use Rattle.std.proofs.lemmas.Bool.{false≢true, and_parts}
+use Rattle.std.proofs.lemmas.Bool.{false≢true}
 use Rattle.nor_model.specs.declared.bus.Stopped.{Stopped}
 use Rattle.nor_model.specs.Chip.{Chip}
 use Rattle.nor_model.specs.Exchange.{Exchange}
@@ -9,10 +8,6 @@ use Rattle.nor_model.specs.Bus.{SameNature, Records, Transfers}
 use Rattle.nor_serprog.specs.Batching.{over_batch}
 use Rattle.nor_serprog.specs.Device.{Device, PortState, StepsOnce, IsCut}
 use Rattle.nor_serprog.specs.Enabled.{enabled_device}
-
-not_further : (further : Bool) → not further ≡ true → further ≡ false
-not_further false is = refl
-not_further true is = absurd (false≢true is)
 
 cut_config : (out : List ℕ) (old new : Device) → IsCut out old new → new.chip.config ≡ old.chip.config
 cut_config out old new c = elim c.then.chip [
@@ -23,48 +18,46 @@ cut_config out old new c = elim c.then.chip [
 module _ (out before answer : List ℕ) (waits waits' further : Bool) (old new : PortState)
     (history history' : List Exchange) where
   nature : new.honest ≡ old.honest
-      → (further ≡ false → old.honest ≡ true → new.device.chip.config ≡ old.device.chip.config)
+      → (old.honest ≡ true → new.device.chip.config ≡ old.device.chip.config)
       → SameNature (over_batch waits further old history) (over_batch waits' further new history')
   nature same config = record {
-    honest = ap (λ (honest : Bool). honest && not further) same;
+    honest = same;
     steady = refl;
     unlimited = refl;
     longer = refl;
     punctual = refl;
-    config = λ honest.
-        let both = and_parts old.honest (not further) honest in config (not_further further both.1) both.0;
+    further = refl;
+    config = config;
   }
 
   pub law_ok : new.honest ≡ old.honest
-      → (further ≡ false → old.honest ≡ true
+      → (old.honest ≡ true
       → StepsOnce out answer (enabled_device waits old.device) (enabled_device waits' new.device))
       → Records out answer (Ok tt) (over_batch waits further old history) (over_batch waits' further new history')
       → Transfers out before answer (Ok tt) (over_batch waits further old history)
       (over_batch waits' further new history')
   law_ok same steps records = record {
-    nature = nature same (λ known honest. (steps known honest).step.config);
+    nature = nature same (λ honest. (steps honest).step.config);
     stops = λ fits. tt;
     unread = λ fits punctual. tt;
     carries = λ fits.
-        let both = and_parts old.honest (not further) fits.honest in
-        let made = steps (not_further further both.1) both.0 in
+        let made = steps fits.honest in
         record { left = λ punctual. absurd (false≢true punctual); step = made.step; worn = made.worn };
     records = records;
   }
 
   pub law_err : (stopped : Stopped) → new.honest ≡ old.honest
-      → (further ≡ false → old.honest ≡ true
+      → (old.honest ≡ true
       → IsCut out (enabled_device waits old.device) (enabled_device waits' new.device))
       → Records out answer (Err stopped) (over_batch waits further old history)
       (over_batch waits' further new history')
       → Transfers out before answer (Err stopped) (over_batch waits further old history)
       (over_batch waits' further new history')
   law_err stopped same cut records = record {
-    nature = nature same (λ known honest.
-        cut_config out (enabled_device waits old.device) (enabled_device waits' new.device) (cut known honest));
+    nature = nature same (λ honest.
+        cut_config out (enabled_device waits old.device) (enabled_device waits' new.device) (cut honest));
     stops = λ fits.
-        let both = and_parts old.honest (not further) fits.honest in
-        let c = cut (not_further further both.1) both.0 in
+        let c = cut fits.honest in
         record {
           none_left = λ punctual. absurd (false≢true punctual);
           left = λ punctual. absurd (false≢true punctual);

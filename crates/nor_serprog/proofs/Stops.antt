@@ -1,5 +1,5 @@
 -- If a transaction over a well-behaved port fails, it fails as the contract of a bus allows (`Stops`).
-use Rattle.std.proofs.Common.{◌≡◌, ◌∙◌, ◌<◌, ◌≤◌, ◌⊎◌, ℕ, true, false, List, [], length, refl, sym, ap, subst, arith, inl, inr}
+use Rattle.std.proofs.Common.{◌≡◌, ◌∙◌, ◌<◌, ◌≤◌, ◌⊎◌, ℕ, Bool, true, false, List, [], length, refl, sym, ap, subst, arith, inl, inr}
 use Rattle.std.proofs.Math.Bool.{or-false}
 use Rattle.std.proofs.lemmas.Bool.{cases_Bool, false≢true}
 use Rattle.nor_model.specs.Exchange.{Exchange}
@@ -10,10 +10,10 @@ use Rattle.nor_serprog.specs.Bus.{over_port}
 use Rattle.nor_serprog.specs.Device.{PortState, Interrupted}
 use Rattle.nor_serprog.specs.Link.{is_in_step, IsSettled}
 
-stops_cut : (out : List ℕ) (replies : ℕ) (old new : PortState) (history history' : List Exchange)
+stops_cut : (further : Bool) (out : List ℕ) (replies : ℕ) (old new : PortState) (history history' : List Exchange)
     → old.left < 3 → Interrupted out replies replies old new
-    → Stops out (over_port old history) (over_port new history')
-stops_cut out replies old new history history' few is = record {
+    → Stops out (over_port further old history) (over_port further new history')
+stops_cut further out replies old new history history' few is = record {
   none_left = λ punctual. omega (arith, few);
   left = λ punctual. omega (arith, few, is.few);
   at_stop = record {
@@ -28,9 +28,9 @@ stops_cut out replies old new history history' few is = record {
   };
 }
 
-stops_silent : (out : List ℕ) (port : PortState) (history history' : List Exchange) → port.left < 3
-    → Stops out (over_port port history) (over_port port history')
-stops_silent out port history history' few = record {
+stops_silent : (further : Bool) (out : List ℕ) (port : PortState) (history history' : List Exchange) → port.left < 3
+    → Stops out (over_port further port history) (over_port further port history')
+stops_silent further out port history history' few = record {
   none_left = λ punctual. omega (arith, few);
   left = λ punctual. refl;
   at_stop = record {
@@ -45,25 +45,25 @@ stops_silent out port history history' few = record {
   };
 }
 
-pub stops_over : {P C : Type 0} (port : P → PortState) (out : List ℕ) (replies : ℕ) (link link' : Link P C)
+pub stops_over : {P C : Type 0} (further : Bool) (port : P → PortState) (out : List ℕ) (replies : ℕ) (link link' : Link P C)
     (history history' : List Exchange) → IsSettled port link → (is_in_step link ≡ false → link' ≡ link)
     → ((port link.port).honest ≡ true → (link' ≡ link)
     ⊎ Interrupted out replies replies (port link.port) (port link'.port))
     → (length out ≤ 260 → replies ≤ 4096 → is_in_step link' ≡ false)
-    → IsHonestFor out replies (over_port (port link.port) history)
-    → Stops out (over_port (port link.port) history) (over_port (port link'.port) history')
-stops_over {P} {C} port out replies link link' history history' settled silent interrupted fits honest =
+    → IsHonestFor out replies (over_port further (port link.port) history)
+    → Stops out (over_port further (port link.port) history) (over_port further (port link'.port) history')
+stops_over {P} {C} further port out replies link link' history history' settled silent interrupted fits honest =
     let Ends : Link P C → Type 0 = λ (now : Link P C).
-    Stops out (over_port (port link.port) history) (over_port (port now.port) history') in
+    Stops out (over_port further (port link.port) history) (over_port further (port now.port) history') in
     elim (cases_Bool (is_in_step link)) [
       | inr lost ↦
           subst Ends (sym (silent lost))
-          (stops_silent out (port link.port) history history' (settled.spent honest.honest lost))
+          (stops_silent further out (port link.port) history history' (settled.spent honest.honest lost))
       | inl in_step ↦ elim honest.fits [
         | inl unlimited ↦ absurd (false≢true unlimited)
         | inr short ↦ elim (interrupted honest.honest) [
           | inr cut ↦
-              stops_cut out replies (port link.port) (port link'.port) history history'
+              stops_cut further out replies (port link.port) (port link'.port) history history'
               (cut.few_left short.0 short.1 (omega arith)) cut
           | inl same ↦
               absurd (false≢true (sym (fits short.0 short.1) ∙ ap (λ (l : Link P C). is_in_step l) same ∙ in_step))

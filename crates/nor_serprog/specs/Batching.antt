@@ -1,5 +1,5 @@
--- A `BatchingBus`, which sends a write enable together with the page program after it, as contracts see it.
-use Rattle.std.specs.Prelude.{◌&&◌, ℕ, List, [], Bool, true, false, not, Option}
+-- Definitions for the contracts of `BatchingBus`, which can send a write enable with the page program after it.
+use Rattle.std.specs.Prelude.{ℕ, List, [], Bool, true, false, Option}
 use Rattle.nor_model.specs.Bus.{BusState}
 use Rattle.nor_model.specs.Exchange.{Exchange}
 use Rattle.nor_model.specs.PolledReady.{polled_ready_in}
@@ -45,7 +45,7 @@ cause_of batching = batching.cause
 abbrev pub is_ready : {P C : Type 0} {over : Ghosts P C} → BatchingBus P C over → Bool
 is_ready batching = is_in_step batching.batch.link
 
--- True if the chip may be of a further row (`has_further_types`). For contracts, such a bus isn't well-behaved.
+-- True if the chip may be of a further type (`has_further_types`).
 abbrev pub has_further : {P C : Type 0} {over : Ghosts P C} → BatchingBus P C over → Bool
 has_further batching = batching.further
 
@@ -56,7 +56,7 @@ abbrev pub over_batch : (waits further : Bool) → PortState → (history : List
 over_batch waits further port history = record {
   chip = enabled waits port.device.chip;
   left = 0;
-  honest = port.honest && not further;
+  honest = port.honest;
   history = history;
   sent = sent_in history;
   allowances = [];

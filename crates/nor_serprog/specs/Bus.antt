@@ -1,4 +1,4 @@
--- A `SerprogBus`, as contracts see it.
+-- Definitions for the contracts of `SerprogBus`.
 use Rattle.std.specs.Prelude.{◌/◌, Bool, true, false, List, [], Option}
 use Rattle.nor_model.specs.Bus.{BusState}
 use Rattle.nor_model.specs.Exchange.{Exchange}
@@ -11,11 +11,11 @@ use Rattle.nor_serprog.specs.declared.port.Port.{Ghosts}
 use Rattle.nor_serprog.specs.Device.{PortState}
 use Rattle.nor_serprog.specs.Link.{is_in_step}
 
--- The state of a bus over a port in this state. A transaction takes three calls of the port: one sends the frame, one
--- receives ACK, and one receives the reply. The bus is not `steady`, because the port can fail in the middle of a
+-- The state of a bus over a port with the state `port`. A transaction takes three calls of the port, which send the
+-- frame, receive ACK and receive the reply. The bus is not `steady`, because the port can fail in the middle of a
 -- transaction, and not `unlimited`, because it is punctual but stops at transactions that are too long.
-abbrev pub over_port : PortState → (history : List Exchange) → BusState
-over_port port history = record {
+abbrev pub over_port : (further : Bool) → PortState → (history : List Exchange) → BusState
+over_port further port history = record {
   chip = port.device.chip;
   left = port.left / 3;
   honest = port.honest;
@@ -28,7 +28,7 @@ over_port port history = record {
   longer = 0;
   punctual = true;
   polled_ready = polled_ready_in history;
-  further = false;
+  further = further;
 }
 
 abbrev pub link_of : {P C : Type 0} {over : Ghosts P C} → SerprogBus P C over → Link P C
@@ -49,8 +49,12 @@ polled_ready_of bus = polled_ready_in (history_of bus)
 abbrev pub cause_of : {P C : Type 0} {over : Ghosts P C} → SerprogBus P C over → Option (Failure C)
 cause_of bus = bus.cause
 
+-- True if the chip may be of a further type (`has_further_types`).
+abbrev pub has_further : {P C : Type 0} {over : Ghosts P C} → SerprogBus P C over → Bool
+has_further bus = bus.further
+
 abbrev pub is_ready : {P C : Type 0} {over : Ghosts P C} → SerprogBus P C over → Bool
 is_ready bus = is_in_step bus.link
 
 abbrev pub serprog_state : {P C : Type 0} {over : Ghosts P C} → SerprogBus P C over → BusState
-serprog_state {over = over} bus = over_port (over.state bus.link.port) (history_of bus)
+serprog_state {over = over} bus = over_port bus.further (over.state bus.link.port) (history_of bus)

@@ -1,7 +1,7 @@
-//! A bus that sends a write enable and the page program after it with one call of the port.
+//! A bus that can send a write enable and the page program after it with one call of the port.
 ghost use Rattle.std.specs.Prelude.{◌≡◌, ◌≤◌, ◌⊎◌, ◌∷◌, ◌++◌, [], ℕ, List, true, false, length, OnOk, OnErr, IsSome, option_copied};
 ghost use Rattle.nor_model.specs.Bus.{Transfers};
-ghost use Rattle.nor_serprog.specs.Batch.{IsSettledBatch};
+ghost use Rattle.nor_serprog.specs.Batch.{IsSettledBatch, IsSettledFor};
 
 use crate::batch::Batch;
 use crate::{AnyProgrammer, Failure, Link, Port, Programmer, Sync};
@@ -24,9 +24,8 @@ use nor_model::{Bus, History, Stopped};
 /// - The history lists failed and rejected transactions without a reply, and a waiting write enable with an empty
 ///   reply.
 ///
-/// Over a well-behaved port, the bus that `emulated` returns is well-behaved and unlimited, but not punctual. Its chip
-/// is the programmer's chip, as if a waiting write enable had been carried out. The buses that `new` and `over` return
-/// may have chips of further rows, so for contracts these buses are not well-behaved.
+/// Over a well-behaved port this bus is well-behaved and unlimited, but not punctual. Its chip is the programmer's
+/// chip, as if a waiting write enable had been carried out.
 #[derive(Drop)]
 pub struct BatchingBus<P: Port + Drop> {
     batch: Batch<P>,
@@ -34,7 +33,7 @@ pub struct BatchingBus<P: Port + Drop> {
     cause: Option<Failure<P::Cause>>,
     history: History,
     further: bool,
-    ghost settled: { further ≡ false → IsSettledBatch batch },
+    ghost settled: { IsSettledBatch batch },
 }
 
 impl<P: Port + Drop> BatchingBus<P> {
@@ -43,12 +42,14 @@ impl<P: Port + Drop> BatchingBus<P> {
     ghost use Rattle.nor_serprog.specs.Device.{IsIdle};
     ghost use Rattle.nor_serprog.specs.Firmware.{buffer_at};
     ghost use Rattle.nor_serprog.specs.Link.{port_of, is_in_step};
-    ghost use Rattle.nor_serprog.specs.Programmer.{any_buffer_of};
+    ghost use Rattle.nor_serprog.specs.Programmer.{any_buffer_of, buffer_of};
 
     /// Returns a bus over a link whose programmer was identified (`Programmer::identify`).
     pub fn new(link: Link<P>, programmer: Programmer) -> BatchingBus<P>
+        requires settled { IsSettledFor (buffer_of programmer) P.state link }
         ensures link { link_of result ≡ link }
         ensures empty { waits_of result ≡ false }
+        ensures further { has_further result ≡ true }
         ensures history { history_of result ≡ [] }
         ensures sent { sent_of result ≡ [] }
         ensures polled_ready { polled_ready_of result ≡ false }
@@ -60,8 +61,10 @@ impl<P: Port + Drop> BatchingBus<P> {
     /// Returns a bus over a link whose programmer was identified (`AnyProgrammer::identify`). The bus sends up to 260
     /// bytes even if the programmer's limit is lower, so wrap it in a `SplittingBus` (nor_buses).
     pub fn over(link: Link<P>, programmer: AnyProgrammer) -> BatchingBus<P>
+        requires settled { IsSettledFor (any_buffer_of programmer) P.state link }
         ensures link { link_of result ≡ link }
         ensures empty { waits_of result ≡ false }
+        ensures further { has_further result ≡ true }
         ensures history { history_of result ≡ [] }
         ensures sent { sent_of result ≡ [] }
         ensures polled_ready { polled_ready_of result ≡ false }
@@ -160,11 +163,10 @@ impl<P: Port + Drop> Bus for BatchingBus<P> {
     ghost use Rattle.nor_serprog.specs.Batching.{link_of, port_in, waits_of, cause_of, is_ready, serprog_state};
     ghost use Rattle.nor_serprog.specs.Batching.{SendsFrames};
     ghost use Rattle.nor_serprog.specs.Asked.{acks};
-    ghost use Rattle.std.proofs.lemmas.Bool.{and_parts};
 
     ghost state = { serprog_state };
 
-    ghost reaches = { λ batching honest. let is = P.reaches batching.batch.link.port (and_parts _ _ honest).0 in record {
+    ghost reaches = { λ batching honest. let is = P.reaches batching.batch.link.port honest in record {
       busy = is.busy;
       kept1 = is.kept1;
       kept2 = is.kept2;

@@ -19,27 +19,32 @@ pub struct SerprogBus<P: Port + Drop> {
     programmer: Programmer,
     cause: Option<Failure<P::Cause>>,
     history: History,
+    further: bool,
     ghost idle: { IsSettled P.state link },
 }
 
 impl<P: Port + Drop> SerprogBus<P> {
     ghost use Rattle.nor_serprog.specs.Bus.{link_of, port_in, history_of, sent_of, polled_ready_of, cause_of, is_ready};
+    ghost use Rattle.nor_serprog.specs.Bus.{has_further};
 
     /// Returns a bus over a link whose programmer was identified (`Programmer::identify`). The link must be in step. If
-    /// the port is well-behaved, the programmer must be idle.
-    pub fn new(link: Link<P>, programmer: Programmer) -> SerprogBus<P>
+    /// the port is well-behaved, the programmer must be idle. `further` says whether the chip may be of a further type
+    /// (`has_further_types`), as every chip on a board may be.
+    pub fn new(link: Link<P>, programmer: Programmer, further: bool) -> SerprogBus<P>
         requires in_step { is_in_step link ≡ true }
         requires idle { (P.state (port_of link)).honest ≡ true → IsIdle (P.state (port_of link)).device }
         ensures link { link_of result ≡ link }
         ensures history { history_of result ≡ [] }
         ensures sent { sent_of result ≡ [] }
         ensures polled_ready { polled_ready_of result ≡ false }
+        ensures further { has_further result ≡ further }
     {
         SerprogBus {
             link,
             programmer,
             cause: None,
             history: History::new(),
+            further,
         }
     }
 
@@ -113,7 +118,7 @@ impl<P: Port + Drop> Bus for SerprogBus<P> {
     }
 
     fn has_further_types(&self) -> bool {
-        false
+        self.further
     }
 }
 

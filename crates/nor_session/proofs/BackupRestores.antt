@@ -48,7 +48,7 @@ writable_open backup first a whole is =
     let blocks = (sized_bounds first.config).blocks in
     and_from (is_saved backup (a / 4096)) _ (whole.every (a / 4096) (omega arith)) parts.1
 
-pub backup_restores_any : (backup : Content) (first : Chip) (state : BusState) → IsKnown first.config
+pub backup_restores_any : (backup : Content) (first : Chip) (state : BusState) → IsKnown state.further first.config
     → SavesWholeChip backup first → IsWithin (writable_addresses first) first state → CanRestore backup first state
 backup_restores_any backup first state known whole within = record {
   known = known;
@@ -87,7 +87,7 @@ is_backup first bytes chip kept =
       };
     }
 
-pub backup_restorable : (first : Chip) (bytes : List ℕ) (state : BusState) → IsKnown first.config
+pub backup_restorable : (first : Chip) (bytes : List ℕ) (state : BusState) → IsKnown state.further first.config
     → IsBackupOf bytes first → IsSame first state.chip → state.chip.busy ≡ 0 → CanRestoreFrom bytes first state
 backup_restorable first bytes state known backup same idle = record {
   journal = backup.journal;

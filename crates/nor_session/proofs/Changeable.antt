@@ -67,18 +67,18 @@ module _ {choice : Choice} {journal : Content} {identity : Identity} {scanned : 
       (fun_ext (rw bytes at (read.scans.touched is_open)), fun_ext (rw bytes at (read.scans.raised is_open)))
 
   pub shut_errors : (most : ℕ)
-      → ((chip : Chip) → IsIdentityOf chip identity → IsShut journal (has scanned.touched) chip)
+      → ((further : Bool) (chip : Chip) → IsIdentityOf further chip identity → IsShut journal (has scanned.touched) chip)
       → PrepareErrors choice journal most old new StatusLocked
   shut_errors most shut = record {
     judged = refl;
     same = λ honest. (rested_all honest).unchanged.same;
     verdict = λ modelled.
         let is = opening_of modelled read.opens in
-        let is_shut = rw (marks_old modelled).0 at (shut old.chip is) in
-        (read.fits old.chip (read.small modelled.honest) is, is_shut.locked, is_shut.needs);
+        let is_shut = rw (marks_old modelled).0 at (shut old.further old.chip is) in
+        (read.fits old.further old.chip (read.small modelled.honest) is, is_shut.locked, is_shut.needs);
   }
 
-scheme_for : (journal : Content) (touched : ℕ → Bool) (chip : Chip) → FitsJournal journal chip
+scheme_for : {further : Bool} (journal : Content) (touched : ℕ → Bool) (chip : Chip) → FitsJournal further journal chip
     → NeedsStatusWith journal touched chip → chip.config.scheme ≡ true
 scheme_for journal touched chip fits (inr some) = held_scheme touched chip some
 scheme_for journal touched chip fits (inl differs) =
@@ -86,7 +86,7 @@ scheme_for journal touched chip fits (inl differs) =
 
 module _ {choice : Choice} (sound : IsSoundChoice choice) {journal : Content} {identity : Identity} {scanned : Scanned}
     {changes : Changes} {old mid new : BusState} (read : AreRead choice journal identity scanned old mid new) (are : AreChanges journal identity scanned changes)
-    (judged : (chip : Chip) → IsIdentityOf chip identity → MayChangeStatus journal (has scanned.touched) chip changes) where
+    (judged : (further : Bool) (chip : Chip) → IsIdentityOf further chip identity → MayChangeStatus journal (has scanned.touched) chip changes) where
   below : (s : ℕ) → has changes.touched s ≡ true → s < changes.size / 4096
   below s hit = let b = read.scans.marks.below s (rw are.touched at hit) in omega arith
 
@@ -96,18 +96,18 @@ module _ {choice : Choice} (sound : IsSoundChoice choice) {journal : Content} {i
   rises_touched : (s : ℕ) → has changes.raised s ≡ true → has changes.touched s ≡ true
   rises_touched s hit = rw are.touched (read.scans.marks.inside s (rw are.raised at hit))
 
-  prepared_for : (sent : ℕ) → IsModelled old → IsPreparedFor choice journal old.chip new.chip
+  prepared_for : (sent : ℕ) → IsModelled old → IsPreparedFor old.further choice journal old.chip new.chip
       record { found = identity.found; changes = changes; touched = scanned.count; transactions = sent }
   prepared_for sent modelled =
       let is = opening_of modelled read.opens in
-      let fits = read.fits old.chip (read.small modelled.honest) is in
+      let fits = read.fits old.further old.chip (read.small modelled.honest) is in
       let content = old.chip.bytes in let target_bytes = restored journal content in
       let marks = marks_old read modelled in
       let touched : (s : ℕ) → has changes.touched s ≡ choice.touched journal old.chip.bytes s
       = λ s. ap (λ (set : ℕ → Bool). set s) (ap has are.touched ∙ marks.0) in
       let raised : (s : ℕ) → has changes.raised s ≡ choice.raised journal old.chip.bytes s
       = λ s. ap (λ (set : ℕ → Bool). set s) (ap has are.raised ∙ marks.1) in
-      let may = rw marks.0 at (judged old.chip is) in
+      let may = rw marks.0 at (judged old.further old.chip is) in
       let same = (rested_all read modelled.honest).unchanged.same in
       let status : code_of (kept_in (bytes_of changes.status)) ≡ code_of old.chip.kept
       = rw (are.one, are.two) (code_same is) in

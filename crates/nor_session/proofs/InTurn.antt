@@ -20,7 +20,7 @@ use Rattle.nor_session.proofs.RestoredOriginal.{same_as_original, lost_within}
 use Rattle.nor_request.specs.Request.{wanted}
 use Rattle.nor_scan.specs.Saving.{header_of}
 use Rattle.nor_session.proofs.JudgedAgain.{accepted_free}
-use Rattle.nor_session.proofs.WrittenBack.{read_back, read_kept, session_over}
+use Rattle.nor_session.proofs.WrittenBack.{read_back, read_kept, session_over_within}
 
 as_saved : (journal : Content) (first chip : Chip) (a : ℕ) → SavesChip journal first → IsSame first chip → restored journal chip.bytes a ≡ chip.bytes a
 as_saved journal first chip a saves same = search (arith, saved_byte-is)
@@ -70,7 +70,7 @@ can_restore_same journal first new taken can same = search arith
 
 pub lost_can_restore : (journal : Content) (first : Chip) (old new : BusState) → CanRestore journal first old → LosesPower old new → CanRestore journal first new
 lost_can_restore journal first old new can loses = record {
-  known = can.known;
+  known = rw loses.further can.known;
   saves = can.saves;
   within = lost_within (open_addresses journal first) first old new loses.known loses.lost can.within;
 }
@@ -78,6 +78,14 @@ lost_can_restore journal first old new can loses = record {
 can_restore_kept : (journal : Content) (first : Chip) (new taken : BusState) → CanRestore journal first new → MayLosePower new taken → CanRestoreChip journal first taken.chip
 can_restore_kept journal first new taken can (inl same) = can_restore_same journal first new.chip taken.chip (can_restore_chip journal first new can) same
 can_restore_kept journal first new taken can (inr loses) = can_restore_chip journal first taken (lost_can_restore journal first new taken can loses)
+
+kept_chip : (journal : Content) (first : Chip) (new taken : BusState) → SavesChip journal first
+    → IsWithin (open_addresses journal first) first new → MayLosePower new taken → CanRestoreChip journal first taken.chip
+kept_chip journal first new taken saves within (inl same) =
+    can_restore_same journal first new.chip taken.chip (record { saves = saves; config = within.config; bytes = within.bytes }) same
+kept_chip journal first new taken saves within (inr loses) =
+    let later = lost_within (open_addresses journal first) first new taken loses.known loses.lost within in
+    record { saves = saves; config = later.config; bytes = later.bytes }
 
 left_can_restore : (request : Request) (image : List ℕ) (old new : BusState) (journal : Content) → LeavesJournal request image old new journal → CanRestore journal old.chip new
 left_can_restore request image old new journal left = search (arith, read_back)
@@ -89,13 +97,15 @@ left_rewritable request image old new journal left = λ locked s.
     let read = read_kept (header_of old.chip) old.chip.bytes touched journal left.vault.bytes
     (left.undone.journal left.telling) left.whole left.same in
     let same : touched s ≡ is_saved journal s = Saves-set old.chip.bytes touched journal s read.1 in
-    rw (← same) (accepted_free request image old.chip left.undone.accepted locked s)
+    rw (← same) (accepted_free old.further request image old.chip left.undone.accepted locked s)
 
 left_taken : (request : Request) (image : List ℕ) (old new taken : BusState) (journal : Content) → LeavesJournal request image old new journal → IsTakenUp old new taken
     → CanRestoreChip journal old.chip taken.chip
 left_taken request image old new taken journal left (inl kept) =
     can_restore_kept journal old.chip new taken (left_can_restore request image old new journal left) kept
-left_taken request image old new taken journal left (inr over) = search (arith, can_restore_chip, session_over)
+left_taken request image old new taken journal left (inr over) =
+    let both = session_over_within request image old new taken left.vault journal left.modelled left.is left.telling left.undone left.whole left.same over in
+    record { saves = both.0; config = both.1.config; bytes = both.1.bytes }
 
 left_reached : (request : Request) (image : List ℕ) (old new taken : BusState) (journal : Content) → LeavesJournal request image old new journal
     → IsTakenUp old new taken ⊎ CanRestore journal old.chip taken → CanRestoreChip journal old.chip taken.chip
@@ -119,16 +129,16 @@ taken_within request image old mid mid' back journal left (inl (inr loses)) agai
     idle_again _ old.chip mid' back (lost_can_restore journal old.chip mid mid' (left_can_restore request image old mid journal left) loses).within again idle
 taken_within request image old mid mid' back journal left (inr over) again idle =
     idle_again _ old.chip mid' back
-    (session_over request image old mid mid' left.vault journal left.modelled left.is left.telling left.undone left.whole left.same over).within again idle
+    (session_over_within request image old mid mid' left.vault journal left.modelled left.is left.telling left.undone left.whole left.same over).1 again idle
 
 pub later_undone : (request later : Request) (image later_image : List ℕ) (old mid mid' new new' back : BusState) (journal other : Content) (report : Report)
     → LeavesJournal request image old mid journal → IsTakenUp old mid mid' → LeavesJournal later later_image mid' new other → IsTakenUp mid' new new' ⊎ CanRestore other mid'.chip new'
-    → IsRestored other new' back report → CanRestore journal old.chip back
-later_undone request later image later_image old mid mid' new new' back journal other report first passed second gone undone =
+    → IsRestored other new' back report → back.further ≡ old.further → CanRestore journal old.chip back
+later_undone request later image later_image old mid mid' new new' back journal other report first passed second gone undone kept =
     let can = left_can_restore request image old mid journal first in
     let same = restored_same other mid'.chip new' back report (left_reached later later_image mid' new new' other second gone) undone in
     record {
-      known = can.known;
+      known = rw (kept ∙ sym first.undone.further) can.known;
       saves = can.saves;
       within = taken_within request image old mid mid' back journal first passed same undone.made.idle;
     }
@@ -137,10 +147,12 @@ pub both_undone : (request later : Request) (image later_image : List ℕ) (old 
     → LeavesJournal request image old mid journal → IsTakenUp old mid mid' → LeavesJournal later later_image mid' new other → IsTakenUp mid' new new' ⊎ CanRestore other mid'.chip new'
     → IsRestored other new' back report → MayLosePower back back' ⊎ CanRestore journal old.chip back' → IsRestored journal back' end last → IsSame old.chip end.chip
 both_undone request later image later_image old mid mid' new new' back back' end journal other report last first passed second gone undone kept again =
-    let can = later_undone request later image later_image old mid mid' new new' back journal other report first passed second gone undone in
+    let can = left_can_restore request image old mid journal first in
+    let again_same = restored_same other mid'.chip new' back report (left_reached later later_image mid' new new' other second gone) undone in
+    let within = taken_within request image old mid mid' back journal first passed again_same undone.made.idle in
     restored_same journal old.chip back' end last
     (elim kept [
-      | inl may ↦ can_restore_kept journal old.chip back back' can may
+      | inl may ↦ kept_chip journal old.chip back back' can.saves within may
       | inr still_can ↦ can_restore_chip journal old.chip back' still_can
     ])
     again

@@ -12,7 +12,7 @@ use Rattle.nor_probe.specs.declared.sfdp.SfdpFault.{SfdpFault}
 use Rattle.nor_probe.specs.declared.probes.ProbeFault.{ProbeFault}
 use Rattle.nor_probe.specs.declared.probes.ProbeFault.TheVariants as Probes
 use Rattle.nor_probe.specs.Known.{is_no_chip, id_of, chip_says, part_by_sfdp, listed_or, shown_as}
-use Rattle.nor_probe.specs.Table.{part_with_id}
+use Rattle.nor_probe.specs.Table.{part_for}
 use Rattle.nor_probe.specs.Found.{IsWanted}
 use Rattle.nor_request.specs.declared.request.Request.{Request}
 use Rattle.nor_request.specs.declared.request.What.{What}
@@ -37,11 +37,11 @@ wanted_or_other : (named : Option ChipName) (name : ChipName) → IsWanted named
 wanted_or_other None name = inl tt
 wanted_or_other (Some wanted) name = grind arith
 
-pub accepted_named : (request : Request) (image : List ℕ) (chip : Chip) → IsAccepted request image chip
-    → IsNamed request.named chip.config
-accepted_named request image chip accepted =
-    let shown = part_shown (is_no_chip (id_of chip.config)) (part_with_id (id_of chip.config)) (id_of chip.config)
-    (chip_says chip.config) (shown_as chip.config) refl (accepted NoChip) (λ fault. accepted (UnknownChip fault)) in
+pub accepted_named : (further : Bool) (request : Request) (image : List ℕ) (chip : Chip) → IsAccepted further request image chip
+    → IsNamed further request.named chip.config
+accepted_named further request image chip accepted =
+    let shown = part_shown (is_no_chip (id_of chip.config)) (part_for further (id_of chip.config)) (id_of chip.config)
+    (chip_says chip.config) (shown_as further chip.config) refl (accepted NoChip) (λ fault. accepted (UnknownChip fault)) in
     elim (wanted_or_other request.named shown.0.name) [
       | inl is ↦ record { part = shown.0; shown = shown.1; wanted = is }
       | inr other ↦ absurd (accepted OtherName (record { part = shown.0; shown = shown.1; other = other }))
@@ -60,9 +60,9 @@ needs_lift : (what : What) (unlock : Bool) (touched : ℕ → Bool) (chip : Chip
 needs_lift (WpRange start len) unlock touched chip is lifts some = absurd cc
 needs_lift _ unlock touched chip is lifts some = (refl, (lifts, some))
 
-pub accepted_free : (request : Request) (image : List ℕ) (chip : Chip) → IsAccepted request image chip
+pub accepted_free : (further : Bool) (request : Request) (image : List ℕ) (chip : Chip) → IsAccepted further request image chip
     → is_locked chip.kept ≡ true → NoneProtected (is_touched chip.bytes (wanted request image chip)) chip
-accepted_free request image chip accepted locked s =
+accepted_free further request image chip accepted locked s =
     let touched = is_touched chip.bytes (wanted request image chip) in
     none_least (is_touched_protected touched chip) (λ n held least.
     elim (cases_Bool request.unlock) [

@@ -1,5 +1,5 @@
 -- Lemmas about what the identification and the scan of a session show about the chip.
-use Rattle.std.proofs.Common.{◌+◌, ◌≡◌, ◌<◌, ◌≤◌, ◌/◌, ◌∙◌, ℕ, true, List, ap, refl, arith, rules, inr}
+use Rattle.std.proofs.Common.{◌+◌, ◌≡◌, ◌<◌, ◌≤◌, ◌/◌, ◌∙◌, ℕ, Bool, true, List, ap, refl, arith, rules, inr}
 use Rattle.std.specs.Prelude.{Option, Err}
 use Rattle.std.proofs.lemmas.Bool.Decides.{nat_tests}
 use Rattle.nor_model.specs.declared.config.Config.{Config}
@@ -33,7 +33,7 @@ kept_one : (status1 one : ℕ) (chip : Chip) → status1 ≡ status1_of chip →
 kept_one status1 one chip read kept = grind (arith, nat_tests)
 
 pub opening_of : {named : Option ChipName} {identity : Identity} {old mid : BusState} → IsModelled old
-    → ReadsIdentity named old mid identity → IsIdentityOf old.chip identity
+    → ReadsIdentity named old mid identity → IsIdentityOf old.further old.chip identity
 opening_of {mid = mid} is opens =
     let same = (opens.rested is.honest).unchanged.same in
     record {
@@ -44,7 +44,7 @@ opening_of {mid = mid} is opens =
     }
 
 pub is_opening : (request : Request) (identity : Identity) (old mid : BusState) → IsModelled old
-    → ReadsIdentity request.named old mid identity → IsIdentityOf old.chip identity
+    → ReadsIdentity request.named old mid identity → IsIdentityOf old.further old.chip identity
 is_opening request identity old mid = opening_of
 
 pub status1_if_idle : (named : Option ChipName) (identity : Identity) (old mid : BusState) → old.honest ≡ true → ReadsIdentity named old mid identity → old.chip.busy ≡ 0 → identity.found.status1 ≡ status1_of old.chip
@@ -61,10 +61,10 @@ pub small_first : {named : Option ChipName} {identity : Identity} {old mid : Bus
 small_first honest opens small =
     let same = ap (λ (bits : KeptBits). bits.two) (opens.rested honest).unchanged.same.kept in omega arith
 
-pub named : (request : Request) (identity : Identity) (old mid : BusState) → IsModelled old → ReadsIdentity request.named old mid identity → IsNamed request.named old.chip.config
+pub named : (request : Request) (identity : Identity) (old mid : BusState) → IsModelled old → ReadsIdentity request.named old mid identity → IsNamed old.further request.named old.chip.config
 named request identity old mid is opens = record { part = part_in identity.found; shown = opens.shown is.honest; wanted = opens.wanted }
 
-pub most_sized : (request : Request) {config : Config} {found : Found} → IsConfigOf config found
+pub most_sized : {further : Bool} (request : Request) {config : Config} {found : Found} → IsConfigOf further config found
     → most_of (scanned_sectors request found.size) ≤ most_of (config.size / 4096)
 most_sized request {found = found} is =
     let most = scanned_most request found.size in let size = is.size in omega arith
@@ -89,7 +89,7 @@ refused_puts Vault old new puts = (puts.telling, puts.sealed)
 refused_puts _ old new puts = (puts.telling, puts.sealed)
 
 pub save_errors : (request : Request) (image : List ℕ) (identity : Identity) (code : ℕ) (old mid new : BusState) (vault vault' : VaultState) (refusal : Refusal)
-    → IsModelled old → OnlyReads most_identity old mid → ReadsIdentity request.named old mid identity → IdentityAccepts request image old.chip code
+    → IsModelled old → OnlyReads most_identity old mid → ReadsIdentity request.named old mid identity → IdentityAccepts old.further request image old.chip code
     → (refusal ≡ Vault → CountsRefusal vault vault') → SaveErrors request identity code image mid new refusal → SessionErrors request image old new vault vault' refusal
 save_errors request image identity code old mid new vault vault' Vault is only_reads opens accepts rose errors = rose refl
 save_errors request image identity code old mid new vault vault' Stopped is only_reads opens accepts rose errors =
@@ -99,15 +99,15 @@ save_errors request image identity code old mid new vault vault' Stopped is only
     let most = scanned_most request identity.found.size in let size = (opens.genuine is).size in
     omega arith
 save_errors request image identity code old mid new vault vault' StatusLocked is only_reads opens accepts rose errors =
-    errors old.chip (opening_of is opens) (shows request identity old mid is only_reads opens) accepts
+    errors old.further old.chip (opening_of is opens) (shows request identity old mid is only_reads opens) accepts
 save_errors request image identity code old mid new vault vault' (Protected address) is only_reads opens accepts rose errors =
-    errors old.chip (opening_of is opens) (shows request identity old mid is only_reads opens) accepts
+    errors old.further old.chip (opening_of is opens) (shows request identity old mid is only_reads opens) accepts
 save_errors request image identity code old mid new vault vault' _ is only_reads opens accepts rose errors = absurd errors
 
 pub save_early : (request : Request) (image : List ℕ) (identity : Identity) (code : ℕ) (old mid new : BusState)
     → IsModelled old → OnlyReads most_identity old mid → ReadsIdentity request.named old mid identity
     → SaveErrors request identity code image mid new Stopped
-    → old.punctual ≡ true → old.left < needed_to_identify old.chip + scanned_sectors request old.chip.config.size
+    → old.punctual ≡ true → old.left < needed_to_identify old.further old.chip + scanned_sectors request old.chip.config.size
 save_early request image identity code old mid new is only_reads opens errors punctual =
     let ran = errors.ran_out (only_reads.nature.honest ∙ is.honest) (only_reads.nature.punctual ∙ punctual) in
     let count = opens.count is.honest punctual in
@@ -141,7 +141,7 @@ open_errors request image old new vault vault' (Timeout address) is errors = abs
 open_errors request image old new vault vault' _ is errors = absurd errors
 
 pub judge_errors : (request : Request) (image : List ℕ) (old new : BusState) (vault vault' : VaultState)
-    (refusal : Refusal) → IsVerdict request image old.chip refusal
+    (refusal : Refusal) → IsVerdict old.further request image old.chip refusal
     → SessionErrors request image old new vault vault' refusal
 judge_errors request image old new vault vault' Vault verdict = absurd verdict.holds
 judge_errors request image old new vault vault' Stopped verdict = absurd verdict.holds

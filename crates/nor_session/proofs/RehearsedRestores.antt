@@ -74,6 +74,7 @@ same_nature keeps =
       unlimited = keeps.unlimited;
       longer = keeps.longer;
       punctual = keeps.punctual;
+      further = keeps.further;
       config = keeps.config;
     }
 
@@ -85,12 +86,13 @@ same_nature_then later earlier =
       unlimited = later.unlimited ∙ earlier.unlimited;
       longer = later.longer ∙ earlier.longer;
       punctual = later.punctual ∙ earlier.punctual;
+      further = later.further ∙ earlier.further;
       config = λ honest. later.config (earlier.honest ∙ honest) ∙ earlier.config honest;
     }
 
-pub modelled_at : (old new : BusState) → new.honest ≡ old.honest → new.chip.config ≡ old.chip.config → IsModelled old → IsModelled new
-modelled_at old new honest config modelled =
-    record { honest = honest ∙ modelled.honest; genuine = rw config modelled.genuine }
+pub modelled_at : (old new : BusState) → new.honest ≡ old.honest → new.further ≡ old.further → new.chip.config ≡ old.chip.config → IsModelled old → IsModelled new
+modelled_at old new honest further config modelled =
+    record { honest = honest ∙ modelled.honest; genuine = rw (further, config) modelled.genuine }
 
 allow_leaves : {n : ℕ} (journal : Content) (old new : BusState) → Allows n old new → LeavesRestores journal 0 old new
 allow_leaves journal old new allows =

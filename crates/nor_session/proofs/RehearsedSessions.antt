@@ -1,4 +1,4 @@
-use Rattle.std.proofs.Common.{◌≡◌, ◌≤◌, ◌+◌, ◌*◌, ◌++◌, ◌∙◌, ℕ, List, [], ◌∷◌, length, drop, true, false, refl, ap, sym, arith, inl, inr}
+use Rattle.std.proofs.Common.{◌≡◌, ◌≤◌, ◌+◌, ◌*◌, ◌++◌, ◌∙◌, ℕ, Bool, List, [], ◌∷◌, length, drop, true, false, refl, ap, sym, arith, inl, inr}
 use Rattle.std.specs.Prelude.{max, Ok, Err, Result}
 use Rattle.std.proofs.lemmas.Bool.{true≢false, cases_Bool}
 use Rattle.nor_model.specs.Chip.{Chip, IsChip, IsSame}
@@ -27,20 +27,20 @@ use Rattle.nor_session.proofs.Targeting.{none_sent, sends_then, sends_most, send
 use Rattle.nor_session.proofs.RehearsedRestores.{modelled_at, not_bus_error, allowed_first, allowed_after, same_nature, same_nature_then}
 
 returned : (request : Request) (image : List ℕ) (old new : BusState) (before after : VaultState) (refusal : Refusal) → (refusal ≡ Stopped → ⊥)
-    → SessionErrors request image old new before after refusal → RehearsalErrors request image old.chip before after refusal
+    → SessionErrors request image old new before after refusal → RehearsalErrors old.further request image old.chip before after refusal
 returned request image old new before after Vault never errors = errors
 returned request image old new before after Stopped never errors = absurd (never refl)
 returned request image old new before after _ never errors = errors
 
-early : (request : Request) (image : List ℕ) (old new : BusState) (before after : VaultState) (refusal : Refusal) → RehearsalErrors request image old.chip before after refusal
+early : (request : Request) (image : List ℕ) (old new : BusState) (before after : VaultState) (refusal : Refusal) → RehearsalErrors old.further request image old.chip before after refusal
     → (refusal_number refusal ≤ 11) × (HonestErrors (most_of 4096) (λ refusal. refusal_number refusal ≤ 11) old new refusal → IsSame old.chip new.chip)
 early request image old new before after Vault errors = (omega arith, λ same. same (omega arith))
 early request image old new before after _ errors = search (arith, errors.holds)
 
-can_end : (request : Request) (image : List ℕ) (n : ℕ) (chip : Chip) → IsAccepted request image chip → (erases : ℕ)
+can_end : (further : Bool) (request : Request) (image : List ℕ) (n : ℕ) (chip : Chip) → IsAccepted further request image chip → (erases : ℕ)
     → AreFewestErases chip.config chip.bytes (wanted request image chip) erases → least_needed request image chip erases ≤ n
-    → CanEnd request image n chip
-can_end request image n chip accepted erases fewest enough =
+    → CanEnd further request image n chip
+can_end further request image n chip accepted erases fewest enough =
     record { accepted = accepted; erases = erases; fewest = fewest; enough = enough }
 
 wanted_bits : (request : Request) (image : List ℕ) (mid new : BusState) (report : Report) → IsDone request image mid new report → HasWantedBits request.what mid.chip new.chip
@@ -48,7 +48,7 @@ wanted_bits request image mid new report done = record { code = done.code; is_wa
 
 module _ {n : ℕ} {old mid : BusState} (allows : Allows n old mid) where
   modelled_mid : IsModelled old → IsModelled mid
-  modelled_mid = modelled_at old mid allows.nature.honest (ap (λ (chip : Chip). chip.config) allows.chip)
+  modelled_mid = modelled_at old mid allows.nature.honest allows.nature.further (ap (λ (chip : Chip). chip.config) allows.chip)
 
   module _ (request : Request) (image : List ℕ) (new : BusState) {before after : VaultState} where
     pub session_leaves : {result : Result Report Refusal} → after.telling ≡ true → (mid.honest ≡ true → IsChip mid.chip)
@@ -59,7 +59,8 @@ module _ {n : ℕ} {old mid : BusState} (allows : Allows n old mid) where
       nature = same_nature_then (same_nature always.spends.nature) allows.nature;
       same = λ modelled steady_or_idle unsealed. let is = modelled_mid modelled in search (arith, allows.chip, allows.nature.steady);
       back = λ modelled sealed. let is = modelled_mid modelled in search (arith, ← allows.chip, restorable);
-      accepted = λ modelled sealed. let is = modelled_mid modelled in search (arith, allows.chip);
+      accepted = λ modelled sealed.
+          rw (allows.chip, allows.nature.further) at (((promise (modelled_mid modelled)).undo sealed).accepted);
       wears = λ modelled s other.
           let is = modelled_mid modelled in
           elim (cases_Bool after.sealed) [
@@ -97,10 +98,10 @@ module _ {n : ℕ} {old mid : BusState} (allows : Allows n old mid) where
               let left = allows.left modelled.honest punctual in
               let sent = (returned is.honest).counted (allows.nature.punctual ∙ punctual) in
               let least = ends.bounded.least in let programs = done.reported.programs in
-              let size = (shown_config mid.chip.config report.found is.genuine done.reported.shown).size in
+              let size = (shown_config mid.further mid.chip.config report.found is.genuine done.reported.shown).size in
               let scanned = ap (scanned_sectors request) size in
-              rw allows.chip at
-              (can_end request image n mid.chip undone.accepted report.erases done.reported.erases (omega arith));
+              rw (allows.chip, allows.nature.further) at
+              (can_end mid.further request image n mid.chip undone.accepted report.erases done.reported.erases (omega arith));
           bytes = λ modelled ended. rw allows.chip at (done modelled).made.bytes;
           bits = λ modelled ended. rw allows.chip at (wanted_bits request image mid new report (done modelled));
           latch = λ modelled ended. rw allows.chip at (done modelled).made.latch;

@@ -1,4 +1,4 @@
-use Rattle.std.proofs.Common.{◌≡◌, ◌≤◌, ◌∙◌, ℕ, true, List, refl, arith}
+use Rattle.std.proofs.Common.{◌≡◌, ◌≤◌, ◌∙◌, ℕ, Bool, true, List, refl, arith}
 use Rattle.std.specs.Prelude.{◌≢◌, Result, Ok, Err, Some, None, IsOk}
 use Rattle.nor_model.specs.declared.config.Config.{Config}
 use Rattle.nor_model.specs.Chip.{Chip, IsSame}
@@ -22,13 +22,13 @@ use Rattle.nor_session.specs.Restore.{Choice, IsOfOtherDevice}
 use Rattle.nor_session.specs.PrepareRestore.{RestoreJudges, IsDeviceRefusal, PrepareErrors}
 use Rattle.nor_session.specs.Restore.{IsOfTypeFound}
 
-named_by : (chip : Chip) (outcome : Result Part ProbeFault) → shown_as chip.config ≡ outcome → IsOk outcome
-    → IsNamed None chip.config
+named_by : {further : Bool} (chip : Chip) (outcome : Result Part ProbeFault) → shown_as further chip.config ≡ outcome → IsOk outcome
+    → IsNamed further None chip.config
 named_by chip (Ok part) is ok = record { part = part; shown = is; wanted = tt }
 named_by chip (Err fault) is ok = absurd cc
 
-pub named_known : (chip : Chip) → IsKnown chip.config → IsNamed None chip.config
-named_known chip known = named_by chip (shown_as chip.config) refl known.shown
+pub named_known : {further : Bool} (chip : Chip) → IsKnown further chip.config → IsNamed further None chip.config
+named_known {further = further} chip known = named_by chip (shown_as further chip.config) refl known.shown
 
 pub other_unit : (journal : Content) (config : Config) (unique : List ℕ) → journal.unique ≡ Some unique → unique ≢ unique_of config → IsOfOtherDevice journal config
 other_unit journal config unique is other = rw is other
@@ -61,11 +61,11 @@ errors_more choice journal few most old new (Timeout address) fits errors = erro
 errors_more choice journal few most old new _ fits errors = errors
 
 pub device_errors : (choice : Choice) (journal : Content) (most : ℕ) (old new : BusState) (refusal : Refusal) → IsDeviceRefusal refusal → (old.honest ≡ true → IsSame old.chip new.chip)
-    → (IsModelled old → RestoreJudges choice journal old.chip refusal) → PrepareErrors choice journal most old new refusal
+    → (IsModelled old → RestoreJudges old.further choice journal old.chip refusal) → PrepareErrors choice journal most old new refusal
 device_errors choice journal most old new OtherUnit is same verdict = record { judged = refl; same = same; verdict = verdict }
 device_errors choice journal most old new StatusDiffers is same verdict = record { judged = refl; same = same; verdict = verdict }
 device_errors choice journal most old new _ is same verdict = absurd is
 
-pub kind_of : {journal : Content} {found : Found} {config : Config} → IsConfigOf config found
+pub kind_of : {further : Bool} {journal : Content} {found : Found} {config : Config} → IsConfigOf further config found
     → IsOfTypeFound journal found → IsOfType journal config
 kind_of is kind = record { id = kind.id ∙ is.id; size = kind.size ∙ is.size }

@@ -1,5 +1,5 @@
 -- If a journal can restore the original chip at the start of a restore on a modelled bus, it still can at every exit.
-use Rattle.std.proofs.Common.{◌&&◌, ◌≡◌, ◌<◌, ◌+◌, ◌-◌, ◌*◌, ◌/◌, ◌%◌, ◌∙◌, ◌⊎◌, ℕ, Bool, true, false, true≢false, List, ap, sym, refl, arith, inl, inr}
+use Rattle.std.proofs.Common.{◌&&◌, ◌==◌, ◌≡◌, ◌<◌, ◌+◌, ◌-◌, ◌*◌, ◌/◌, ◌%◌, ◌∙◌, ◌⊎◌, ℕ, Bool, true, false, true≢false, List, ap, sym, refl, arith, inl, inr}
 use Rattle.std.specs.Prelude.{not, ◌≢◌, Option, Some, None, IfSome, IsSomeAnd}
 use Rattle.std.proofs.lemmas.Bool.{cases_Bool, cases_lt, false_from_ne_true, and_left, and_parts, and_from, or_left, or_cases, both_ways, eqb-true}
 use Rattle.std.proofs.lemmas.Bool.Decides.{nat_tests}
@@ -23,9 +23,9 @@ use Rattle.nor_journal.specs.Text.{Content}
 use Rattle.nor_journal.specs.Saved.{is_saved}
 use Rattle.nor_journal.proofs.Saves.{saved_byte-is}
 use Rattle.nor_probe.specs.declared.table.Part.{Part}
-use Rattle.nor_probe.specs.Table.{part_with_id}
+use Rattle.nor_probe.specs.Table.{part_for}
 use Rattle.nor_probe.specs.Known.{IsGenuine, IsKnown}
-use Rattle.nor_probe.proofs.Configs.{row_has}
+use Rattle.nor_probe.proofs.Configs.{applied_has}
 use Rattle.nor_apply.specs.Within.{is_writable, WorksIn, IsWithin, addresses_of}
 use Rattle.nor_apply.specs.Change.{MayChange}
 use Rattle.nor_apply.proofs.Kept.{locked_same}
@@ -88,24 +88,27 @@ lost_within p first old new known lost within =
           search (arith, narrower)
     ]
 
-scheme_size_at : (config : Config) (row : Option Part) → part_with_id (id_of config) ≡ row → IsGenuine config → config.scheme ≡ true → config.size % 262144 ≡ 0
-scheme_size_at config (Some part) is genuine scheme = search (arith, eqb-true, row_has)
-scheme_size_at config None is genuine scheme = absurd (both_ways config.scheme (genuine.unlisted is) scheme)
+scheme_size_at : (further : Bool) (config : Config) (row : Option Part) → part_for further (id_of config) ≡ row → IsGenuine further config → config.scheme ≡ true → config.size % 262144 ≡ 0
+scheme_size_at further config (Some part) is genuine scheme =
+    let size = (genuine.listed part is).0.size in
+    let whole = applied_has (λ p. p.size % 262144 == 0) (id_of config) part refl refl further is in
+    rw size (eqb-true (part.size % 262144) 0 whole.1)
+scheme_size_at further config None is genuine scheme = absurd (both_ways config.scheme (genuine.unlisted is) scheme)
 
-protected_within : (chip : Chip) (a b : ℕ) → IsGenuine chip.config → chip.config.scheme ≡ true → a / 4096 ≡ b / 4096 → a < chip.config.size → b < chip.config.size → is_protected chip a ≡ is_protected chip b
-protected_within chip a b genuine scheme sector below_a below_b =
+protected_within : {further : Bool} (chip : Chip) (a b : ℕ) → IsGenuine further chip.config → chip.config.scheme ≡ true → a / 4096 ≡ b / 4096 → a < chip.config.size → b < chip.config.size → is_protected chip a ≡ is_protected chip b
+protected_within {further = further} chip a b genuine scheme sector below_a below_b =
     let ends : LieAtAnEnd chip.config.size (is_protected chip) = is_protected-end chip in
-    let whole = ends.sectors (scheme_size_at chip.config _ refl genuine scheme) in
+    let whole = ends.sectors (scheme_size_at further chip.config _ refl genuine scheme) in
     elim ends.side [
       | inl front ↦ let one = front a below_a in let other = front b below_b in grind (arith, nat_tests)
       | inr back ↦ let one = back a below_a in let other = back b below_b in grind (arith, nat_tests)
     ]
 
-protected_same : (chip : Chip) (a b : ℕ) → IsGenuine chip.config → a / 4096 ≡ b / 4096 → is_protected chip a ≡ is_protected chip b
+protected_same : {further : Bool} (chip : Chip) (a b : ℕ) → IsGenuine further chip.config → a / 4096 ≡ b / 4096 → is_protected chip a ≡ is_protected chip b
 protected_same chip a b genuine sector =
     search (arith, cases_Bool, cases_lt, protected_within, is_protected-no_scheme, is_protected-past, sized_bounds)
 
-pub touched_open : (journal : Content) (first chip : Chip) (a : ℕ) → IsKnown first.config → SavesChip journal first → ((b : ℕ) → open_addresses journal first b ≡ false → chip.bytes b ≡ first.bytes b)
+pub touched_open : {further : Bool} (journal : Content) (first chip : Chip) (a : ℕ) → IsKnown further first.config → SavesChip journal first → ((b : ℕ) → open_addresses journal first b ≡ false → chip.bytes b ≡ first.bytes b)
     → is_touched chip.bytes (restored journal chip.bytes) (a / 4096) ≡ true → open_addresses journal first a ≡ true
 touched_open journal first chip a known saves same touched =
     search (arith, protected_same, saved_byte-is, touched_byte, touched_saved)
@@ -119,7 +122,7 @@ chosen_open journal first touched old a can saved free hit =
     let (locked, protected) = and_parts _ _ both in
     let stay = can.within.kept (rw locked (and-false first.config.scheme)) in
     let there = is_protected-same first old.chip can.within.config stay a ∙ protected in
-    let genuine : IsGenuine old.chip.config = rw can.within.config can.known.genuine in
+    let genuine : IsGenuine old.further old.chip.config = rw can.within.config can.known.genuine in
     let start = protected_same old.chip (4096 * (a / 4096)) a genuine (omega arith) ∙ there in
     free (rw stay locked) record {
       sector = a / 4096;
@@ -151,7 +154,7 @@ code_locked : (journal : Content) (first chip : Chip) → first.kept ≡ kept_in
     → code_of chip.kept ≡ code_of (kept_in journal.status)
 code_locked journal first chip bits stay = ap code_of (stay ∙ bits)
 
-free_held : (journal : Content) (first chip : Chip) → IsKnown first.config → SavesChip journal first → chip.config ≡ first.config → chip.kept ≡ first.kept → is_locked first.kept ≡ true
+free_held : {further : Bool} (journal : Content) (first chip : Chip) → IsKnown further first.config → SavesChip journal first → chip.config ≡ first.config → chip.kept ≡ first.kept → is_locked first.kept ≡ true
     → ((b : ℕ) → open_addresses journal first b ≡ false → chip.bytes b ≡ first.bytes b) → ¬ SomeProtected (is_touched chip.bytes (restored journal chip.bytes)) chip
 free_held journal first chip known saves config stay locked same some =
     let s = some.sector in

@@ -52,18 +52,18 @@ can_restore_read saved first text state journal can_undo read = record {
       can_undo.within;
 }
 
-pub restorable : (request : Request) (image : List ℕ) (old new : BusState) (vault : VaultState) → IsChip old.chip → IsGenuine old.chip.config → vault.telling ≡ true
+pub restorable : (request : Request) (image : List ℕ) (old new : BusState) (vault : VaultState) → IsChip old.chip → IsGenuine old.further old.chip.config → vault.telling ≡ true
     → CanBeUndone request image old new vault → CanUndo (is_touched old.chip.bytes (wanted request image old.chip)) old.chip vault.bytes new
 restorable request image old new vault is genuine telling undone = record {
   is = is;
-  known = record {
+  known = rw undone.further (record {
     genuine = genuine;
-    shown = rw (accepted_named request image old.chip undone.accepted).shown;
-  };
+    shown = rw (accepted_named old.further request image old.chip undone.accepted).shown;
+  });
   journal = undone.journal telling;
   inside = λ s touched.
       touched_inside request image old.chip.config.size old.chip.bytes s (sized_bounds old.chip.config).blocks touched;
-  free = accepted_free request image old.chip undone.accepted;
+  free = accepted_free old.further request image old.chip undone.accepted;
   within = undone.changes.within;
 }
 

@@ -42,6 +42,7 @@ use Rattle.nor_session.proofs.Changed.{touched_most, two_writes, no_write, fewes
 use Rattle.nor_session.proofs.Rescanned.{restored_saved}
 use Rattle.nor_session.proofs.RestoredBytes.{written_restored, pages_same}
 use Rattle.nor_session.proofs.RestoredOriginal.{within_after_reads, change_within, same_as_original}
+use Rattle.nor_session.proofs.WrittenBack.{known_kept}
 
 pub only_reads_spend : (few most : ℕ) (old new : BusState) → few ≤ most → OnlyReads few old new → Spends most old new
 only_reads_spend few most old new fits only_reads = search (arith, only_reads_most)
@@ -65,7 +66,7 @@ module _ (choice : Choice) (journal : Content) (most : ℕ) (old new : BusState)
   prepare_errors Stopped fits modelled errors = λ punctual.
       let out = errors.ran_out modelled.honest punctual in omega arith
   prepare_errors (Timeout address) fits modelled errors = absurd (errors.2 modelled.honest)
-  prepare_errors refusal fits modelled errors = judged_verdict choice journal old.chip refusal (errors.verdict modelled)
+  prepare_errors refusal fits modelled errors = judged_verdict old.further choice journal old.chip refusal (errors.verdict modelled)
 
   pub prepare_last : (refusal : Refusal) → PrepareErrors choice journal most old new refusal
       → EndsAtError refusal new.history
@@ -80,6 +81,7 @@ module _ (choice : Choice) (journal : Content) (most : ℕ) (old new : BusState)
 
 pub can_restore_after_reads : (journal : Content) (first : Chip) (most : ℕ) (old new : BusState) → old.honest ≡ true → OnlyReads most old new → CanRestore journal first old → CanRestore journal first new
 can_restore_after_reads journal first most old new honest only_reads can =
+    let known = known_kept first only_reads.nature.further can.known in
     assumption (within_after_reads _ first most old new only_reads.nature.steady (only_reads.honest_reads honest) can.within)
 
 pub changed_fits : {journal : Content} {old mid new : BusState} → FitsReplies journal old mid → KeepsNature mid new
@@ -100,6 +102,7 @@ changed_can_restore choice journal first prepared old mid new are modelled can =
     let touched : touched_in prepared.changes ≡ choice.touched journal old.chip.bytes = fun_ext for.touched in
     let free : is_locked old.chip.kept ≡ true → ¬ SomeProtected (touched_in prepared.changes) old.chip
     = λ locked some. for.accepted.not_locked locked (inr (rw touched at some)) in
+    let known = known_kept first are.leaves.spends.nature.further before.known in
     assumption (change_within journal first _ _ (saved_byte journal) old mid new can before.within are.is.saved free may)
 
 module _ (choice : Choice) (journal : Content) (prepared : PreparedRestore) (old mid new : BusState) where
@@ -246,7 +249,7 @@ module _ (choice : Choice) (journal : Content) (prepared : PreparedRestore) (old
         let raised : raised_in changes ≡ choice.raised journal old.chip.bytes = fun_ext for.raised in
         let bytes : mid.chip.bytes ≡ old.chip.bytes = fun_ext same.bytes in
         record {
-          accepted = accepted_restorable choice journal old.chip for.accepted;
+          accepted = accepted_restorable old.further choice journal old.chip for.accepted;
           made = record {
             config = applied.config ∙ same.config;
             bytes = λ a. written_restored journal old.chip.bytes mid.chip.bytes new.chip.bytes (touched_in changes) a

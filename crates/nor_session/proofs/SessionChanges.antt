@@ -40,15 +40,15 @@ use Rattle.nor_session.proofs.ReadyChip.{most_sized}
 
 pub record ReadyChip (request : Request) (image image' : List ℕ) (identity : Identity) (code : ℕ) (kept : SavedScan) (old mid : BusState) : Type 0 where
   pub honest : old.honest ≡ true
-  pub is : IsIdentityOf old.chip identity
-  pub shown : shown_as old.chip.config ≡ Ok (part_in identity.found)
+  pub is : IsIdentityOf old.further old.chip identity
+  pub shown : shown_as old.further old.chip.config ≡ Ok (part_in identity.found)
   pub replied : old.chip.busy ≡ 0 → identity.found.status1 ≡ status1_of old.chip
-  pub accepts : IdentityAccepts request image old.chip code
+  pub accepts : IdentityAccepts old.further request image old.chip code
   pub idle : mid.chip.busy ≡ 0
   pub rested : Rested old mid
   pub touched : (s : ℕ) → has kept.scanned.touched s ≡ is_touched old.chip.bytes (wanted request image old.chip) s
   pub raised : (s : ℕ) → has kept.scanned.raised s ≡ is_raised old.chip.bytes (wanted request image old.chip) s
-  pub scan : ScanAccepts request image old.chip kept.unlock
+  pub scan : ScanAccepts old.further request image old.chip kept.unlock
   pub merged : (a : ℕ) → has kept.scanned.touched (a / 4096) ≡ true → slice_index image' a ≡ wanted request image old.chip a
   pub bytes : (a : ℕ) → slice_index image' a < 256
   pub small : old.chip.kept.two < 128

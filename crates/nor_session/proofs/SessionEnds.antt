@@ -40,7 +40,7 @@ module _ (request : Request) (image image' : List ℕ) (identity : Identity) (st
     (kept : SavedScan) (old mid : BusState) where
   pub ready_chip : (new : BusState) (vault : VaultState) → IsModelled old → OnlyReads most_identity old mid
       → ReadsIdentity request.named old mid identity → Ready request identity status code kept old new
-      → (IsIdentityOf old.chip identity → IdentityAccepts request image old.chip code)
+      → (IsIdentityOf old.further old.chip identity → IdentityAccepts old.further request image old.chip code)
       → HasSaved request identity code image image' mid new vault kept → ((a : ℕ) → slice_index image' a < 256)
       → old.chip.kept.two < 128 → ReadyChip request image image' identity code kept old new
   ready_chip new vault modelled only_reads opens is accepts keeps bytes small =
@@ -53,13 +53,14 @@ module _ (request : Request) (image image' : List ℕ) (identity : Identity) (st
       → CanBeUndone request image old new vault
   can_be_undone ready new vault modelled only_reads opens keeps is of leaves =
       let opened = is_opening request identity old mid modelled opens in
-      let chip = keeps.chip old.chip opened (shows request identity old mid modelled only_reads opens) in
+      let chip = keeps.chip old.further old.chip opened (shows request identity old mid modelled only_reads opens) in
       let honest = is.honest_reads.nature.honest ∙ modelled.honest in
       let unchanged = of.rested.unchanged in
       let can = can_apply request image image' identity status code kept old ready is of in
       record {
         accepted = of.scan.accepted;
         journal = chip.journal;
+        further = leaves.spends.nature.further ∙ is.honest_reads.nature.further;
         changes = change_then is.honest_reads.nature.steady (same_change unchanged.same of.idle unchanged.worn)
             (change_as (λ s hit. sym (of.touched s) ∙ hit) (λ s hit. sym (of.raised s) ∙ hit)
             (λ a plain hit. of.merged a hit) (leaves.reached honest can));

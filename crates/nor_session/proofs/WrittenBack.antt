@@ -14,8 +14,8 @@ use Rattle.nor_apply.specs.Within.{IsWithin, is_writable}
 use Rattle.nor_apply.proofs.Changing.{idle_within}
 use Rattle.nor_scan.specs.Saving.{header_of}
 use Rattle.nor_request.specs.declared.request.Request.{Request}
-use Rattle.nor_probe.specs.Known.{IsModelled}
-use Rattle.nor_session.specs.Headline.{CanRestore, open_addresses}
+use Rattle.nor_probe.specs.Known.{IsKnown, IsModelled}
+use Rattle.nor_session.specs.Headline.{SavesChip, CanRestore, open_addresses}
 use Rattle.nor_session.specs.Session.{CanBeUndone}
 use Rattle.nor_session.specs.WrittenOver.{IsWrittenOver}
 use Rattle.nor_session.proofs.RestoresOriginal.{can_restore_read, restorable}
@@ -49,9 +49,13 @@ within_both addresses first old new opened over before after =
     let kept = λ (shut : is_writable first ≡ false). kept_over first.kept over (before.kept shut) (after.kept shut) in
     search (arith, either)
 
+pub known_kept : {old new : Bool} (first : Chip) → new ≡ old → IsKnown old first.config → IsKnown new first.config
+known_kept first kept known = rw kept known
+
 pub restore_over : (journal : Content) (first : Chip) (old new opened : BusState) → CanRestore journal first old
-    → CanRestore journal first new → IsWrittenOver old.chip new.chip opened.chip → CanRestore journal first opened
-restore_over journal first old new opened before after over = search (arith, within_both)
+    → CanRestore journal first new → IsWrittenOver old.chip new.chip opened.chip → opened.further ≡ new.further → CanRestore journal first opened
+restore_over journal first old new opened before after over kept =
+    let known = known_kept first kept after.known in search (arith, within_both)
 
 pub same_over : (old new opened : Chip) → IsSame old new → IsWrittenOver old new opened → IsSame old opened
 same_over old new opened same over = let kept = kept_over old.kept over refl same.kept in search (arith, either)
@@ -75,15 +79,26 @@ read_back request image old new vault journal modelled is telling undone sound r
 abbrev idle : BusState → BusState
 idle state = record state { chip = record state.chip { busy = 0 } }
 
+pub session_over_within : (request : Request) (image : List ℕ) (old new opened : BusState) (vault : VaultState) (journal : Content)
+    → IsModelled old → IsChip old.chip → vault.telling ≡ true → CanBeUndone request image old new vault
+    → IsContent journal → vault.bytes ≡ text journal → IsWrittenOver old.chip new.chip opened.chip
+    → SavesChip journal old.chip × IsWithin (open_addresses journal old.chip) old.chip opened
+session_over_within request image old new opened vault journal modelled is telling undone sound read over =
+    let after = read_back request image old new vault journal modelled is telling undone sound read in (
+      after.saves,
+      within_both (open_addresses journal old.chip) old.chip (idle old) new opened (assumption over)
+          (idle_within refl (λ a out. refl) refl refl) after.within,
+    )
+
 pub session_over : (request : Request) (image : List ℕ) (old new opened : BusState) (vault : VaultState) (journal : Content)
     → IsModelled old → IsChip old.chip → vault.telling ≡ true → CanBeUndone request image old new vault
     → IsContent journal → vault.bytes ≡ text journal → IsWrittenOver old.chip new.chip opened.chip
-    → CanRestore journal old.chip opened
-session_over request image old new opened vault journal modelled is telling undone sound read over =
+    → opened.further ≡ old.further → CanRestore journal old.chip opened
+session_over request image old new opened vault journal modelled is telling undone sound read over kept =
     let after = read_back request image old new vault journal modelled is telling undone sound read in
+    let both = session_over_within request image old new opened vault journal modelled is telling undone sound read over in
     record {
-      known = after.known;
-      saves = after.saves;
-      within = within_both (open_addresses journal old.chip) old.chip (idle old) new opened (assumption over)
-          (idle_within refl (λ a out. refl) refl refl) after.within;
+      known = known_kept old.chip (kept ∙ sym undone.further) after.known;
+      saves = both.0;
+      within = both.1;
     }

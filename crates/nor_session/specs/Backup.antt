@@ -40,7 +40,7 @@ pub record IsBackupOf (bytes : List ℕ) (first : Chip) : Type 0 where
 abbrev pub writable_addresses : Chip → (a : ℕ) → Bool
 writable_addresses first a = nat_lt a first.config.size && not (is_locked first.kept && is_protected first a)
 
--- Holds if `report` can be that of a backup. The shortest identification takes four transactions.
+-- Holds for the report of each backup. The shortest identification takes four transactions.
 pub record ReportsBackup (named : Option ChipName) (further : Bool) (report : Report) : Type 0 where
   pub part : IsPart further report.found
   pub has_name : IsWanted named report.found.name
@@ -71,9 +71,10 @@ BackupReturns vault vault' _ = ⊥
 -- Holds if a backup may return this error on a well-behaved bus. On a punctual bus a stop occurs only if no transaction
 -- is left and fewer than `most` were left at the start.
 abbrev pub BackupErrors : (most : ℕ) → Option ChipName → (old new : BusState) → Refusal → Type 0
-BackupErrors most named old new NoChip = shown_as old.chip.config ≡ Err Probes.NoChip
-BackupErrors most named old new (UnknownChip fault) = shown_as old.chip.config ≡ Err (Probes.UnknownChip fault)
-BackupErrors most named old new OtherName = HasOtherName named old.chip.config
+BackupErrors most named old new NoChip = shown_as old.further old.chip.config ≡ Err Probes.NoChip
+BackupErrors most named old new (UnknownChip fault) =
+    shown_as old.further old.chip.config ≡ Err (Probes.UnknownChip fault)
+BackupErrors most named old new OtherName = HasOtherName old.further named old.chip.config
 BackupErrors most named old new Stopped = RanOut most old new
 BackupErrors most named old new Vault = ⊤
 BackupErrors most named old new _ = ⊥
@@ -102,7 +103,7 @@ pub record BackupHonest (named : Option ChipName) (old new : BusState) (result :
 pub record BackupModelled (named : Option ChipName) (old new : BusState) (vault' : VaultState)
     (result : Result Report Refusal) : Type 0 where
   pub errors : IfErr result (BackupErrors (most_reads (old.chip.config.size / 4096)) named old new)
-  pub config : IfOk result (λ report. IsConfigOf old.chip.config report.found)
+  pub config : IfOk result (λ report. IsConfigOf old.further old.chip.config report.found)
   pub saves : OnOk result (vault'.telling ≡ true → IsBackupOf vault'.bytes old.chip)
   pub restorable : OnOk result (vault'.telling ≡ true → CanRestoreFrom vault'.bytes old.chip new)
   pub cut : vault'.telling ≡ true → OnErr result (HoldsBackupBegun old.chip vault'.bytes)

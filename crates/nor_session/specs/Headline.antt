@@ -38,7 +38,7 @@ open_addresses journal first a = is_saved journal (a / 4096) && not (is_locked f
 -- the journal saves it. The bus's chip differs from the original chip only in bytes and bits that a restore can write,
 -- in BUSY and in WEL. On a bus that isn't steady, an operation in progress is limited too (`IsWithin`).
 pub record CanRestore (journal : Content) (first : Chip) (state : BusState) : Type 0 where
-  pub known : IsKnown first.config
+  pub known : IsKnown state.further first.config
   pub saves : SavesChip journal first
   pub within : IsWithin (open_addresses journal first) first state
 

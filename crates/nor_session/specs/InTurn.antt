@@ -22,8 +22,9 @@ pub record LeavesJournal (request : Request) (image : List ℕ) (old new : BusSt
   pub whole : IsContent journal
   pub same : vault.bytes ≡ text journal
 
--- Holds if the chip lost its power between two runs, and before that was idle or on a bus that wasn't steady.
+-- Holds if the chip lost its power, and before that was idle or on a bus that wasn't steady. `further` is unchanged.
 pub record LosesPower (old new : BusState) : Type 0 where
+  pub further : new.further ≡ old.further
   pub known : (old.steady ≡ false) ⊎ (old.chip.busy ≡ 0)
   pub lost : PowerLost old.chip new.chip
 
@@ -31,7 +32,7 @@ abbrev pub MayLosePower : (old new : BusState) → Type 0
 MayLosePower old new = IsSame old.chip new.chip ⊎ LosesPower old new
 
 -- Holds if a run can start on the bus `taken` after a run from `old` to `new`. The chip may have lost its power since,
--- or was opened from files that held the chip of `old` and were being overwritten with the chip of `new`.
+-- or may have been opened from files that held the chip of `old` and were being overwritten with the chip of `new`.
 abbrev pub IsTakenUp : (old new taken : BusState) → Type 0
 IsTakenUp old new taken = MayLosePower new taken ⊎ IsWrittenOver old.chip new.chip taken.chip
 

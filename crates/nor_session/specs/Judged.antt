@@ -1,5 +1,5 @@
 -- The state of a session after its request was checked, and the bus states from which the session can have started.
-use Rattle.std.specs.Prelude.{◌≡◌, ◌≤◌, ◌<◌, ◌%◌, ℕ, true, Option, List, Result, length}
+use Rattle.std.specs.Prelude.{◌≡◌, ◌≤◌, ◌<◌, ◌%◌, ℕ, Bool, true, Option, List, Result, length}
 use Rattle.nor_model.specs.Guard.{code_of}
 use Rattle.nor_model.specs.Size.{is_chip_size}
 use Rattle.nor_model.specs.Chip.{Chip, kept_in}
@@ -28,8 +28,9 @@ pub record IsJudged (request : Request) (image : ℕ) (identity : Identity) (cod
   pub sized : is_data request.what ≡ true → image ≡ identity.found.size
   pub found_code : IsFoundCode request.what identity code
   pub same_code : is_data request.what ≡ true → code ≡ code_of (kept_in (status_read identity))
-  pub accepts : (chip : Chip) (bytes : List ℕ) → IsIdentityOf chip identity → IsNamed request.named chip.config
-      → length bytes ≡ image → IdentityAccepts request bytes chip code
+  pub accepts : (further : Bool) (chip : Chip) (bytes : List ℕ) → IsIdentityOf further chip identity
+      → IsNamed further request.named chip.config
+      → length bytes ≡ image → IdentityAccepts further request bytes chip code
 
 -- Holds if `promise` holds for every bus state from which an identification with the result `identity` can have led to
 -- the state `now`.

@@ -21,8 +21,8 @@ abbrev pub pages_of : (old wanted : ℕ → ℕ) → ℕ
 pages_of old wanted =
     count_below 65536 (is_programmed (is_touched old wanted) (once_erased (is_raised old wanted) old) wanted)
 
--- Holds if the chip is idle and has the target bytes, and its configuration and the status bits that flashnor never
--- changes are as they were. Nothing is said about the protection bits.
+-- Holds if the chip is idle and has the target bytes, its configuration and the status bits that flashnor never changes
+-- are as they were, and WEL is set only if it was before. Nothing is said about the protection bits.
 pub record IsTargetChip (wanted : ℕ → ℕ) (old new : Chip) : Type 0 where
   pub config : new.config ≡ old.config
   pub bytes : (a : ℕ) → new.bytes a ≡ wanted a
@@ -34,7 +34,7 @@ pub record IsTargetChip (wanted : ℕ → ℕ) (old new : Chip) : Type 0 where
 pub record IsReportedFor (touched raised : ℕ → Bool) (wanted : ℕ → ℕ) (old new : BusState)
     (report : Report) : Type 0 where
   pub worn : (s : ℕ) → new.worn s ≡ (old.worn s || raised s)
-  pub shown : shown_as old.chip.config ≡ Ok (part_in report.found)
+  pub shown : shown_as old.further old.chip.config ≡ Ok (part_in report.found)
   pub status1 : report.found.status1 / 4 ≡ old.chip.kept.one
   pub replied : old.chip.busy ≡ 0 → report.found.status1 ≡ status1_of old.chip
   pub sectors : report.touched ≡ sector_count touched

@@ -35,28 +35,30 @@ use Rattle.nor_request.specs.declared.report.Report.{Report}
 use Rattle.nor_scan.specs.Verdict.{IsNamed}
 use Rattle.nor_session.specs.Restore.{Choice, every_saved, IsOfOtherDevice, FitsStatus, NeedsStatusBy, IsCheckedFirst, restored, IsLeft, FitsReplies, AlwaysBy, HonestBy, ModelledBy}
 
-pub record FitsJournal (journal : Content) (chip : Chip) : Type 0 where
-  pub named : IsNamed None chip.config
+pub record FitsJournal (further : Bool) (journal : Content) (chip : Chip) : Type 0 where
+  pub named : IsNamed further None chip.config
   pub kind : IsOfType journal chip.config
   pub unit : ¬ IsOfOtherDevice journal chip.config
   pub fixed : FitsStatus journal chip
 
 -- Holds if a check of a restore fails with this error, and all earlier checks pass.
-abbrev pub RestoreJudges : Choice → Content → Chip → Refusal → Type 0
-RestoreJudges choice journal chip NoChip = shown_as chip.config ≡ Err Probes.NoChip
-RestoreJudges choice journal chip (UnknownChip fault) = shown_as chip.config ≡ Err (Probes.UnknownChip fault)
-RestoreJudges choice journal chip OtherChip = IsNamed None chip.config × (¬ IsOfType journal chip.config)
-RestoreJudges choice journal chip OtherUnit =
-    IsNamed None chip.config × IsOfType journal chip.config × IsOfOtherDevice journal chip.config
-RestoreJudges choice journal chip StatusDiffers =
-    IsNamed None chip.config × IsOfType journal chip.config × (¬ IsOfOtherDevice journal chip.config)
+abbrev pub RestoreJudges : (further : Bool) → Choice → Content → Chip → Refusal → Type 0
+RestoreJudges further choice journal chip NoChip = shown_as further chip.config ≡ Err Probes.NoChip
+RestoreJudges further choice journal chip (UnknownChip fault) =
+    shown_as further chip.config ≡ Err (Probes.UnknownChip fault)
+RestoreJudges further choice journal chip OtherChip =
+    IsNamed further None chip.config × (¬ IsOfType journal chip.config)
+RestoreJudges further choice journal chip OtherUnit =
+    IsNamed further None chip.config × IsOfType journal chip.config × IsOfOtherDevice journal chip.config
+RestoreJudges further choice journal chip StatusDiffers =
+    IsNamed further None chip.config × IsOfType journal chip.config × (¬ IsOfOtherDevice journal chip.config)
     × (¬ FitsStatus journal chip)
-RestoreJudges choice journal chip StatusLocked =
-    FitsJournal journal chip × (is_locked chip.kept ≡ true) × NeedsStatusBy choice journal chip
-RestoreJudges choice journal chip _ = ⊥
+RestoreJudges further choice journal chip StatusLocked =
+    FitsJournal further journal chip × (is_locked chip.kept ≡ true) × NeedsStatusBy choice journal chip
+RestoreJudges further choice journal chip _ = ⊥
 
-pub record RestoreAccepts (choice : Choice) (journal : Content) (chip : Chip) : Type 0 where
-  pub fits : FitsJournal journal chip
+pub record RestoreAccepts (further : Bool) (choice : Choice) (journal : Content) (chip : Chip) : Type 0 where
+  pub fits : FitsJournal further journal chip
   pub not_locked : is_locked chip.kept ≡ true → ¬ NeedsStatusBy choice journal chip
 
 abbrev pub IsDeviceRefusal : Refusal → Type 0
@@ -67,25 +69,29 @@ IsDeviceRefusal _ = ⊥
 -- Holds if the journal fits each chip that has this identification and a `kept.two` below 128.
 abbrev pub FitsIdentity : Content → Identity → Type 0
 FitsIdentity journal identity =
-    (chip : Chip) → chip.kept.two < 128 → IsIdentityOf chip identity → FitsJournal journal chip
+    (further : Bool) (chip : Chip) → chip.kept.two < 128 → IsIdentityOf further chip identity
+    → FitsJournal further journal chip
 
 abbrev pub ShowsFixed : Content → Identity → Bool → Type 0
-ShowsFixed journal identity shown = (chip : Chip) → chip.kept.two < 128 → IsIdentityOf chip identity
+ShowsFixed journal identity shown =
+    (further : Bool) (chip : Chip) → chip.kept.two < 128 → IsIdentityOf further chip identity
     → MatchBool shown (FitsStatus journal chip) (¬ FitsStatus journal chip)
 
 abbrev pub AcceptsDevice : Content → Identity → Result Unit Refusal → Type 0
-AcceptsDevice journal identity judged = (chip : Chip) → chip.kept.two < 128 → IsIdentityOf chip identity
-    → IsOfType journal chip.config → OnOk judged (FitsJournal journal chip)
+AcceptsDevice journal identity judged =
+    (further : Bool) (chip : Chip) → chip.kept.two < 128 → IsIdentityOf further chip identity
+    → IsOfType journal chip.config → OnOk judged (FitsJournal further journal chip)
 
 abbrev pub RefusesDevice : Content → Identity → Result Unit Refusal → Type 0
-RefusesDevice journal identity judged = (choice : Choice) (chip : Chip) → chip.kept.two < 128
-    → IsIdentityOf chip identity → IsOfType journal chip.config → IfErr judged (RestoreJudges choice journal chip)
+RefusesDevice journal identity judged = (choice : Choice) (further : Bool) (chip : Chip) → chip.kept.two < 128
+    → IsIdentityOf further chip identity → IsOfType journal chip.config
+    → IfErr judged (RestoreJudges further choice journal chip)
 
 -- Holds if a check returns this error. On a modelled bus the error is that of the first check that fails.
 pub record IsRefusedFor (choice : Choice) (journal : Content) (old new : BusState) (refusal : Refusal) : Type 0 where
   pub judged : IsCheckedFirst refusal
   pub same : old.honest ≡ true → IsSame old.chip new.chip
-  pub verdict : IsModelled old → RestoreJudges choice journal old.chip refusal
+  pub verdict : IsModelled old → RestoreJudges old.further choice journal old.chip refusal
 
 -- Holds if a restore may return this error before the first change. A timeout names address 0, and does not occur on a
 -- well-behaved bus.
@@ -95,7 +101,7 @@ PrepareErrors choice journal most old new (Timeout address) =
     (address ≡ 0) × EndsBusy new.history × (old.honest ≡ true → ⊥)
 PrepareErrors choice journal most old new refusal = IsRefusedFor choice journal old new refusal
 
--- Holds after a sector was read as `bytes`. The plan says whether a change to `saved` needs programs or an erase.
+-- Holds after a sector was read as `bytes`. The plan says whether a change to `saved` is needed, and needs an erase.
 pub record PlansSaved (sector : ℕ) (saved bytes : List ℕ) (old new : BusState) (plan : SectorPlan) : Type 0 where
   pub small : (k : ℕ) → slice_index saved k < 256
   pub read : ReadsSector sector old new bytes
@@ -105,7 +111,8 @@ pub record PlansSaved (sector : ℕ) (saved bytes : List ℕ) (old new : BusStat
   pub planned : (content wanted : ℕ → ℕ) → AreBytesOf content bytes → AreBytesOf wanted saved
       → IsPlan content wanted 4096 plan
 
--- Holds after a restore marked the touched and raised sectors that `choice` selects for the bytes that were read.
+-- Holds after a restore marked the touched sectors that `choice` selects for the bytes that were read. On a
+-- well-behaved bus with an idle chip of the journal's size, the marks are also right for the chip's bytes.
 pub record MarksChosen (choice : Choice) (journal : Content) (old new : BusState) (scanned : Scanned) : Type 0 where
   pub marks : AreMarks (journal.size / 4096) scanned
   pub saved : (s : ℕ) → has scanned.touched s ≡ true → is_saved journal s ≡ true
@@ -155,17 +162,18 @@ pub record IsShut (journal : Content) (touched : ℕ → Bool) (chip : Chip) : T
 
 abbrev pub MakesChanges : Content → Identity → (ℕ → Bool) → Result Changes Refusal → Type 0
 MakesChanges journal identity touched judged =
-    (chip : Chip) → IsIdentityOf chip identity → IfOk judged (MayChangeStatus journal touched chip)
+    (further : Bool) (chip : Chip) → IsIdentityOf further chip identity
+    → IfOk judged (MayChangeStatus journal touched chip)
 
 abbrev pub RefusesShut : Content → Identity → (ℕ → Bool) → Result Changes Refusal → Type 0
 RefusesShut journal identity touched judged =
-    (chip : Chip) → IsIdentityOf chip identity → OnErr judged (IsShut journal touched chip)
+    (further : Bool) (chip : Chip) → IsIdentityOf further chip identity → OnErr judged (IsShut journal touched chip)
 
 -- Holds after a restore was prepared on a modelled bus: all checks pass, and the changes can be made (`CanApply`).
-pub record IsPreparedFor (choice : Choice) (journal : Content) (old new : Chip)
+pub record IsPreparedFor (further : Bool) (choice : Choice) (journal : Content) (old new : Chip)
     (prepared : PreparedRestore) : Type 0 where
-  pub accepted : RestoreAccepts choice journal old
-  pub shown : shown_as old.config ≡ Ok (part_in prepared.found)
+  pub accepted : RestoreAccepts further choice journal old
+  pub shown : shown_as further old.config ≡ Ok (part_in prepared.found)
   pub status1 : prepared.found.status1 / 4 ≡ old.kept.one
   pub replied : old.busy ≡ 0 → prepared.found.status1 ≡ status1_of old
   pub kinds : prepared.changes.kinds ≡ old.config.kinds
@@ -198,10 +206,11 @@ pub record IsPreparedRestore (choice : Choice) (journal : Content) (old new : Bu
   pub read : HaveBeenRead (IsLeft choice journal (bytes_read new.history)) old.history new.history
   pub touched : old.honest ≡ true → old.chip.config.size ≡ journal.size → (s : ℕ)
       → has prepared.changes.touched s ≡ choice.touched journal old.chip.bytes s
-  pub modelled : IsModelled old → IsPreparedFor choice journal old.chip new.chip prepared
+  pub modelled : IsModelled old → IsPreparedFor old.further choice journal old.chip new.chip prepared
 
 -- Holds if a choice of sectors is sufficient for a restore: it touches each saved sector in which a byte differs, and
--- raises each one in which a bit must go from 0 to 1. It touches only saved sectors, and raises only touched ones.
+-- raises each one in which a bit must go from 0 to 1. It touches only saved sectors, raises only touched ones, and
+-- reads at most as many sectors as are saved.
 pub record IsSoundChoice (choice : Choice) : Type 0 where
   pub saved : (journal : Content) (content : ℕ → ℕ) (s : ℕ) → choice.touched journal content s ≡ true
       → is_saved journal s ≡ true

@@ -29,20 +29,20 @@ abbrev pub first_allowance : List ℕ → ℕ
 first_allowance [] = most_of 4096
 first_allowance (first ∷ later) = first
 
--- The allowances of the first `n` calls of a rehearsal, with that of the last call first. Each call has its entry of
--- `stops` or, if there is none, the bound for a session on a chip of 16 MiB.
+-- The allowances of the first `n` calls of a rehearsal, with that of the last call first. The allowance of a call is
+-- its entry of `stops` or, if there is none, the bound for a session on a chip of 16 MiB.
 abbrev pub allowances_of : (stops : List ℕ) → (n : ℕ) → List ℕ
 allowances_of stops zero = []
 allowances_of stops (suc n) = slice_index_or stops n (most_of 4096) ∷ allowances_of stops n
 
--- Holds if the allowances of some number of calls from `least` to `most` were set.
+-- Holds if the allowances of `calls` calls were set, for some `calls` from `least` to `most`.
 pub record AllowsStops (stops : List ℕ) (least most : ℕ) (old new : BusState) : Type 0 where
   pub calls : ℕ
   pub some : least ≤ calls
   pub few : calls ≤ most
   pub is : new.allowances ≡ allowances_of stops calls ++ old.allowances
 
--- Holds if a rehearsal with this number of entries in its `stops` can have this result and leave this vault.
+-- Holds for the result and the vault of each successful rehearsal whose argument `stops` had `stops` entries.
 pub record IsRehearsal (stops : ℕ) (vault : VaultState) (rehearsal : Rehearsal) : Type 0 where
   pub seal : rehearsal.sealed ≡ vault.sealed
   pub ended : rehearsal.ended ≡ true → rehearsal.sealed ≡ true
@@ -57,25 +57,27 @@ abbrev pub least_needed : Request → (image : List ℕ) → Chip → (erases : 
 least_needed request image chip erases =
     4 + scanned_sectors request chip.config.size + 3 * (erases + pages_of chip.bytes (wanted request image chip))
 
--- Holds if the request is accepted and the allowance is at least `least_needed`. Otherwise no session can succeed.
-pub record CanEnd (request : Request) (image : List ℕ) (allowance : ℕ) (chip : Chip) : Type 0 where
-  pub accepted : IsAccepted request image chip
+-- Holds if the request is accepted and the allowance is at least `least_needed` for the fewest erases. On a modelled,
+-- punctual bus, only then can a session succeed.
+pub record CanEnd (further : Bool) (request : Request) (image : List ℕ) (allowance : ℕ) (chip : Chip) : Type 0 where
+  pub accepted : IsAccepted further request image chip
   pub erases : ℕ
   pub fewest : AreFewestErases chip.config chip.bytes (wanted request image chip) erases
   pub enough : least_needed request image chip erases ≤ allowance
 
 -- Holds if the allowance covers the shortest identification and the scan (if `seal` is true), or doesn't cover the
 -- identification of this chip and the scan (if `seal` is false).
-pub record SealFits (request : Request) (allowance : ℕ) (chip : Chip) (seal : Bool) : Type 0 where
+pub record SealFits (further : Bool) (request : Request) (allowance : ℕ) (chip : Chip) (seal : Bool) : Type 0 where
   pub enough : seal ≡ true → 4 + scanned_sectors request chip.config.size ≤ allowance
-  pub below : seal ≡ false → allowance < needed_to_identify chip + scanned_sectors request chip.config.size
+  pub below : seal ≡ false → allowance < needed_to_identify further chip + scanned_sectors request chip.config.size
 
 -- Holds if `restores` restores may have been run with the allowances `stops`. Each except the last was stopped.
 pub record AreRestores (sectors : ℕ) (stops : List ℕ) (restores : ℕ) : Type 0 where
   pub stopped : (i : ℕ) → i + 1 < restores → slice_index stops i < most_of sectors
   pub ended : restores ≤ length stops → 4 + sectors ≤ slice_index stops (restores - 1)
 
--- Holds if the entry of `stops` for the last restore, if any, covers `left`, the shortest identification and the scan.
+-- Holds if `stops` has no entry for the last restore, or this entry is at least the sum of `left`, the shortest
+-- identification (4 transactions) and the scan (`sectors` transactions).
 abbrev pub FitsLastStop : (sectors : ℕ) → (stops : List ℕ) → (left restores : ℕ) → Type 0
 FitsLastStop sectors stops left restores =
     restores ≤ length stops → left + (4 + sectors) ≤ slice_index stops (restores - 1)
@@ -92,9 +94,9 @@ IsRehearsalRefusal old new refusal = SessionReturns old new refusal ⊎ ((new.se
 abbrev pub IsNoBusError : Refusal → Type 0
 IsNoBusError refusal = list_any (λ n. refusal_number refusal == n) (12 ∷ 13 ∷ []) ≡ false
 
-abbrev pub RehearsalErrors : Request → List ℕ → Chip → (old new : VaultState) → Refusal → Type 0
-RehearsalErrors request image chip old new Vault = CountsRefusal old new
-RehearsalErrors request image chip old new refusal = IsVerdict request image chip refusal
+abbrev pub RehearsalErrors : (further : Bool) → Request → List ℕ → Chip → (old new : VaultState) → Refusal → Type 0
+RehearsalErrors further request image chip old new Vault = CountsRefusal old new
+RehearsalErrors further request image chip old new refusal = IsVerdict further request image chip refusal
 
 abbrev pub IsRehearsedCode : What → Content → (code : ℕ) → Type 0
 IsRehearsedCode what journal code = IsWrittenCode what journal code ⊎ IsSavedCode journal code
@@ -120,16 +122,16 @@ pub record RehearsalModelled (request : Request) (image stops : List ℕ) (old n
     (result : Result Rehearsal Refusal) : Type 0 where
   pub wears : (s : ℕ) → is_touched old.chip.bytes (wanted request image old.chip) s ≡ false → new.worn s ≡ old.worn s
   pub refuses : OnErr result (LeavesRefused old new vault')
-  pub errors : IfErr result (RehearsalErrors request image old.chip vault vault')
-  pub accepts : vault'.sealed ≡ true → IsAccepted request image old.chip
+  pub errors : IfErr result (RehearsalErrors old.further request image old.chip vault vault')
+  pub accepts : vault'.sealed ≡ true → IsAccepted old.further request image old.chip
   pub saves : vault'.sealed ≡ true
       → JournalSaves (header_of old.chip) old.chip.bytes
       (is_touched old.chip.bytes (wanted request image old.chip)) vault'.bytes
   pub ended : most_of (old.chip.config.size / 4096) ≤ first_allowance stops
       → IfOk result (λ rehearsal. rehearsal.ended ≡ true)
   pub stopped : IfOk result (λ rehearsal. rehearsal.ended ≡ true
-      → CanEnd request image (first_allowance stops) old.chip)
-  pub seal : IfOk result (λ rehearsal. SealFits request (first_allowance stops) old.chip rehearsal.sealed)
+      → CanEnd old.further request image (first_allowance stops) old.chip)
+  pub seal : IfOk result (λ rehearsal. SealFits old.further request (first_allowance stops) old.chip rehearsal.sealed)
   pub restores : IfOk result (λ rehearsal. rehearsal.sealed ≡ true
       → AreRestores (sector_count (is_touched old.chip.bytes (wanted request image old.chip))) (drop 1 stops)
       rehearsal.restores)

@@ -31,7 +31,7 @@ use Rattle.nor_session.specs.Rehearsal.{CanEnd, SealFits, AreRestores, FitsLastS
 -- bus's chip differs from `first` only as `IsWithin` allows.
 pub record CanUndo (saved : ℕ → Bool) (first : Chip) (text : List ℕ) (state : BusState) : Type 0 where
   pub is : IsChip first
-  pub known : IsKnown first.config
+  pub known : IsKnown state.further first.config
   pub journal : JournalSaves (header_of first) first.bytes saved text
   pub inside : (s : ℕ) → saved s ≡ true → s < first.config.size / 4096
   pub free : is_locked first.kept ≡ true → NoneProtected saved first
@@ -44,7 +44,7 @@ pub record LeavesSession (request : Request) (image : List ℕ) (old new : BusSt
   pub same : IsModelled old → IsSteadyOrIdle old → vault.sealed ≡ false → IsSame old.chip new.chip
   pub back : IsModelled old → vault.sealed ≡ true
       → CanUndo (is_touched old.chip.bytes (wanted request image old.chip)) old.chip vault.bytes new
-  pub accepted : IsModelled old → vault.sealed ≡ true → IsAccepted request image old.chip
+  pub accepted : IsModelled old → vault.sealed ≡ true → IsAccepted old.further request image old.chip
   pub wears : IsModelled old → (s : ℕ) → is_touched old.chip.bytes (wanted request image old.chip) s ≡ false
       → new.worn s ≡ old.worn s
   pub latch : IsModelled old → vault.sealed ≡ false → new.chip.latch ≡ true → old.chip.latch ≡ true
@@ -62,23 +62,24 @@ pub record HasWantedBits (what : What) (old new : Chip) : Type 0 where
 pub record RunsSession (request : Request) (image : List ℕ) (allowance : ℕ) (old new : BusState) (vault : VaultState)
     (ended : Bool) : Type 0 where
   pub seals : ended ≡ true → vault.sealed ≡ true
-  pub can : IsModelled old → old.punctual ≡ true → ended ≡ true → CanEnd request image allowance old.chip
+  pub can : IsModelled old → old.punctual ≡ true → ended ≡ true → CanEnd old.further request image allowance old.chip
   pub bytes : IsModelled old → ended ≡ true → (a : ℕ) → new.chip.bytes a ≡ wanted request image old.chip a
   pub bits : IsModelled old → ended ≡ true → HasWantedBits request.what old.chip new.chip
   pub latch : IsModelled old → ended ≡ true → new.chip.latch ≡ true → old.chip.latch ≡ true
   pub none_left : old.honest ≡ true → old.punctual ≡ true → ended ≡ false → new.left ≡ 0
   pub below : IsModelled old → old.punctual ≡ true → ended ≡ false
       → allowance < most_of (old.chip.config.size / 4096)
-  pub seal : IsModelled old → old.punctual ≡ true → SealFits request allowance old.chip vault.sealed
+  pub seal : IsModelled old → old.punctual ≡ true → SealFits old.further request allowance old.chip vault.sealed
 
--- Holds if the session may return this error. A stop or a timeout is not possible on a well-behaved, punctual bus.
+-- Holds if the session may end the rehearsal with this error: no stop or timeout on a well-behaved, punctual bus.
 pub record RefusesSession (request : Request) (image : List ℕ) (old new : BusState) (before after : VaultState)
     (refusal : Refusal) : Type 0 where
   pub answers : SessionReturns before after refusal
   pub names : NamesAddress after refusal
   pub fails : old.honest ≡ true → old.punctual ≡ true → IsNoBusError refusal
   pub last_transaction : EndsAtError refusal new.history
-  pub errors : IsModelled old → old.punctual ≡ true → RehearsalErrors request image old.chip before after refusal
+  pub errors : IsModelled old → old.punctual ≡ true
+      → RehearsalErrors old.further request image old.chip before after refusal
   pub leaves : IsModelled old → old.punctual ≡ true → LeavesRefused old new after
 
 -- Holds at every exit of at most `restores` restores. On a modelled bus the journal can still restore each chip that it
@@ -114,8 +115,8 @@ pub record RunsRestores (journal : Content) (stops : List ℕ) (old new : BusSta
   pub last : IsModelled old → old.punctual ≡ true → FitsLastStop (length journal.saved) stops new.left restores
   pub back : IsModelled old → (first : Chip) → CanRestore journal first old → IsSame first new.chip
 
--- Holds if one of the restores may return this error. No error is possible on a modelled, punctual bus if the journal
--- can restore a chip.
+-- Holds if one of the restores may end the rehearsal with this error. On a modelled, punctual bus no such error is
+-- possible if the journal could restore some original chip before the restores (`CanRestore`).
 pub record StopsRestores (journal : Content) (old new : BusState) (refusal : Refusal) : Type 0 where
   pub answers : IsRestoreRefusal refusal
   pub last_transaction : EndsAtError refusal new.history
@@ -144,8 +145,8 @@ abbrev pub SendsFromJournal : List ℕ → (restores : ℕ) → (old new : BusSt
 SendsFromJournal text restores old new =
     (journal : IsJournal text) → SendsSaved (IsSavedCode journal.content) restores journal.content old new
 
--- Holds if restores from the bytes `text` may return this error. No error is possible on a modelled, punctual bus if
--- the bytes can restore a chip.
+-- Holds if restores from the bytes `text` may end the rehearsal with this error. No such error is possible on a
+-- modelled, punctual bus if the bytes can restore a chip.
 pub record RefusesUndo (text : List ℕ) (old new : BusState) (refusal : Refusal) : Type 0 where
   pub answers : IsJournal text → IsRestoreRefusal refusal
   pub last_transaction : EndsAtError refusal new.history

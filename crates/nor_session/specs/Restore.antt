@@ -79,14 +79,15 @@ abbrev pub NeedsStatusFrom : Content → Chip → Type 0
 NeedsStatusFrom journal chip = NeedsStatusBy differing journal chip
 
 -- Holds if the error applies to the journal and the chip, regardless of other errors.
-abbrev pub RestoreHolds : Choice → Content → Chip → Refusal → Type 0
-RestoreHolds choice journal chip NoChip = shown_as chip.config ≡ Err Probes.NoChip
-RestoreHolds choice journal chip (UnknownChip fault) = shown_as chip.config ≡ Err (Probes.UnknownChip fault)
-RestoreHolds choice journal chip OtherChip = ¬ IsOfType journal chip.config
-RestoreHolds choice journal chip OtherUnit = IsOfOtherDevice journal chip.config
-RestoreHolds choice journal chip StatusDiffers = ¬ FitsStatus journal chip
-RestoreHolds choice journal chip StatusLocked = (is_locked chip.kept ≡ true) × NeedsStatusBy choice journal chip
-RestoreHolds choice journal chip _ = ⊥
+abbrev pub RestoreHolds : (further : Bool) → Choice → Content → Chip → Refusal → Type 0
+RestoreHolds further choice journal chip NoChip = shown_as further chip.config ≡ Err Probes.NoChip
+RestoreHolds further choice journal chip (UnknownChip fault) =
+    shown_as further chip.config ≡ Err (Probes.UnknownChip fault)
+RestoreHolds further choice journal chip OtherChip = ¬ IsOfType journal chip.config
+RestoreHolds further choice journal chip OtherUnit = IsOfOtherDevice journal chip.config
+RestoreHolds further choice journal chip StatusDiffers = ¬ FitsStatus journal chip
+RestoreHolds further choice journal chip StatusLocked = (is_locked chip.kept ≡ true) × NeedsStatusBy choice journal chip
+RestoreHolds further choice journal chip _ = ⊥
 
 -- The numbers of the errors that a restore checks before it changes anything, in the order of the checks.
 abbrev pub checked_in_order : List ℕ
@@ -100,14 +101,15 @@ index_in [] n = 0
 index_in (first ∷ later) n = if first == n then 0 else 1 + index_in later n
 
 -- Holds if the error applies, and none of the errors that are checked earlier applies.
-pub record IsRestoreVerdict (choice : Choice) (journal : Content) (chip : Chip) (refusal : Refusal) : Type 0 where
-  pub holds : RestoreHolds choice journal chip refusal
+pub record IsRestoreVerdict (further : Bool) (choice : Choice) (journal : Content) (chip : Chip)
+    (refusal : Refusal) : Type 0 where
+  pub holds : RestoreHolds further choice journal chip refusal
   pub first : (other : Refusal)
       → index_in checked_in_order (refusal_number other) < index_in checked_in_order (refusal_number refusal)
-      → ¬ RestoreHolds choice journal chip other
+      → ¬ RestoreHolds further choice journal chip other
 
-abbrev pub IsRestorable : Choice → Content → Chip → Type 0
-IsRestorable choice journal chip = (refusal : Refusal) → ¬ RestoreHolds choice journal chip refusal
+abbrev pub IsRestorable : (further : Bool) → Choice → Content → Chip → Type 0
+IsRestorable further choice journal chip = (refusal : Refusal) → ¬ RestoreHolds further choice journal chip refusal
 
 pub record IsOfTypeFound (journal : Content) (found : Found) : Type 0 where
   pub id : journal.id ≡ found.id
@@ -153,10 +155,11 @@ IsRestoreRefusal refusal = list_any (λ n. refusal_number refusal == n) (12 ∷ 
 -- Holds if a restore may return this error on a modelled bus: its verdict, or 12 because the bus stopped.
 abbrev pub ErrorsBy : Choice → Content → (old new : BusState) → Refusal → Type 0
 ErrorsBy choice journal old new Stopped = RanOut (most_of (length journal.saved)) old new
-ErrorsBy choice journal old new refusal = IsRestoreVerdict choice journal old.chip refusal
+ErrorsBy choice journal old new refusal = IsRestoreVerdict old.further choice journal old.chip refusal
 
 -- Holds at every exit of a restore on a modelled bus, with any journal. If the bus is steady or the chip was idle at
--- the start, the bytes outside the saved sectors, and the status bits that flashnor never changes, are as they were.
+-- the start, the bytes outside the saved sectors, and the status bits that flashnor never changes, are as they were. In
+-- any case only raised sectors were erased.
 pub record LeavesBy (choice : Choice) (journal : Content) (old new : BusState) : Type 0 where
   pub config : new.chip.config ≡ old.chip.config
   pub bytes : IsSteadyOrIdle old → (a : ℕ) → is_saved journal (a / 4096) ≡ false → new.chip.bytes a ≡ old.chip.bytes a
@@ -165,7 +168,7 @@ pub record LeavesBy (choice : Choice) (journal : Content) (old new : BusState) :
 
 -- Holds after a restore succeeded on a modelled bus. If nothing had to be changed, no modifying command was sent.
 pub record IsRestoredBy (choice : Choice) (journal : Content) (old new : BusState) (report : Report) : Type 0 where
-  pub accepted : IsRestorable choice journal old.chip
+  pub accepted : IsRestorable old.further choice journal old.chip
   pub made : IsTargetChip (restored journal old.chip.bytes) old.chip new.chip
   pub kept : new.chip.kept ≡ kept_in journal.status
   pub reported : IsReportedFor (choice.touched journal old.chip.bytes) (choice.raised journal old.chip.bytes)

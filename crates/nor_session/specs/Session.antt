@@ -96,7 +96,8 @@ pub record WritesOnly (IsCode : (code : ℕ) → Type 0) (journal : Content) (on
   pub clear2 : two < 128
 
 -- Holds if what `calls` calls sent fits this journal: the calls targeted only saved sectors (for a chip erase see
--- `IsPastChipEnd`), wrote only allowed status bytes, and sent no unknown transaction.
+-- `IsPastChipEnd`), wrote only allowed status bytes, and sent no unknown transaction. They sent at
+-- most `calls` times as many erases as sectors are saved, and at most 16 page programs for each erase so allowed.
 pub record SendsSaved (IsCode : ℕ → Type 0) (calls : ℕ) (journal : Content) (old new : BusState) : Type 0 where
   pub targeted : (s : ℕ) → (is_targeted new.sent s ≡ is_targeted old.sent s)
       ⊎ ((is_saved journal s ≡ true) ⊎ IsPastChipEnd journal s)
@@ -106,7 +107,7 @@ pub record SendsSaved (IsCode : ℕ → Type 0) (calls : ℕ) (journal : Content
   pub programs : programs_of new.sent ≤ programs_of old.sent + calls * (16 * sector_count (is_saved journal))
   pub unknown : has_unknown new.sent ≡ has_unknown old.sent
 
--- Holds if at most as many erases and page programs were sent as the largest chip has sectors and pages.
+-- Holds if at most 4,096 erases, 65,536 page programs and no unknown transaction were sent.
 pub record SendsFew (old new : BusState) : Type 0 where
   pub erases : erases_of new.sent ≤ erases_of old.sent + 4096
   pub programs : programs_of new.sent ≤ programs_of old.sent + 65536
@@ -169,7 +170,7 @@ HonestErrors most IsEarly old new refusal = IsEarly refusal → IsSame old.chip 
 abbrev pub SessionErrors : Request → List ℕ → (old new : BusState) → (vault vault' : VaultState) → Refusal → Type 0
 SessionErrors request image old new vault vault' Vault = CountsRefusal vault vault'
 SessionErrors request image old new vault vault' Stopped = RanOut (most_of (old.chip.config.size / 4096)) old new
-SessionErrors request image old new vault vault' refusal = IsVerdict request image old.chip refusal
+SessionErrors request image old new vault vault' refusal = IsVerdict old.further request image old.chip refusal
 
 -- Holds after a session succeeded on a modelled bus. If nothing had to be changed, no modifying command was sent.
 pub record IsDone (request : Request) (image : List ℕ) (old new : BusState) (report : Report) : Type 0 where
@@ -180,22 +181,24 @@ pub record IsDone (request : Request) (image : List ℕ) (old new : BusState) (r
   pub reported : IsReported (wanted request image old.chip) old new report
   pub unsent : report.touched ≡ 0 → ¬ NeedsStatusWrite request image old.chip → new.sent ≡ old.sent
 
--- Holds at every exit after the seal, on a modelled bus: a faithful vault holds a journal of the original chip that
--- saves exactly the touched sectors, and the chip changed only as `MayChange` allows.
+-- Holds at every exit after the seal, on a modelled bus: the request is accepted, a faithful vault holds a journal of
+-- the original chip that saves exactly the touched sectors, and the chip changed only as `MayChange` allows.
 pub record CanBeUndone (request : Request) (image : List ℕ) (old new : BusState) (vault : VaultState) : Type 0 where
-  pub accepted : IsAccepted request image old.chip
+  pub accepted : IsAccepted old.further request image old.chip
   pub journal : vault.telling ≡ true
       → JournalSaves (header_of old.chip) old.chip.bytes
       (is_touched old.chip.bytes (wanted request image old.chip)) vault.bytes
   pub changes : MayChange (is_touched old.chip.bytes (wanted request image old.chip))
       (is_raised old.chip.bytes (wanted request image old.chip))
       (wanted request image old.chip) old new
+  pub further : new.further ≡ old.further
   pub spent : old.punctual ≡ true → new.left + (4 + scanned_sectors request old.chip.config.size) ≤ old.left
 
--- Holds if there are no bytes, or if the bytes are a prefix of the only journal that the session can write.
-abbrev pub HoldsBegun : Request → (image : List ℕ) → Chip → (bytes : List ℕ) → Type 0
-HoldsBegun request image chip bytes = (bytes ≡ [])
-    ⊎ (IsNamed request.named chip.config
+-- Holds if there are no bytes, or if the chip has the requested name, if any (`IsNamed`), and the bytes are a prefix of
+-- the only journal that the session can write.
+abbrev pub HoldsBegun : (further : Bool) → Request → (image : List ℕ) → Chip → (bytes : List ℕ) → Type 0
+HoldsBegun further request image chip bytes = (bytes ≡ [])
+    ⊎ (IsNamed further request.named chip.config
     × IsJournalPrefix (header_of chip) chip.bytes (is_touched chip.bytes (wanted request image chip)) bytes)
 
 -- Holds if the bytes are a journal of what the bus had last replied at some point of the session (history `at_seal`).
@@ -252,7 +255,8 @@ pub record SessionHonest (request : Request) (image : List ℕ) (old new : BusSt
     (result : Result Report Refusal) : Type 0 where
   pub honest_errors : IfErr result (HonestErrors (most_of 4096) (λ refusal. refusal_number refusal ≤ 11) old new)
   pub counted : IfOk result (λ report. Spent report.transactions old new)
-  -- The session read the touched sectors back and compared them, so this holds even for a chip that isn't genuine.
+  -- If `verify` is set, the session read the touched sectors back and compared them, so this holds even for a chip that
+  -- isn't genuine.
   pub checked : IfOk result (λ report. request.verify ≡ true → old.chip.config.size ≡ report.found.size
       → HasBytes (is_touched old.chip.bytes (wanted request image old.chip)) (wanted request image old.chip) new.chip)
 
@@ -266,7 +270,7 @@ pub record SessionModelled (request : Request) (image : List ℕ) (old new : Bus
   pub spares : ¬ NeedsStatusWrite request image old.chip
       → IfOk result (IsWithinBound (scanned_sectors request old.chip.config.size) 0 request.verify)
   pub early : vault'.sealed ≡ false → old.punctual ≡ true → IfErr result (λ refusal. refusal ≡ Stopped
-      → old.left < needed_to_identify old.chip + scanned_sectors request old.chip.config.size)
+      → old.left < needed_to_identify old.further old.chip + scanned_sectors request old.chip.config.size)
   -- After an error other than 11, an unsealed faithful vault is empty, or holds the header and complete records of the
   -- only journal that the session can write.
   pub begins : vault'.sealed ≡ false → vault'.telling ≡ true → IfErr result (λ refusal. refusal ≢ Vault
@@ -274,5 +278,5 @@ pub record SessionModelled (request : Request) (image : List ℕ) (old new : Bus
       ⊎ HasWholeRecords (header_of old.chip) old.chip.bytes
       (is_touched old.chip.bytes (wanted request image old.chip)) vault'.bytes)
   pub cut : vault'.sealed ≡ false → vault'.telling ≡ true
-      → OnErr result (HoldsBegun request image old.chip vault'.bytes)
+      → OnErr result (HoldsBegun old.further request image old.chip vault'.bytes)
   pub undo : vault'.sealed ≡ true → CanBeUndone request image old new vault'

@@ -31,32 +31,33 @@ pub fn power_lost_restores_original()
 {}
 
 /// States that if a session on a modelled bus sealed a `telling` vault, the journal in this vault saves no sector that
-/// a locked status of the original chip protects. Therefore a `rewrite` on a modelled bus can only fail with error 12,
-/// if this journal can restore the original chip.
+/// a locked status of the original chip protects. Therefore, if this journal can restore the original chip, a
+/// `rewrite` on a modelled bus can only fail with error 12.
 pub fn session_can_be_rewritten()
     ensures { (request : Request) (image : List ℕ) (old new : BusState) (journal : Content)
         → LeavesJournal request image old new journal → CanBeRewritten journal old.chip }
 {}
 
 /// States that if two sessions ran one after the other, and a restore from the later journal then succeeded, the
-/// earlier journal can restore the chip from before the first session.
+/// earlier journal can restore the chip as it was before the first session.
 ///
-/// Both journals are in sealed `telling` vaults, and all buses are modelled. Other restores from the later journal may
-/// have been stopped, if that journal can still restore the chip from before the second session. Between two runs the
-/// chip may lose its power or be opened from files, as `IsTakenUp` says.
+/// Both journals are in sealed `telling` vaults, all buses are modelled, and the same further types (`further`)
+/// apply on the first and the last. Other restores from the later journal may have been stopped, if that journal can
+/// still restore the chip as it was before the second session. Between two runs the chip may lose its power or be
+/// opened from files, as `IsTakenUp` says.
 pub fn undone_is_restorable()
     ensures { (request later : Request) (image later_image : List ℕ) (old mid mid' new new' back : BusState)
         (journal other : Content) (report : Report)
         → LeavesJournal request image old mid journal → IsTakenUp old mid mid'
         → LeavesJournal later later_image mid' new other
         → IsTakenUp mid' new new' ⊎ CanRestore other mid'.chip new'
-        → IsRestored other new' back report → CanRestore journal old.chip back }
+        → IsRestored other new' back report → back.further ≡ old.further → CanRestore journal old.chip back }
 {}
 
 /// States that if restores from the journals of two successive sessions succeed in the reverse order, the chip has the
-/// contents and non-volatile status bits from before the first session. The premises are those of
-/// `undone_is_restorable`. Between the two restores the chip may lose its power, and restores from the earlier journal
-/// may be stopped, if that journal can still restore the chip from before the first session.
+/// contents and non-volatile status bits that it had before the first session. The premises are those of
+/// `undone_is_restorable`, except `further`. Between the two restores the chip may lose its power, and restores from
+/// the earlier journal may be stopped, if that journal can still restore the chip as it was before the first session.
 pub fn undone_in_turn()
     ensures { (request later : Request) (image later_image : List ℕ) (old mid mid' new new' back back' end : BusState)
         (journal other : Content) (report last : Report)
@@ -77,46 +78,49 @@ pub fn read_restores_original()
 {}
 
 /// States that if the bytes of an unsealed `telling` vault are a journal after a session on a modelled bus, that
-/// journal can restore the original chip. The chip must be idle, with its original bytes and non-volatile status bits.
+/// journal can restore the original chip. The chip must be idle, with its original bytes and non-volatile status bits,
+/// and its bus must have the same `further`.
 pub fn begun_restores_original()
     ensures { (request : Request) (image : List ℕ) (old new : BusState) (bytes : List ℕ) (journal : Content)
-        → IsModelled old → IsChip old.chip → HoldsBegun request image old.chip bytes
+        → IsModelled old → IsChip old.chip → HoldsBegun old.further request image old.chip bytes
         → IsContent journal → bytes ≡ text journal → IsSame old.chip new.chip → new.chip.busy ≡ 0
-        → CanRestore journal old.chip new }
+        → new.further ≡ old.further → CanRestore journal old.chip new }
 {}
 
 /// States that if files with the original chip were being overwritten with the chip after a session on a modelled bus,
-/// the journal from the session's sealed `telling` vault can restore the original chip from these files.
+/// the journal from the session's sealed `telling` vault can restore the original chip on a chip that is opened from
+/// these files, on a bus with the same `further`.
 pub fn session_written_over()
     ensures { (request : Request) (image : List ℕ) (old new opened : BusState) (vault : VaultState) (journal : Content)
         → IsModelled old → IsChip old.chip → vault.telling ≡ true → CanBeUndone request image old new vault
         → IsContent journal → vault.bytes ≡ text journal → IsWrittenOver old.chip new.chip opened.chip
-        → CanRestore journal old.chip opened }
+        → opened.further ≡ old.further → CanRestore journal old.chip opened }
 {}
 
-/// States that if a journal can restore the original chip before and after a restore, the journal can also restore the
-/// original chip from files with the chip before the restore that were being overwritten with the chip after it.
+/// States that if a journal can restore the original chip before and after a restore, the journal can also do so on a
+/// chip that is opened from files, on a bus with the same `further`. These files held the chip before the restore, and
+/// were being overwritten with the chip after the restore.
 pub fn restore_written_over()
     ensures { (journal : Content) (first : Chip) (old new opened : BusState)
         → CanRestore journal first old → CanRestore journal first new → IsWrittenOver old.chip new.chip opened.chip
-        → CanRestore journal first opened }
+        → opened.further ≡ new.further → CanRestore journal first opened }
 {}
 
-/// States that files that are overwritten with the same chip that they hold still hold that chip at each moment.
+/// States that while files are overwritten with the chip that they already hold, they hold that chip at each moment.
 pub fn same_written_over()
     ensures { (old new opened : Chip) → IsSame old new → IsWrittenOver old new opened → IsSame old opened }
 {}
 
-/// States that if any journal can restore a chip, a backup of that chip can restore the chip too.
+/// States that if some journal can restore a chip, a backup of that chip can restore the chip too.
 pub fn backup_restores_original()
     ensures { (journal backup : Content) (first : Chip) (state : BusState)
         → SavesWholeChip backup first → CanRestore journal first state → CanRestore backup first state }
 {}
 
 /// States that a backup can restore the known chip (`IsKnown`) that it saves, even if bytes changed in sectors that no
-/// session touched. The chip on the bus may differ as `IsWithin` allows at the addresses that a restore can write.
+/// session touched. The chip on the bus may differ from the saved chip as `IsWithin` allows for `writable_addresses`.
 pub fn backup_restores_any()
-    ensures { (backup : Content) (first : Chip) (state : BusState) → IsKnown first.config
+    ensures { (backup : Content) (first : Chip) (state : BusState) → IsKnown state.further first.config
         → SavesWholeChip backup first → IsWithin (writable_addresses first) first state
         → CanRestore backup first state }
 {}

@@ -1,5 +1,5 @@
 //! The call `session`, which saves each sector that it will change, and then changes the chip.
-ghost use Rattle.std.specs.Prelude.{◌≡◌, ℕ, List, true};
+ghost use Rattle.std.specs.Prelude.{◌≡◌, ℕ, Bool, List, true};
 ghost use Rattle.nor_model.specs.Chip.{Chip};
 ghost use Rattle.nor_journal.specs.Vault.{IsFresh};
 ghost use Rattle.nor_request.specs.declared.request.Request.{Request};
@@ -33,8 +33,8 @@ use nor_scan::{identify, judge_identity};
 ///
 /// Returns an error from 1 to 8 before the vault is used, and one from 9 to 11 before the vault is sealed (`Refusal`
 /// has their meanings). On a modelled bus an error from 1 to 10 is the verdict on the request (`IsVerdict`). Returns 12
-/// (the bus stopped) or 13 (the chip stayed busy; not on a well-behaved bus) before or after the seal, and 14 (the
-/// bytes that were read back differ; not on a modelled bus) after it.
+/// (the bus stopped) or 13 (the chip stayed busy; not on a well-behaved bus) before or after the seal, and after it 14
+/// (the verification read other bytes; not on a modelled bus).
 pub fn session<B: Bus, V: Vault>(
     bus: &mut B,
     vault: &mut V,
@@ -91,6 +91,6 @@ pub fn session_announced<B: Bus, V: Vault, F: FnOnce(Announcement) + Drop>(
 /// States that no error is the verdict on a request that is accepted for the same image and the same chip.
 #[tactic(auto, using(nor_scan::proofs::OneVerdict::accepted_only))]
 pub fn accepted_alone()
-    ensures { (request : Request) (image : List ℕ) (chip : Chip) (refusal : Refusal)
-        → IsAccepted request image chip → ¬ IsVerdict request image chip refusal }
+    ensures { (further : Bool) (request : Request) (image : List ℕ) (chip : Chip) (refusal : Refusal)
+        → IsAccepted further request image chip → ¬ IsVerdict further request image chip refusal }
 {}

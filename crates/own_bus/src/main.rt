@@ -28,7 +28,7 @@ use played::{PlayedPort, PlayedWires};
 use std::alloc::Global;
 use std::{env, fs};
 
-/// The bus over a port. It pauses between polls that show BUSY, and stops if two reads of the same data or ID differ.
+/// A bus over a port. It pauses between polls that show BUSY, and stops if two reads of data, SFDP or an ID differ.
 type PortBus<'a, P> = Paced<ReadTwice<SerprogBus<P>>, &'a HostRuntime>;
 
 fn main(rt: HostRuntime) -> Result<(), Fault> {
@@ -58,7 +58,7 @@ fn open<P: Port + Drop>(
 {
     let mut link = Link::new(port);
     let programmer = Programmer::identify(&mut link, None)?;
-    let bus = ReadTwice::new(SerprogBus::new(link, programmer));
+    let bus = ReadTwice::new(SerprogBus::new(link, programmer, true));
     Ok(Paced::new(bus, rt))
 }
 

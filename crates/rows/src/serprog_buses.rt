@@ -13,7 +13,7 @@ fn open(rt: &impl Abort, model: Model) -> SerprogBus<Model> {
     let programmer = Programmer::identify(&mut link, None)
         .ok()
         .expect(rt, "a programmer");
-    SerprogBus::new(link, programmer)
+    SerprogBus::new(link, programmer, false)
 }
 
 fn open_batching(rt: &impl Abort, alloc: Global, fault: Option<Fault>) -> BatchingBus<Model> {
@@ -50,7 +50,7 @@ fn cause(rt: &impl Abort, alloc: Global, bus: &SerprogBus<Model>) -> String {
     }
 }
 
-// The bus records the cause. Further transactions send nothing until `synchronize` succeeds.
+// The bus records the cause of a fault. Further transactions send nothing until `synchronize` succeeds.
 #[test]
 fn each_fault_stops_the_bus(rt: HostRuntime) {
     let alloc = rt.alloc();

@@ -1,5 +1,6 @@
-//! Sessions and restores over a serprog port that fails at each of its calls in turn. A transaction takes three calls:
-//! send the frame, receive ACK, receive the rest. If the second or third fails, only the reply is lost.
+//! Sessions and restores over a serprog port that fails at each of its calls in turn, and runs over one that doesn't
+//! fail. A transaction takes three calls of the port: send the frame, receive ACK, receive the rest. If the second or
+//! third fails, only the reply is lost.
 ghost use Rattle.nor_journal.specs.Vault.{IsFresh};
 
 use crate::held::{assert_held, assert_that};
@@ -15,7 +16,7 @@ use std::process::Abort;
 
 const CALLS: u64 = 3;
 
-// More calls than a handshake and any restore take.
+// More calls than the handshake and all runs over one port take.
 const AMPLE: u64 = 100_000;
 
 // How many bytes of a transaction the chip receives at a cut: none, opcode and address, one byte of data more, or all.
@@ -26,12 +27,13 @@ fn open(rt: &impl Abort, port: SimPort) -> SerprogBus<SimPort> {
     let programmer = Programmer::identify(&mut link, None)
         .ok()
         .expect(rt, "a programmer");
-    // `SerprogBus::new` requires a link without a pending reply.
+    // Over a well-behaved port, `SerprogBus::new` requires that no reply is pending.
     assert!(rt; link.port().is_idle());
-    SerprogBus::new(link, programmer)
+    SerprogBus::new(link, programmer, false)
 }
 
-// Returns a bus whose port fails `calls` calls after the handshake. If a send fails, the chip receives `cut` bytes.
+// Returns a bus whose port fails after `calls` calls since the handshake. If a send fails, the chip receives at most
+// `cut` bytes.
 fn bus_to(
     rt: &impl Abort,
     alloc: Global,
@@ -146,7 +148,8 @@ fn each_call_of_the_port_fails_in_a_session(rt: HostRuntime) {
     }
 }
 
-// Each entry has the start, the number of transactions after which the session stops, and that of the restore.
+// Each entry has the start, the number of transactions after which the session stops, and the number of
+// transactions of the restore.
 const RESTORES: [(Start, u64, u64); 2] = [(Start::IDLE, 25, 13), (Start::SLOW, 28, 17)];
 
 #[test]
@@ -233,7 +236,7 @@ fn each_cut_of_the_port_may_cost_the_power(rt: HostRuntime) {
     }
 }
 
-// Without a pending reply the port fails, and after a failure no call succeeds.
+// Without a pending reply, receiving a byte fails. After a failure no call succeeds.
 #[test]
 fn more_is_requested_than_is_pending(rt: HostRuntime) {
     let chip = Row::AByteIsProgrammed.bus(&rt, rt.alloc(), Start::IDLE);

@@ -146,7 +146,7 @@ fn readings_that_differ_stop_the_bus(rt: HostRuntime) {
         let programmer = Programmer::identify(&mut link, None)
             .ok()
             .expect(&rt, "a programmer");
-        let mut bus = ReadTwice::new(SerprogBus::new(link, programmer));
+        let mut bus = ReadTwice::new(SerprogBus::new(link, programmer, false));
         let _ = poll(&rt, &mut bus);
         let mut sector = [0; 4096];
         let read = bus.transfer(&[0x03, 0x00, 0x00, 0x00], &mut sector);
@@ -157,8 +157,8 @@ fn readings_that_differ_stop_the_bus(rt: HostRuntime) {
     }
 }
 
-// A poll is four transactions of the inner bus: a poll, the ID, a poll and the ID. A chip that seems to be busy in the
-// second poll doesn't count as lost.
+// Here a poll of a ready chip is four transactions of the inner bus: a poll, the ID, a poll and the ID. A chip that
+// seems to be busy in the second poll doesn't count as lost.
 #[test]
 fn a_busy_chip_is_not_lost(rt: HostRuntime) {
     let id = [0xFE, 0x10, 0x10];

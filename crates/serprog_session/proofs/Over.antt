@@ -1,4 +1,5 @@
--- Proofs that the promises of nor_session for the chip of a bus over a port hold for the programmer's chip there.
+-- Proofs: what nor_session promises about the chip as a bus over a port shows it (`seen`) holds for the programmer's
+-- chip, too.
 use Rattle.std.proofs.Common.{◌≡◌, ◌∙◌, ◌<◌, ◌/◌, ℕ, Bool, true, false, List, [], length, refl, sym, ap, subst, arith, inl, inr}
 use Rattle.std.specs.Prelude.{Option, Result, Ok, Err}
 use Rattle.std.proofs.lemmas.List.{append-nil}
@@ -30,6 +31,7 @@ use Rattle.nor_session.specs.Session.{HonestErrors, SessionErrors, SessionModell
 use Rattle.nor_session.specs.Restore.{Choice, IsCheckedFirst, AlwaysBy, ErrorsBy, RestoreErrors, RestoreHonest, RestoreModelled, RewriteHonest, RewriteModelled, differing, every_saved}
 use Rattle.nor_session.specs.Backup.{BackupErrors, BackupHonest, BackupModelled}
 use Rattle.nor_session.proofs.InTurn.{lost_can_restore}
+use Rattle.nor_session.proofs.WrittenBack.{known_kept}
 use Rattle.nor_serprog.specs.Device.{PortState}
 use Rattle.nor_serprog.specs.Bus.{over_port}
 use Rattle.nor_serprog.specs.Enabled.{enabled}
@@ -42,35 +44,39 @@ seen state waits port = record state { chip = enabled waits port.device.chip }
 -- Holds if a bus over a port holds back no write enable at first and isn't steady later; the fields say more.
 pub record IsOver (old new : PortState) (waits waits' : Bool) (bus bus' : BusState) : Type 0 where
   pub empty : waits ≡ false
+  pub further : bus'.further ≡ bus.further
   pub honest : old.honest ≡ true → bus.honest ≡ true
   pub unsteady : bus'.steady ≡ false
   pub few : (transactions : ℕ) → 0 < transactions
       → RanOut transactions (seen bus waits old) (seen bus' waits' new) → HadFewCalls transactions old
 
-pub serprog : (old new : PortState) (history history' : List Exchange)
-    → IsOver old new false false (over_port old history) (over_port new history')
-serprog old new history history' = record {
+pub serprog : (further further' : Bool) (old new : PortState) (history history' : List Exchange) → further' ≡ further
+    → IsOver old new false false (over_port further old history) (over_port further' new history')
+serprog further further' old new history history' kept = record {
   empty = refl;
+  further = kept;
   honest = λ honest. honest;
   unsteady = refl;
   few = λ transactions some ran. let below = (ran refl).below in omega arith;
 }
 
 pub unpunctual : (old new : PortState) (waits waits' : Bool) (bus bus' : BusState) → waits ≡ false
-    → (old.honest ≡ true → bus.honest ≡ true) → bus'.steady ≡ false
+    → (old.honest ≡ true → bus.honest ≡ true) → bus'.steady ≡ false → bus'.further ≡ bus.further
     → IsOver (uncounted old) new waits waits' bus bus'
-unpunctual old new waits waits' bus bus' empty honest unsteady = record {
+unpunctual old new waits waits' bus bus' empty honest unsteady further = record {
   empty = empty;
+  further = further;
   honest = honest;
   unsteady = unsteady;
   few = λ transactions some ran. omega (arith, some);
 }
 
-pub still_reaches : (port : PortState) → ReachesGenuine port → ReachesGenuine (uncounted port)
-still_reaches port reaches = record { honest = reaches.honest; genuine = reaches.genuine }
+pub still_reaches : (further : Bool) (port : PortState) → ReachesGenuine further port
+    → ReachesGenuine further (uncounted port)
+still_reaches further port reaches = record { honest = reaches.honest; genuine = reaches.genuine }
 
 pub modelled : (old new : PortState) (waits waits' : Bool) (bus bus' : BusState)
-    → IsOver old new waits waits' bus bus' → ReachesGenuine old → IsModelled (seen bus waits old)
+    → IsOver old new waits waits' bus bus' → ReachesGenuine bus.further old → IsModelled (seen bus waits old)
 modelled old new waits waits' bus bus' over reaches =
     record { honest = over.honest reaches.honest; genuine = reaches.genuine }
 
@@ -87,11 +93,11 @@ target_seen waits wanted first chip made = record {
   latch = λ set. made.latch (or_right (waits && is_idle chip) chip.latch set);
 }
 
-pub on_every_bus : (journal : Content) (first : Chip) (bus : BusState) (waits : Bool) (port : PortState)
-    → bus.steady ≡ false → CanRestore journal first (seen bus waits port)
-    → CanRestoreChip journal first port.device.chip
-on_every_bus journal first bus waits port unsteady can = λ other same. record {
-  known = can.known;
+pub on_every_bus : (further : Bool) (journal : Content) (first : Chip) (bus : BusState) (waits : Bool)
+    (port : PortState) → bus.steady ≡ false → bus.further ≡ further → CanRestore journal first (seen bus waits port)
+    → CanRestoreChip further journal first port.device.chip
+on_every_bus further journal first bus waits port unsteady is can = λ other same kept. record {
+  known = known_kept first (kept ∙ sym is) can.known;
   saves = can.saves;
   within = record {
     config = ap (λ (c : Chip). c.config) same ∙ can.within.config;
@@ -106,25 +112,26 @@ on_every_bus journal first bus waits port unsteady can = λ other same. record {
 }
 
 from_every_bus : (journal : Content) (first : Chip) (bus : BusState) (port : PortState)
-    → CanRestoreChip journal first port.device.chip → CanRestore journal first (seen bus false port)
-from_every_bus journal first bus port can = can (seen bus false port) refl
+    → CanRestoreChip bus.further journal first port.device.chip → CanRestore journal first (seen bus false port)
+from_every_bus journal first bus port can = can (seen bus false port) refl refl
 
-pub read_from : (bytes : List ℕ) (first chip : Chip) (journal : Content) → CanRestoreChipFrom bytes first chip
-    → IsContent journal → bytes ≡ text journal → CanRestoreChip journal first chip
-read_from bytes first chip journal from is read =
+pub read_from : (further : Bool) (bytes : List ℕ) (first chip : Chip) (journal : Content)
+    → CanRestoreChipFrom further bytes first chip → IsContent journal → bytes ≡ text journal
+    → CanRestoreChip further journal first chip
+read_from further bytes first chip journal from is read =
     let same : from.journal.content ≡ journal =
     (one_text from.journal.content journal [] [] from.journal.is is
     (append-nil (text from.journal.content) ∙ sym from.journal.same ∙ read ∙ sym (append-nil (text journal)))).0 in
-    let P : Content → Type 0 = λ j. CanRestoreChip j first chip in
+    let P : Content → Type 0 = λ j. CanRestoreChip further j first chip in
     subst P same from.back
 
-pub lost_from_chip : (journal : Content) (first old new : Chip) → CanRestoreChip journal first old
-    → PowerLost old new → CanRestoreChip journal first new
-lost_from_chip journal first old new can lost = λ state same.
+pub lost_from_chip : (further : Bool) (journal : Content) (first old new : Chip)
+    → CanRestoreChip further journal first old → PowerLost old new → CanRestoreChip further journal first new
+lost_from_chip further journal first old new can lost = λ state same none.
     let before : BusState = record state { chip = old; steady = false } in
     let P : Chip → Type 0 = λ c. PowerLost old c in
-    lost_can_restore journal first before state (can before refl)
-    (record { known = inl refl; lost = subst P (sym same) lost })
+    lost_can_restore journal first before state (can before refl none)
+    (record { further = refl; known = inl refl; lost = subst P (sym same) lost })
 
 some_calls : (sectors : ℕ) → 0 < most_of sectors
 some_calls sectors = omega arith
@@ -138,7 +145,7 @@ waits_never old new waits' bus bus' over = false≢true (sym over.empty)
 pub keeps : (old new : PortState) (waits waits' : Bool) (bus bus' : BusState) (vault : VaultState)
     → IsOver old new waits waits' bus bus'
     → KeepsOriginal (seen bus waits old) (seen bus' waits' new) vault
-    → KeepsOriginalChip old new bus.sent bus'.sent vault
+    → KeepsOriginalChip bus.further old new bus.sent bus'.sent vault
 keeps old new true waits' bus bus' vault over keep = absurd (waits_never old new waits' bus bus' over)
 keeps old new false waits' bus bus' vault over keep = record {
   unsent = keep.unsent;
@@ -148,14 +155,15 @@ keeps old new false waits' bus bus' vault over keep = record {
       let from = keep.restorable sealed telling (modelled old new false waits' bus bus' over reaches) in
       record {
         journal = from.journal;
-        back = on_every_bus from.journal.content old.device.chip bus' waits' new over.unsteady from.back;
+        back = on_every_bus bus.further from.journal.content old.device.chip bus' waits' new over.unsteady over.further
+            from.back;
       };
 }
 
 fails : (request : Request) (image : List ℕ) (old new : PortState) (waits' : Bool) (bus bus' : BusState)
     (vault vault' : VaultState) (refusal : Refusal) → IsOver old new false waits' bus bus'
     → SessionErrors request image (seen bus false old) (seen bus' waits' new) vault vault' refusal
-    → SessionFails request image old vault vault' refusal
+    → SessionFails bus.further request image old vault vault' refusal
 fails request image old new waits' bus bus' vault vault' Vault over is = is
 fails request image old new waits' bus bus' vault vault' Stopped over is =
     over.few _ (some_calls (old.device.chip.config.size / 4096)) is
@@ -165,7 +173,7 @@ pub results : (request : Request) (image : List ℕ) (old new : PortState) (wait
     (vault vault' : VaultState) (result : Result Report Refusal) → IsOver old new waits waits' bus bus'
     → SessionAlways request image (seen bus waits old) (seen bus' waits' new) vault vault' result
     → SessionModelled request image (seen bus waits old) (seen bus' waits' new) vault vault' result
-    → SessionResults request image old new vault vault' result
+    → SessionResults bus.further request image old new vault vault' result
 results request image old new true waits' bus bus' vault vault' result over always made =
     absurd (waits_never old new waits' bus bus' over)
 results request image old new false waits' bus bus' vault vault' (Ok report) over always made = record {
@@ -215,7 +223,7 @@ refuses choice journal old new (Err (Output written)) always = absurd (false≢t
 restore_fails : (choice : Choice) (journal : Content) (old new : PortState) (waits' : Bool) (bus bus' : BusState)
     (refusal : Refusal) → IsOver old new false waits' bus bus'
     → ErrorsBy choice journal (seen bus false old) (seen bus' waits' new) refusal
-    → FailsBy choice journal old refusal
+    → FailsBy bus.further choice journal old refusal
 restore_fails choice journal old new waits' bus bus' Stopped over is =
     over.few _ (some_calls (length journal.saved)) is
 restore_fails choice journal old new waits' bus bus' _ over is = is
@@ -231,12 +239,12 @@ pub restores : (journal : Content) (old new : PortState) (waits waits' : Bool) (
     → RestoresOriginal journal (seen bus waits old) (seen bus' waits' new) result
     → RestoreHonest journal (seen bus waits old) (seen bus' waits' new) result
     → RestoreModelled journal (seen bus waits old) (seen bus' waits' new) result
-    → RestoresOriginalChip journal old new result
+    → RestoresOriginalChip bus.further journal old new result
 restores journal old new true waits' bus bus' result over back fair made =
     absurd (waits_never old new waits' bus bus' over)
 restores journal old new false waits' bus bus' (Ok report) over back fair made = record {
   within = λ first can.
-      on_every_bus journal first bus' waits' new over.unsteady
+      on_every_bus bus.further journal first bus' waits' new over.unsteady over.further
       (back.within first (from_every_bus journal first bus old can));
   back = λ first can.
       same_seen waits' first new.device.chip (back.back first (from_every_bus journal first bus old can));
@@ -249,7 +257,7 @@ restores journal old new false waits' bus bus' (Ok report) over back fair made =
 }
 restores journal old new false waits' bus bus' (Err refusal) over back fair made = record {
   within = λ first can.
-      on_every_bus journal first bus' waits' new over.unsteady
+      on_every_bus bus.further journal first bus' waits' new over.unsteady over.further
       (back.within first (from_every_bus journal first bus old can));
   back = λ first can. tt;
   idle = tt;
@@ -273,12 +281,12 @@ pub rewrites : (journal : Content) (old new : PortState) (waits waits' : Bool) (
     → RewritesOriginal journal (seen bus waits old) (seen bus' waits' new) result
     → RewriteHonest journal (seen bus waits old) (seen bus' waits' new) result
     → RewriteModelled journal (seen bus waits old) (seen bus' waits' new) result
-    → RewritesOriginalChip journal old new result
+    → RewritesOriginalChip bus.further journal old new result
 rewrites journal old new true waits' bus bus' result over back fair made =
     absurd (waits_never old new waits' bus bus' over)
 rewrites journal old new false waits' bus bus' (Ok report) over back fair made = record {
   within = λ first can.
-      on_every_bus journal first bus' waits' new over.unsteady
+      on_every_bus bus.further journal first bus' waits' new over.unsteady over.further
       (back.within first (from_every_bus journal first bus old can));
   back = λ first can.
       same_seen waits' first new.device.chip (back.back first (from_every_bus journal first bus old can));
@@ -291,7 +299,7 @@ rewrites journal old new false waits' bus bus' (Ok report) over back fair made =
 }
 rewrites journal old new false waits' bus bus' (Err refusal) over back fair made = record {
   within = λ first can.
-      on_every_bus journal first bus' waits' new over.unsteady
+      on_every_bus bus.further journal first bus' waits' new over.unsteady over.further
       (back.within first (from_every_bus journal first bus old can));
   back = λ first can. tt;
   idle = tt;
@@ -313,7 +321,7 @@ rewrites journal old new false waits' bus bus' (Err refusal) over back fair made
 backup_fails : (named : Option ChipName) (old new : PortState) (waits' : Bool) (bus bus' : BusState)
     (refusal : Refusal) → IsOver old new false waits' bus bus'
     → BackupErrors (most_reads (old.device.chip.config.size / 4096)) named (seen bus false old)
-    (seen bus' waits' new) refusal → BackupFails named old refusal
+    (seen bus' waits' new) refusal → BackupFails bus.further named old refusal
 backup_fails named old new waits' bus bus' Stopped over is =
     over.few _ (some_reads (old.device.chip.config.size / 4096)) is
 backup_fails named old new waits' bus bus' _ over is = is
@@ -322,7 +330,7 @@ pub saves : (named : Option ChipName) (old new : PortState) (waits waits' : Bool
     (vault : VaultState) (result : Result Report Refusal) → IsOver old new waits waits' bus bus'
     → BackupHonest named (seen bus waits old) (seen bus' waits' new) result
     → BackupModelled named (seen bus waits old) (seen bus' waits' new) vault result
-    → SavesChipOver named old new vault result
+    → SavesChipOver bus.further named old new vault result
 saves named old new true waits' bus bus' vault result over fair made =
     absurd (waits_never old new waits' bus bus' over)
 saves named old new false waits' bus bus' vault (Ok report) over fair made = record {
@@ -333,7 +341,8 @@ saves named old new false waits' bus bus' vault (Ok report) over fair made = rec
       let from = made.restorable telling in
       record {
         journal = from.journal;
-        back = on_every_bus from.journal.content old.device.chip bus' waits' new over.unsteady from.back;
+        back = on_every_bus bus.further from.journal.content old.device.chip bus' waits' new over.unsteady over.further
+            from.back;
       };
 }
 saves named old new false waits' bus bus' vault (Err refusal) over fair made = record {

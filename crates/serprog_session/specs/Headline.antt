@@ -1,5 +1,6 @@
 -- The main promises of the calls over serprog.
-use Rattle.std.specs.Prelude.{◌≡◌, ◌≤◌, ◌<◌, ◌*◌, ◌/◌, ℕ, true, false, List, length, Option, Result, Err, IfErr, OnOk, ⊤}
+use Rattle.std.specs.Prelude.{◌≡◌, ◌≤◌, ◌<◌, ◌*◌, ◌/◌, ℕ, Bool, true, false, List, length, Option, Result, Err, IfErr}
+use Rattle.std.specs.Prelude.{OnOk, ⊤}
 use Rattle.nor_model.specs.Chip.{Chip, IsSame, kept_in}
 use Rattle.nor_model.specs.Sent.{Sent}
 use Rattle.nor_model.specs.Bus.{BusState}
@@ -25,18 +26,21 @@ use Rattle.nor_session.specs.Headline.{CanBeRewritten, CanRestore}
 use Rattle.nor_session.specs.Restore.{IsCheckedFirst, IsRestoreVerdict, Choice, differing, every_saved, restored}
 use Rattle.nor_serprog.specs.Device.{PortState}
 
--- Holds if the port is well-behaved, and the chip of its programmer is genuine.
-pub record ReachesGenuine (port : PortState) : Type 0 where
+-- Holds if the port is well-behaved, and the chip of its programmer is genuine on a bus with or without further types
+-- (`further`).
+pub record ReachesGenuine (further : Bool) (port : PortState) : Type 0 where
   pub honest : port.honest ≡ true
-  pub genuine : IsGenuine port.device.chip.config
+  pub genuine : IsGenuine further port.device.chip.config
 
--- Holds if the journal can restore the original chip `first` over every bus whose chip is `chip`.
-abbrev pub CanRestoreChip : Content → (first chip : Chip) → Type 0
-CanRestoreChip journal first chip = (state : BusState) → state.chip ≡ chip → CanRestore journal first state
+-- Holds if the journal can restore the original chip `first` over every bus whose chip is `chip`, and that has further
+-- types if and only if `further` is true.
+abbrev pub CanRestoreChip : (further : Bool) → Content → (first chip : Chip) → Type 0
+CanRestoreChip further journal first chip = (state : BusState) → state.chip ≡ chip → state.further ≡ further
+    → CanRestore journal first state
 
-pub record CanRestoreChipFrom (bytes : List ℕ) (first chip : Chip) : Type 0 where
+pub record CanRestoreChipFrom (further : Bool) (bytes : List ℕ) (first chip : Chip) : Type 0 where
   pub journal : IsJournal bytes
-  pub back : CanRestoreChip journal.content first chip
+  pub back : CanRestoreChip further journal.content first chip
 
 -- Holds if fewer calls of the port were left than this number of transactions takes: three for each.
 abbrev pub HadFewCalls : (transactions : ℕ) → PortState → Type 0
@@ -56,31 +60,34 @@ pub record IsTargetOf (request : Request) (image : List ℕ) (old new : Chip) : 
 
 -- Holds if an error of a session on a well-behaved port to a genuine chip is one of three: the verdict on the request,
 -- error 11 because the vault failed, or error 12 because the port had too few calls left.
-abbrev pub SessionFails : Request → (image : List ℕ) → PortState → (vault vault' : VaultState) → Refusal → Type 0
-SessionFails request image port vault vault' Vault = CountsRefusal vault vault'
-SessionFails request image port vault vault' Stopped = HadFewCalls (most_of (port.device.chip.config.size / 4096)) port
-SessionFails request image port vault vault' refusal = IsVerdict request image port.device.chip refusal
+abbrev pub SessionFails : (further : Bool) → Request → (image : List ℕ) → PortState → (vault vault' : VaultState)
+    → Refusal → Type 0
+SessionFails further request image port vault vault' Vault = CountsRefusal vault vault'
+SessionFails further request image port vault vault' Stopped =
+    HadFewCalls (most_of (port.device.chip.config.size / 4096)) port
+SessionFails further request image port vault vault' refusal = IsVerdict further request image port.device.chip refusal
 
 -- Holds if a session kept its promises for the original chip, which the fields state. `sent` and `sent'` list the
 -- transactions that may modify the chip, before the session and until its exit.
-pub record KeepsOriginalChip (old new : PortState) (sent sent' : Sent) (vault : VaultState) : Type 0 where
+pub record KeepsOriginalChip (further : Bool) (old new : PortState) (sent sent' : Sent)
+    (vault : VaultState) : Type 0 where
   -- on every port: if the vault isn't sealed, no modifying command was sent
   pub unsent : vault.sealed ≡ false → sent' ≡ sent
   -- on a well-behaved port: if the vault isn't sealed, a chip that was idle at the start is as it was
   pub same : vault.sealed ≡ false → old.honest ≡ true → old.device.chip.busy ≡ 0
       → IsSame old.device.chip new.device.chip
   -- on a well-behaved port to a genuine chip: the journal in a sealed faithful vault can restore the original chip
-  pub restorable : vault.sealed ≡ true → vault.telling ≡ true → ReachesGenuine old
-      → CanRestoreChipFrom vault.bytes old.device.chip new.device.chip
+  pub restorable : vault.sealed ≡ true → vault.telling ≡ true → ReachesGenuine further old
+      → CanRestoreChipFrom further vault.bytes old.device.chip new.device.chip
 
 -- States the promises for the result of a session, on a well-behaved port to a genuine chip.
-pub record SessionResults (request : Request) (image : List ℕ) (old new : PortState) (vault vault' : VaultState)
-    (result : Result Report Refusal) : Type 0 where
+pub record SessionResults (further : Bool) (request : Request) (image : List ℕ) (old new : PortState)
+    (vault vault' : VaultState) (result : Result Report Refusal) : Type 0 where
   pub done : OnOk result (IsTargetOf request image old.device.chip new.device.chip)
   pub sealed : OnOk result (vault'.sealed ≡ true)
-  pub errors : IfErr result (SessionFails request image old vault vault')
+  pub errors : IfErr result (SessionFails further request image old vault vault')
   pub unsealed : IfErr result (λ refusal. refusal_number refusal ≤ 11 → vault'.sealed ≡ false)
-  pub accepted : vault'.sealed ≡ true → IsAccepted request image old.device.chip
+  pub accepted : vault'.sealed ≡ true → IsAccepted further request image old.device.chip
 
 -- Holds if the error is 12, 13 or 14, or no modifying command was sent.
 abbrev pub RefusesUnsent : (sent sent' : Sent) → Refusal → Type 0
@@ -91,63 +98,64 @@ RefusesUnsent sent sent' refusal = sent' ≡ sent
 
 -- Holds if an error of a restore with this choice of sectors, on a well-behaved port to a genuine chip, is the verdict
 -- on the journal, or error 12 because the port had too few calls left.
-abbrev pub FailsBy : Choice → Content → PortState → Refusal → Type 0
-FailsBy choice journal port Stopped = HadFewCalls (most_of (length journal.saved)) port
-FailsBy choice journal port refusal = IsRestoreVerdict choice journal port.device.chip refusal
+abbrev pub FailsBy : (further : Bool) → Choice → Content → PortState → Refusal → Type 0
+FailsBy further choice journal port Stopped = HadFewCalls (most_of (length journal.saved)) port
+FailsBy further choice journal port refusal = IsRestoreVerdict further choice journal port.device.chip refusal
 
-abbrev pub RestoreFails : Content → PortState → Refusal → Type 0
-RestoreFails journal port refusal = FailsBy differing journal port refusal
+abbrev pub RestoreFails : (further : Bool) → Content → PortState → Refusal → Type 0
+RestoreFails further journal port refusal = FailsBy further differing journal port refusal
 
 -- States the promises for the result of a restore, on a well-behaved port to a genuine chip. The fields `within`,
 -- `back` and `only_stops` are about each chip `first` that the journal can restore at the start.
-pub record RestoresOriginalChip (journal : Content) (old new : PortState)
+pub record RestoresOriginalChip (further : Bool) (journal : Content) (old new : PortState)
     (result : Result Report Refusal) : Type 0 where
   -- at every exit, even after a failure of the port, the journal can still restore `first`
-  pub within : (first : Chip) → CanRestoreChip journal first old.device.chip
-      → CanRestoreChip journal first new.device.chip
-  pub back : (first : Chip) → CanRestoreChip journal first old.device.chip
+  pub within : (first : Chip) → CanRestoreChip further journal first old.device.chip
+      → CanRestoreChip further journal first new.device.chip
+  pub back : (first : Chip) → CanRestoreChip further journal first old.device.chip
       → OnOk result (IsSame first new.device.chip)
   pub idle : OnOk result (new.device.chip.busy ≡ 0)
   -- if the journal can restore `first`, the only possible error is 12, because the port had too few calls left
-  pub only_stops : (first : Chip) → CanRestoreChip journal first old.device.chip
+  pub only_stops : (first : Chip) → CanRestoreChip further journal first old.device.chip
       → IfErr result (λ refusal. (refusal ≡ Stopped) × HadFewCalls (most_of (length journal.saved)) old)
   pub made : OnOk result (IsTargetChip (restored journal old.device.chip.bytes) old.device.chip new.device.chip)
   pub kept : OnOk result (new.device.chip.kept ≡ kept_in journal.status)
-  pub errors : IfErr result (RestoreFails journal old)
+  pub errors : IfErr result (RestoreFails further journal old)
   pub same : IfErr result (λ refusal. IsCheckedFirst refusal → IsSame old.device.chip new.device.chip)
 
 -- States the promises for the result of a rewrite, on a well-behaved port to a genuine chip. The fields `within`,
 -- `back` and `only_stops` are about each chip `first` that the journal can restore at the start.
-pub record RewritesOriginalChip (journal : Content) (old new : PortState)
+pub record RewritesOriginalChip (further : Bool) (journal : Content) (old new : PortState)
     (result : Result Report Refusal) : Type 0 where
-  pub within : (first : Chip) → CanRestoreChip journal first old.device.chip
-      → CanRestoreChip journal first new.device.chip
-  pub back : (first : Chip) → CanRestoreChip journal first old.device.chip
+  pub within : (first : Chip) → CanRestoreChip further journal first old.device.chip
+      → CanRestoreChip further journal first new.device.chip
+  pub back : (first : Chip) → CanRestoreChip further journal first old.device.chip
       → OnOk result (IsSame first new.device.chip)
   pub idle : OnOk result (new.device.chip.busy ≡ 0)
   -- if no saved sector of `first` is protected by a locked status, the only possible error is 12
-  pub only_stops : (first : Chip) → CanRestoreChip journal first old.device.chip → CanBeRewritten journal first
+  pub only_stops : (first : Chip) → CanRestoreChip further journal first old.device.chip → CanBeRewritten journal first
       → IfErr result (λ refusal. (refusal ≡ Stopped) × HadFewCalls (most_of (length journal.saved)) old)
   pub made : OnOk result (IsTargetChip (restored journal old.device.chip.bytes) old.device.chip new.device.chip)
   pub kept : OnOk result (new.device.chip.kept ≡ kept_in journal.status)
-  pub errors : IfErr result (FailsBy every_saved journal old)
+  pub errors : IfErr result (FailsBy further every_saved journal old)
   pub same : IfErr result (λ refusal. IsCheckedFirst refusal → IsSame old.device.chip new.device.chip)
 
 -- Holds if the error of a backup is 1, 2 or 3 and the chip's configuration implies it, if the error is 11, or if it is
 -- 12 and the port had too few calls left.
-abbrev pub BackupFails : Option ChipName → PortState → Refusal → Type 0
-BackupFails named port NoChip = shown_as port.device.chip.config ≡ Err Probes.NoChip
-BackupFails named port (UnknownChip fault) = shown_as port.device.chip.config ≡ Err (Probes.UnknownChip fault)
-BackupFails named port OtherName = HasOtherName named port.device.chip.config
-BackupFails named port Stopped = HadFewCalls (most_reads (port.device.chip.config.size / 4096)) port
-BackupFails named port Vault = ⊤
-BackupFails named port _ = ⊥
+abbrev pub BackupFails : (further : Bool) → Option ChipName → PortState → Refusal → Type 0
+BackupFails further named port NoChip = shown_as further port.device.chip.config ≡ Err Probes.NoChip
+BackupFails further named port (UnknownChip fault) =
+    shown_as further port.device.chip.config ≡ Err (Probes.UnknownChip fault)
+BackupFails further named port OtherName = HasOtherName further named port.device.chip.config
+BackupFails further named port Stopped = HadFewCalls (most_reads (port.device.chip.config.size / 4096)) port
+BackupFails further named port Vault = ⊤
+BackupFails further named port _ = ⊥
 
 -- States the promises for the result of a backup, on a well-behaved port to a genuine chip.
-pub record SavesChipOver (named : Option ChipName) (old new : PortState) (vault : VaultState)
+pub record SavesChipOver (further : Bool) (named : Option ChipName) (old new : PortState) (vault : VaultState)
     (result : Result Report Refusal) : Type 0 where
-  pub errors : IfErr result (BackupFails named old)
+  pub errors : IfErr result (BackupFails further named old)
   pub same : OnOk result (IsSame old.device.chip new.device.chip)
   pub saves : OnOk result (vault.telling ≡ true → IsBackupOf vault.bytes old.device.chip)
   pub restorable : OnOk result (vault.telling ≡ true
-      → CanRestoreChipFrom vault.bytes old.device.chip new.device.chip)
+      → CanRestoreChipFrom further vault.bytes old.device.chip new.device.chip)

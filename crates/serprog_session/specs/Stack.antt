@@ -26,7 +26,7 @@ use Rattle.nor_buses.specs.Twice.{twice_of}
 use Rattle.nor_buses.specs.Watched.{watched_by}
 use Rattle.nor_serprog.specs.declared.batching.BatchingBus.{BatchingBus}
 use Rattle.nor_serprog.specs.declared.port.Port.{Ghosts as PortGhosts}
-use Rattle.nor_serprog.specs.Batching.{port_in, waits_of, has_further}
+use Rattle.nor_serprog.specs.Batching.{port_in, waits_of}
 
 -- The layers `KnownStatus2`, `ReadTwice` and `CheckedStatus`, over a bus `S` that splits transactions.
 abbrev pub Known : (S : Type 0) (over : Ghosts S) → Ghosts (ReadTwice (CheckedStatus S over)) → Type 0
@@ -81,7 +81,6 @@ pub record IsFit {P X C : Type 0} {port : PortGhosts P X} {over : Ghosts (Split 
     {below : Ghosts (Known (Split P X C port) over twice)}
     {ahead : Ghosts (SameChip (Adapted (Known (Split P X C port) over twice) below))}
     (stack : ReadAhead (SameChip (Adapted (Known (Split P X C port) over twice) below)) ahead) : Type 0 where
-  pub emulated : has_further (batching_below stack) ≡ false
   pub whole : takes_whole (sends_most (splitting_in stack)) (receives_most (splitting_in stack)) ≡ true
   pub blocks : longest_of stack ≤ 4096 + reads_longer (receives_most (splitting_in stack)) true 0
   pub known : is_listed_chip (ids_of (known_in stack)) (before_of (known_in stack))

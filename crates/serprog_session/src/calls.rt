@@ -5,7 +5,7 @@ ghost use Rattle.nor_journal.specs.Vault.{IsFresh, Completed};
 ghost use Rattle.nor_apply.specs.Applying.{ErasesFirst};
 ghost use Rattle.nor_session.specs.Backup.{BackupReturns};
 ghost use Rattle.nor_session.specs.Session.{SendsSaved, SessionReturns, IsSavedCode};
-ghost use Rattle.nor_serprog.specs.Bus.{port_in, sent_of, serprog_state};
+ghost use Rattle.nor_serprog.specs.Bus.{has_further, port_in, sent_of, serprog_state};
 ghost use Rattle.serprog_session.specs.Headline.{ReachesGenuine, KeepsOriginalChip, RefusesUnsent, RestoresOriginalChip};
 ghost use Rattle.serprog_session.specs.Headline.{SessionResults, RewritesOriginalChip, SavesChipOver};
 
@@ -31,9 +31,10 @@ pub fn session_over<P: Port + Drop, V: Vault>(
     request: &Request,
 ) -> Result<Report, Refusal>
     requires { IsFresh (V.state vault.old) }
-    ensures keeps { KeepsOriginalChip (P.state (port_in bus.old)) (P.state (port_in bus.new))
+    ensures keeps { KeepsOriginalChip (has_further bus.old) (P.state (port_in bus.old)) (P.state (port_in bus.new))
         (sent_of bus.old) (sent_of bus.new) (V.state vault.new) }
-    ensures results { ReachesGenuine (P.state (port_in bus.old)) → SessionResults request.now image.old
+    ensures results { ReachesGenuine (has_further bus.old) (P.state (port_in bus.old))
+        → SessionResults (has_further bus.old) request.now image.old
         (P.state (port_in bus.old)) (P.state (port_in bus.new)) (V.state vault.old) (V.state vault.new) result }
     ensures answers { IfErr result (SessionReturns (V.state vault.old) (V.state vault.new)) }
 {
@@ -54,7 +55,8 @@ pub fn restore_over<P: Port + Drop>(
     bus: &mut SerprogBus<P>,
     journal: &Journal<'_>,
 ) -> Result<Report, Refusal>
-    ensures restores_original { ReachesGenuine (P.state (port_in bus.old)) → RestoresOriginalChip journal.now
+    ensures restores_original { ReachesGenuine (has_further bus.old) (P.state (port_in bus.old))
+        → RestoresOriginalChip (has_further bus.old) journal.now
         (P.state (port_in bus.old)) (P.state (port_in bus.new)) result }
     ensures sends { SendsSaved (IsSavedCode journal.now) 1 journal.now
         (serprog_state bus.old) (serprog_state bus.new) }
@@ -63,7 +65,7 @@ pub fn restore_over<P: Port + Drop>(
     restore(bus, journal)
 }
 
-/// Runs `rewrite` of nor_session on the chip at a programmer: a restore that erases and programs every saved sector,
+/// Runs `rewrite` of nor_session on the chip at a programmer: a restore that erases and rewrites every saved sector,
 /// even if the sector has its saved bytes already. On every port, after success each saved sector was the target of an
 /// erase, and all erases were sent before the first page program (`thorough`). The other promises are those of
 /// `restore_over`, but error 9 is also possible if a locked status protects a saved sector of the original chip.
@@ -71,7 +73,8 @@ pub fn rewrite_over<P: Port + Drop>(
     bus: &mut SerprogBus<P>,
     journal: &Journal<'_>,
 ) -> Result<Report, Refusal>
-    ensures restores_original { ReachesGenuine (P.state (port_in bus.old)) → RewritesOriginalChip journal.now
+    ensures restores_original { ReachesGenuine (has_further bus.old) (P.state (port_in bus.old))
+        → RewritesOriginalChip (has_further bus.old) journal.now
         (P.state (port_in bus.old)) (P.state (port_in bus.new)) result }
     ensures sends { SendsSaved (IsSavedCode journal.now) 1 journal.now
         (serprog_state bus.old) (serprog_state bus.new) }
@@ -97,7 +100,8 @@ pub fn backup_over<P: Port + Drop, V: Vault>(
 ) -> Result<Report, Refusal>
     requires { IsFresh (V.state vault.old) }
     ensures unsent { sent_of bus.new ≡ sent_of bus.old }
-    ensures results { ReachesGenuine (P.state (port_in bus.old)) → SavesChipOver named
+    ensures results { ReachesGenuine (has_further bus.old) (P.state (port_in bus.old))
+        → SavesChipOver (has_further bus.old) named
         (P.state (port_in bus.old)) (P.state (port_in bus.new)) (V.state vault.new) result }
     ensures sealed { OnOk result (Completed (V.state vault.old) (V.state vault.new)) }
     ensures answers { IfErr result (BackupReturns (V.state vault.old) (V.state vault.new)) }

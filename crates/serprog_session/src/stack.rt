@@ -1,5 +1,5 @@
 //! The layers of `flashnor-serprog` over a port, and the premises under which they are a well-behaved bus.
-ghost use Rattle.std.specs.Prelude.{◌≡◌, ◌≤◌, ◌+◌, true, false};
+ghost use Rattle.std.specs.Prelude.{◌≡◌, ◌≤◌, ◌+◌, true};
 ghost use Rattle.nor_buses.specs.Ahead.{longest_of};
 ghost use Rattle.nor_buses.specs.Adapted.{keeps_replies};
 ghost use Rattle.nor_buses.specs.Bit6.{keeps_bit6};
@@ -8,7 +8,7 @@ ghost use Rattle.nor_buses.specs.KnownStatus2.{ids_of, before_of};
 ghost use Rattle.nor_buses.specs.Listed.{is_listed_chip};
 ghost use Rattle.nor_buses.specs.OtherMakers.{rows_of as listed_by};
 ghost use Rattle.nor_buses.specs.Splitting.{sends_most, receives_most, reads_longer, takes_whole};
-ghost use Rattle.nor_serprog.specs.Batching.{waits_of, has_further};
+ghost use Rattle.nor_serprog.specs.Batching.{waits_of};
 ghost use Rattle.nor_serprog.specs.Enabled.{enabled};
 ghost use Rattle.serprog_session.specs.Stack.{other_below, kept_below, known_in, splitting_in, batching_below, port_below};
 
@@ -20,8 +20,8 @@ use std::time::Clock;
 /// The layers of `flashnor-serprog` over a `BatchingBus`, in the program's order.
 pub type Stack<P, C> = Layered<BatchingBus<P>, C>;
 
-/// States that the layers are together a well-behaved bus if the port is well-behaved, the `BatchingBus` is one that
-/// `BatchingBus::emulated` returned, and the programmer and its chip fit.
+/// States that the layers are together a well-behaved bus if the port is well-behaved, and the programmer and its chip
+/// fit.
 ///
 /// The programmer must take a page program, a read of a sector and a read of the longest block of `ReadAhead`. The chip
 /// must have an ID that `KnownStatus2` and `OtherMakers` know and, if `KeptQuad` hides QE, one that `KeptQuad` knows.
@@ -31,8 +31,7 @@ pub fn stack_is_well_behaved<P: Port + Drop, C: Clock + Drop>(bus: &Stack<P, C>)
     ensures honest { let port = P.state (port_below bus.now) in
         let splitting = splitting_in bus.now in
         let known = known_in bus.now in
-        port.honest ≡ true → has_further (batching_below bus.now) ≡ false
-        → takes_whole (sends_most splitting) (receives_most splitting) ≡ true
+        port.honest ≡ true → takes_whole (sends_most splitting) (receives_most splitting) ≡ true
         → longest_of bus.now ≤ 4096 + reads_longer (receives_most splitting) true 0
         → is_listed_chip (ids_of known) (before_of known) port.device.chip.config ≡ true
         → keeps_bit6 (rows_of (kept_below bus.now)) (hides_of (kept_below bus.now)) port.device.chip.config ≡ true

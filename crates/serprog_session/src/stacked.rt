@@ -7,7 +7,8 @@ ghost use Rattle.nor_session.specs.Backup.{BackupReturns};
 ghost use Rattle.nor_session.specs.Session.{SendsSaved, SessionReturns, IsSavedCode};
 ghost use Rattle.serprog_session.specs.Headline.{ReachesGenuine, KeepsOriginalChip, RefusesUnsent, SessionResults};
 ghost use Rattle.serprog_session.specs.Headline.{RestoresOriginalChip, RewritesOriginalChip, SavesChipOver, uncounted};
-ghost use Rattle.serprog_session.specs.Stack.{IsFit, port_below};
+ghost use Rattle.nor_serprog.specs.Batching.{has_further};
+ghost use Rattle.serprog_session.specs.Stack.{IsFit, batching_below, port_below};
 
 use crate::{Stack, stack_is_well_behaved};
 use nor_journal::{Journal, Vault};
@@ -33,11 +34,14 @@ pub fn session_over_layers<P: Port + Drop, C: Clock + Drop, V: Vault>(
     ensures unsent { (V.state vault.new).sealed ≡ false
         → (⟦<Stack<P, C> as Bus>⟧.state bus.new).sent ≡ (⟦<Stack<P, C> as Bus>⟧.state bus.old).sent }
     ensures keeps { IsFit bus.old
-        → KeepsOriginalChip (uncounted (P.state (port_below bus.old))) (P.state (port_below bus.new))
+        → KeepsOriginalChip (has_further (batching_below bus.old)) (uncounted (P.state (port_below bus.old)))
+        (P.state (port_below bus.new))
         (⟦<Stack<P, C> as Bus>⟧.state bus.old).sent (⟦<Stack<P, C> as Bus>⟧.state bus.new).sent
         (V.state vault.new) }
-    ensures results { IsFit bus.old → ReachesGenuine (P.state (port_below bus.old))
-        → SessionResults request.now image.old (uncounted (P.state (port_below bus.old)))
+    ensures results { IsFit bus.old
+        → ReachesGenuine (has_further (batching_below bus.old)) (P.state (port_below bus.old))
+        → SessionResults (has_further (batching_below bus.old)) request.now image.old
+        (uncounted (P.state (port_below bus.old)))
         (P.state (port_below bus.new)) (V.state vault.old) (V.state vault.new) result }
     ensures answers { IfErr result (SessionReturns (V.state vault.old) (V.state vault.new)) }
 {
@@ -45,13 +49,15 @@ pub fn session_over_layers<P: Port + Drop, C: Clock + Drop, V: Vault>(
     session(bus, vault, image, request)
 }
 
-/// Runs a restore over the layers of `Stack`: as `restore_over`, with the exceptions of `session_over_layers`.
+/// Runs a restore over the layers of `Stack`, with the promises of `restore_over`, limited as in `session_over_layers`.
 pub fn restore_over_layers<P: Port + Drop, C: Clock + Drop>(
     bus: &mut Stack<P, C>,
     journal: &Journal<'_>,
 ) -> Result<Report, Refusal>
-    ensures restores_original { IsFit bus.old → ReachesGenuine (P.state (port_below bus.old))
-        → RestoresOriginalChip journal.now (uncounted (P.state (port_below bus.old)))
+    ensures restores_original { IsFit bus.old
+        → ReachesGenuine (has_further (batching_below bus.old)) (P.state (port_below bus.old))
+        → RestoresOriginalChip (has_further (batching_below bus.old)) journal.now
+        (uncounted (P.state (port_below bus.old)))
         (P.state (port_below bus.new)) result }
     ensures sends { SendsSaved (IsSavedCode journal.now) 1 journal.now
         (⟦<Stack<P, C> as Bus>⟧.state bus.old) (⟦<Stack<P, C> as Bus>⟧.state bus.new) }
@@ -62,13 +68,15 @@ pub fn restore_over_layers<P: Port + Drop, C: Clock + Drop>(
     restore(bus, journal)
 }
 
-/// Runs a rewrite over the layers of `Stack`: as `rewrite_over`, with the exceptions of `session_over_layers`.
+/// Runs a rewrite over the layers of `Stack`, with the promises of `rewrite_over`, limited as in `session_over_layers`.
 pub fn rewrite_over_layers<P: Port + Drop, C: Clock + Drop>(
     bus: &mut Stack<P, C>,
     journal: &Journal<'_>,
 ) -> Result<Report, Refusal>
-    ensures restores_original { IsFit bus.old → ReachesGenuine (P.state (port_below bus.old))
-        → RewritesOriginalChip journal.now (uncounted (P.state (port_below bus.old)))
+    ensures restores_original { IsFit bus.old
+        → ReachesGenuine (has_further (batching_below bus.old)) (P.state (port_below bus.old))
+        → RewritesOriginalChip (has_further (batching_below bus.old)) journal.now
+        (uncounted (P.state (port_below bus.old)))
         (P.state (port_below bus.new)) result }
     ensures sends { SendsSaved (IsSavedCode journal.now) 1 journal.now
         (⟦<Stack<P, C> as Bus>⟧.state bus.old) (⟦<Stack<P, C> as Bus>⟧.state bus.new) }
@@ -81,7 +89,7 @@ pub fn rewrite_over_layers<P: Port + Drop, C: Clock + Drop>(
     rewrite(bus, journal)
 }
 
-/// Runs a backup over the layers of `Stack`: as `backup_over`, with the exceptions of `session_over_layers`.
+/// Runs a backup over the layers of `Stack`, with the promises of `backup_over`, limited as in `session_over_layers`.
 pub fn backup_over_layers<P: Port + Drop, C: Clock + Drop, V: Vault>(
     bus: &mut Stack<P, C>,
     vault: &mut V,
@@ -90,8 +98,10 @@ pub fn backup_over_layers<P: Port + Drop, C: Clock + Drop, V: Vault>(
     requires { IsFresh (V.state vault.old) }
     ensures unsent { (⟦<Stack<P, C> as Bus>⟧.state bus.new).sent
         ≡ (⟦<Stack<P, C> as Bus>⟧.state bus.old).sent }
-    ensures results { IsFit bus.old → ReachesGenuine (P.state (port_below bus.old))
-        → SavesChipOver named (uncounted (P.state (port_below bus.old))) (P.state (port_below bus.new))
+    ensures results { IsFit bus.old
+        → ReachesGenuine (has_further (batching_below bus.old)) (P.state (port_below bus.old))
+        → SavesChipOver (has_further (batching_below bus.old)) named (uncounted (P.state (port_below bus.old)))
+        (P.state (port_below bus.new))
         (V.state vault.new) result }
     ensures sealed { OnOk result (Completed (V.state vault.old) (V.state vault.new)) }
     ensures answers { IfErr result (BackupReturns (V.state vault.old) (V.state vault.new)) }

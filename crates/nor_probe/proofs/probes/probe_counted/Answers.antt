@@ -3,9 +3,9 @@ use Rattle.std.specs.Prelude.{Ok}
 use Rattle.std.proofs.lemmas.Grind.{common_steps}
 use Rattle.nor_driver.proofs.ReadsInTurn.{only_reads_within}
 use Rattle.nor_driver.proofs.Readings.{rested_then}
-use Rattle.nor_probe.specs.Known.{id_of, shown_as}
+use Rattle.nor_probe.specs.Known.{id_of}
 use Rattle.nor_probe.proofs.Configs.{shown_config}
-use Rattle.nor_probe.proofs.Errors.{blames_other, probe_errors}
+use Rattle.nor_probe.proofs.Errors.{blames_other, shows_same, probe_errors}
 use Rattle.nor_probe.proofs.Replied.{found_by}
 use Rattle.nor_probe.proofs.probes.probe_counted.Goals as goal
 
@@ -56,10 +56,11 @@ returns-in_err-part-clause-honest g c honest =
     let nature = c.wait.ensures.leaves.nature in
     let errors = probe_errors c.args.named _ _ (rested_then _ _ _ waited.rested read.rested)
     (c.read_id.ensures.leaves.nature.punctual ∙ nature.punctual)
+    (c.read_id.ensures.leaves.nature.further ∙ nature.further)
     (λ punctual. omega (arith, waited.count punctual, waited.polls, read.count (nature.punctual ∙ punctual)))
     (omega (arith, waited.polls, c.in_ok-waited.ensures.does.few)) (g.B.Bus.state c.identify.new.bus)
     c.in_err-part.field-0.0 (search rules)
-    (c.in_err-part.ensures.errors (c.has_further_types-further.ensures.honest honest)
+    (c.in_err-part.ensures.errors (c.has_further_types-further.ensures ∙ sym (c.read_id.ensures.leaves.nature.further ∙ nature.further))
     (c.read_id.ensures.leaves.nature.honest ∙ still) idle
     (c.in_ok-id.ensures.does.replied still waited.idle ∙ ap id_of (sym read.rested.unchanged.same.config))) in
     search rules
@@ -70,9 +71,10 @@ returns-clause-modelled g c modelled =
     let waited = c.in_ok-waited.ensures.does.done honest in
     let still = c.wait.ensures.leaves.nature.honest ∙ honest in
     let read = c.in_ok-id.ensures.does.read still in
-    let shown = c.in_ok-part.ensures.shown (c.has_further_types-further.ensures.honest honest)
+    let kept = c.read_id.ensures.leaves.nature.further ∙ c.wait.ensures.leaves.nature.further in
+    let shown = c.in_ok-part.ensures.shown (c.has_further_types-further.ensures ∙ sym kept)
     (c.read_id.ensures.leaves.nature.honest ∙ still) (read.busy ∙ waited.idle)
     (c.in_ok-id.ensures.does.replied still waited.idle ∙ ap id_of (sym read.rested.unchanged.same.config)) in
     let same = read.rested.unchanged.same.config ∙ waited.rested.unchanged.same.config in
-    shown_config (g.B.Bus.state c.args.bus.now).chip.config c.found.result modelled.genuine
-    (ap shown_as (sym same) ∙ shown.shows ∙ ap Ok (sym c.found.ensures.part))
+    shown_config (g.B.Bus.state c.args.bus.now).further (g.B.Bus.state c.args.bus.now).chip.config c.found.result modelled.genuine
+    (shows_same kept same ∙ shown.shows ∙ ap Ok (sym c.found.ensures.part))

@@ -42,7 +42,7 @@ returns-clause-identifies g c =
     }
 
 probe_stopped : (named : Option ChipName) (old new : BusState) (fault : ProbeFault) → ProbeErrors named old new fault
-    → old.punctual ≡ true → of_probe fault ≡ Stopped → old.left < needed_to_identify old.chip
+    → old.punctual ≡ true → of_probe fault ≡ Stopped → old.left < needed_to_identify old.further old.chip
 probe_stopped named old new Probes.Stopped errors punctual is = let below = (errors.0 punctual).below in omega arith
 probe_stopped named old new Probes.NoChip errors punctual is = absurd cc
 probe_stopped named old new (Probes.UnknownChip fault) errors punctual is = absurd cc

@@ -22,15 +22,15 @@ returns-clause-keeps g c =
     record {
       lifts = search rules;
       scans = scans;
-      chip = λ chip is shows. record {
+      chip = λ further chip is shows. record {
         touched = touched_right is shows scans;
         raised = raised_right is shows scans;
-        accepts = λ accepted. c.in_ok-unlock.ensures.accepts chip _ is accepted (touched_right is shows scans);
+        accepts = λ accepted. c.in_ok-unlock.ensures.accepts further chip _ is accepted (touched_right is shows scans);
         merged = λ a marked. rw (same_bytes is shows, is.config.size) at (scans.merged (is_open is shows) a marked);
         journal = λ telling.
             let head = head_put c.args.identity.now (g.B.Bus.state c.args.bus.now) (g.met.B.Bus.reaches c.args.bus.now)
             (grind (arith, common_steps)) (c.in_ok-header.ensures.written c.on-writer.ensures.nothing) in
-            let all = all_put head scans c.in_ok-scanned.ensures.keeps chip is shows in
+            let all = all_put head scans c.in_ok-scanned.ensures.keeps further chip is shows in
             let done = c.in_ok-end.ensures.kept (header_of chip) chip.bytes _ _ all in
             search rules;
       };
@@ -113,7 +113,7 @@ pub returns-in_err-end-clause-cut : goal.returns-in_err-end-clause-cut
 returns-in_err-end-clause-cut g c =
     let head = head_put c.args.identity.now (g.B.Bus.state c.args.bus.now) (g.met.B.Bus.reaches c.args.bus.now)
     (grind (arith, common_steps)) (c.in_ok-header.ensures.written c.on-writer.ensures.nothing) in
-    rw (is_err _ _ c.from_residual-in_err-end.ensures.1) (λ errors chip is shows.
-    let all = all_put head c.in_ok-scanned.ensures.scans c.in_ok-scanned.ensures.keeps chip is shows in
+    rw (is_err _ _ c.from_residual-in_err-end.ensures.1) (λ errors further chip is shows.
+    let all = all_put head c.in_ok-scanned.ensures.scans c.in_ok-scanned.ensures.keeps further chip is shows in
     let holds = c.in_err-end.ensures.cut all.content all.written in
     record { content = all.content; same = all.same; saves = all.saves; begins = search rules })

@@ -22,10 +22,10 @@ returns-clause-replied g c = λ telling.
     search rules
 
 pub returns-clause-saves : goal.returns-clause-saves
-returns-clause-saves g c = λ telling chip is shows.
+returns-clause-saves g c = λ telling further chip is shows.
     let head = head_put c.args.identity.now (g.B.Bus.state c.args.bus.now) (g.met.B.Bus.reaches c.args.bus.now)
     (grind (arith, common_steps)) (c.in_ok-header.ensures.written c.on-writer.ensures.nothing) in
-    let all = all_sectors head c.in_ok-add_sectors.ensures.keeps chip is shows in
+    let all = all_sectors head c.in_ok-add_sectors.ensures.keeps further chip is shows in
     let done = c.in_ok-end.ensures.kept (header_of chip) chip.bytes _ _ all in
     search rules
 
@@ -50,7 +50,7 @@ pub returns-in_err-end-clause-cut : goal.returns-in_err-end-clause-cut
 returns-in_err-end-clause-cut g c =
     let head = head_put c.args.identity.now (g.B.Bus.state c.args.bus.now) (g.met.B.Bus.reaches c.args.bus.now)
     (grind (arith, common_steps)) (c.in_ok-header.ensures.written c.on-writer.ensures.nothing) in
-    rw (is_err _ _ c.from_residual-in_err-end.ensures.1) (λ telling chip is shows.
-    let all = all_sectors head c.in_ok-add_sectors.ensures.keeps chip is shows in
+    rw (is_err _ _ c.from_residual-in_err-end.ensures.1) (λ telling further chip is shows.
+    let all = all_sectors head c.in_ok-add_sectors.ensures.keeps further chip is shows in
     let holds = c.in_err-end.ensures.cut all.content all.written in
     record { content = all.content; same = all.same; saves = all.saves; begins = search rules })

@@ -1,6 +1,7 @@
-use Rattle.std.proofs.Common.{◌≡◌, true, refl, arith, inr}
+use Rattle.std.proofs.Common.{◌≡◌, ◌∙◌, true, refl, arith, inr}
 use Rattle.std.proofs.lemmas.Result.{err_from_is_err_and}
 use Rattle.nor_scan.proofs.Replied.{identified_later}
+use Rattle.nor_session.proofs.WrittenBack.{known_kept}
 use Rattle.nor_session.proofs.ReadyChip.{opening_of}
 use Rattle.nor_session.proofs.BackupRestores.{is_backup, backup_restorable}
 use Rattle.nor_session.proofs.BackedUp.{is_shown, reads_all, same_after, idle_after, whole_errors, whole_returns, whole_last}
@@ -32,7 +33,7 @@ returns-in_err-save_whole-clause-modelled g c = λ modelled.
       saves = tt;
       restorable = tt;
       cut = λ telling.
-          inr (c.in_err-save_whole.ensures.cut telling old (opening_of modelled opens)
+          inr (c.in_err-save_whole.ensures.cut telling (g.B.Bus.state c.args.bus.now).further old (opening_of modelled opens)
           (is_shown only_reads opens modelled));
     })
 
@@ -72,13 +73,13 @@ returns-clause-modelled g c = λ modelled.
     let vault = g.V.Vault.state c.save_whole.new.vault in
     let kept = λ (telling : vault.telling ≡ true). is_backup old vault.bytes
     (g.met.B.Bus.reaches c.args.bus.now modelled.honest)
-    (saved.saves telling old (opening_of modelled opens) (is_shown only_reads opens modelled)) in
+    (saved.saves telling (g.B.Bus.state c.args.bus.now).further old (opening_of modelled opens) (is_shown only_reads opens modelled)) in
     record {
       errors = tt;
       config = genuine;
       saves = kept;
       restorable = λ telling.
-          backup_restorable old _ (g.B.Bus.state c.save_whole.new.bus) genuine.known (kept telling)
+          backup_restorable old _ (g.B.Bus.state c.save_whole.new.bus) (known_kept old (saved.reads.nature.further ∙ only_reads.nature.further) genuine.known) (kept telling)
           (same_after only_reads opens modelled saved.reads) (idle_after only_reads opens modelled saved.reads);
       cut = λ telling. tt;
     }

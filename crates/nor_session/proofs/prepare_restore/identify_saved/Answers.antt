@@ -18,10 +18,10 @@ returns-in_err-judge_device-clause-errors g c = λ choice.
     (λ honest. (opens.rested honest).unchanged.same)
     (λ modelled.
     let is = opening_of modelled opens in
-    c.in_err-judge_device.ensures.errors choice old.chip (g.met.B.Bus.reaches c.args.bus.now modelled.honest).kept2 is
+    c.in_err-judge_device.ensures.errors choice old.further old.chip (g.met.B.Bus.reaches c.args.bus.now modelled.honest).kept2 is
     (kind_of is.config c.in_ok-identity.ensures.kind)) in
     grind (arith, common_steps, returned)
 
 pub returns-clause-fits : goal.returns-clause-fits
 returns-clause-fits g c =
-    λ chip small is. c.in_ok-judge_device.ensures.fits chip small is (kind_of is.config c.in_ok-identity.ensures.kind)
+    λ further chip small is. c.in_ok-judge_device.ensures.fits further chip small is (kind_of is.config c.in_ok-identity.ensures.kind)

@@ -7,9 +7,9 @@ use Rattle.nor_session.proofs.prepare_restore.judge_changes.Goals as goal
 use Rattle.nor_session.proofs.prepare_restore.judge_changes.Goals.{then-unlock, else-unlock, else-writes-via-then-writes+else-is_locked, else-writes-via-else-writes}
 
 pub returns-clause-accepts : goal.returns-clause-accepts
-returns-clause-accepts c = λ chip is.
+returns-clause-accepts c = λ further chip is.
     let touched = has c.args.scanned.now.touched in
-    let held = c.first_protected.ensures.held chip is in
+    let held = c.first_protected.ensures.held further chip is in
     let returned : c.is_some-unlock.result ≡ is_some c.first_protected.result = search rules in
     record {
       lifts = λ hit. some_held c.first_protected.result touched chip held (sym returned ∙ hit);
@@ -28,9 +28,9 @@ returns-clause-accepts c = λ chip is.
     }
 
 pub returns-then-is_locked-clause-errors : goal.returns-then-is_locked-clause-errors
-returns-then-is_locked-clause-errors c = λ chip is.
+returns-then-is_locked-clause-errors c = λ further chip is.
     let touched = has c.args.scanned.now.touched in
-    let held = c.first_protected.ensures.held chip is in
+    let held = c.first_protected.ensures.held further chip is in
     let returned : c.is_some-unlock.result ≡ is_some c.first_protected.result = search rules in
     record {
       locked = let same = lock_same is in cc;

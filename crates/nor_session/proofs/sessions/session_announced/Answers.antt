@@ -31,7 +31,7 @@ returns-in_err-identity-clause-modelled g c = λ modelled.
     (g.B.Bus.state c.identify.new.bus) vault vault c.in_err-identity.field-0.0 modelled c.in_err-identity.ensures.errors in
     let early : (g.B.Bus.state c.args.bus.now).punctual ≡ true → c.in_err-identity.field-0.0 ≡ Stopped
     → (g.B.Bus.state c.args.bus.now).left
-    < needed_to_identify (g.B.Bus.state c.args.bus.now).chip
+    < needed_to_identify (g.B.Bus.state c.args.bus.now).further (g.B.Bus.state c.args.bus.now).chip
     + scanned_sectors c.args.request.now (g.B.Bus.state c.args.bus.now).chip.config.size = λ punctual is.
     let few = c.in_err-identity.ensures.exact modelled.honest punctual is in omega arith in
     let p = err_from_is_err_and c.from_residual.result c.from_residual.ensures.1 in
@@ -43,7 +43,7 @@ returns-in_err-code-clause-modelled g c = λ modelled.
     let vault = g.V.Vault.state c.args.vault.now in
     let request = c.args.request.now in let opens = c.in_ok-identity.ensures.identifies in
     let errors = judge_errors request c.args.image.now old new vault vault c.in_err-code.field-0.0
-    (c.in_err-code.ensures.errors old.chip c.args.image.now (opening_of modelled opens)
+    (c.in_err-code.ensures.errors old.further old.chip c.args.image.now (opening_of modelled opens)
     (named request c.in_ok-identity.identity old new modelled opens) refl) in
     let early : c.in_err-code.field-0.0 ≡ Stopped → ⊥ = λ is. rw is at c.in_err-code.ensures.faults in
     let p = err_from_is_err_and c.from_residual-in_err-code.result c.from_residual-in_err-code.ensures.1 in

@@ -4,7 +4,8 @@ use Rattle.serprog_session.proofs.calls.restore_over.Goals as goal
 
 pub returns-clause-restores_original : goal.returns-clause-restores_original
 returns-clause-restores_original g c = λ reaches.
-    let over = serprog _ _ (history_of c.args.bus.now) (history_of c.restore.new.bus) in
+    let over = serprog _ _ _ _ (history_of c.args.bus.now) (history_of c.restore.new.bus)
+    c.restore.ensures.always.spends.nature.further in
     restores _ _ _ _ _ _ _ _ over (c.restore.ensures.restores_original (modelled _ _ _ _ _ _ over reaches))
     (c.restore.ensures.honest reaches.honest)
     (c.restore.ensures.modelled (modelled _ _ _ _ _ _ over reaches))

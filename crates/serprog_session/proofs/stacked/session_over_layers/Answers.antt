@@ -11,8 +11,8 @@ returns-clause-keeps g c = λ fit.
     unpunctual (g.P.Port.state (port_below c.args.bus.now)) (g.P.Port.state (port_below c.session.new.bus))
     (waits_of (batching_below c.args.bus.now)) (waits_of (batching_below c.session.new.bus)) (ahead_state c.args.bus.now)
     (ahead_state c.session.new.bus) fit.empty
-    (λ honest. c.stack_is_well_behaved.ensures.honest honest fit.emulated fit.whole fit.blocks fit.known fit.bit6 fit.replies)
-    refl in
+    (λ honest. c.stack_is_well_behaved.ensures.honest honest fit.whole fit.blocks fit.known fit.bit6 fit.replies)
+    refl c.session.ensures.always.spends.nature.further in
     keeps _ _ _ _ _ _ _ over c.session.ensures.keeps
 
 pub returns-clause-results : goal.returns-clause-results
@@ -21,7 +21,7 @@ returns-clause-results g c = λ fit reaches.
     unpunctual (g.P.Port.state (port_below c.args.bus.now)) (g.P.Port.state (port_below c.session.new.bus))
     (waits_of (batching_below c.args.bus.now)) (waits_of (batching_below c.session.new.bus)) (ahead_state c.args.bus.now)
     (ahead_state c.session.new.bus) fit.empty
-    (λ honest. c.stack_is_well_behaved.ensures.honest honest fit.emulated fit.whole fit.blocks fit.known fit.bit6 fit.replies)
-    refl in
+    (λ honest. c.stack_is_well_behaved.ensures.honest honest fit.whole fit.blocks fit.known fit.bit6 fit.replies)
+    refl c.session.ensures.always.spends.nature.further in
     results _ _ _ _ _ _ _ _ _ _ _ over c.session.ensures.always
-    (c.session.ensures.modelled (modelled _ _ _ _ _ _ over (still_reaches _ reaches)))
+    (c.session.ensures.modelled (modelled _ _ _ _ _ _ over (still_reaches _ _ reaches)))

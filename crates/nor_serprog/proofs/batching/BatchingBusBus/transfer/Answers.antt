@@ -28,7 +28,7 @@ returns-in-Ok-clause-law g c =
     law_ok c.args.out.now c.args.reply.now c.transact.new.reply c.args.self.now.batch.waits c.transact.new.self.waits
     c.args.self.now.further (g.P.Port.state c.args.self.now.batch.link.port)
     (g.P.Port.state c.transact.new.self.link.port) c.args.self.now.history.exchanges c.replied-self.result.exchanges
-    c.transact.ensures.nature (λ known honest. c.in-Ok.ensures.carried (c.args.self.now.settled known) honest)
+    c.transact.ensures.nature (λ honest. c.in-Ok.ensures.carried c.args.self.now.settled honest)
     (search rules)
 
 pub returns-then-was_in_step-clause-law : goal.returns-then-was_in_step-clause-law
@@ -36,7 +36,7 @@ returns-then-was_in_step-clause-law g c =
     law_err c.args.out.now c.args.reply.now c.transact.new.reply c.args.self.now.batch.waits c.transact.new.self.waits
     c.args.self.now.further (g.P.Port.state c.args.self.now.batch.link.port)
     (g.P.Port.state c.transact.new.self.link.port) c.args.self.now.history.exchanges c.stopped-self.result.exchanges _
-    c.transact.ensures.nature (λ known honest. c.in-Err.ensures.cut (c.args.self.now.settled known) honest)
+    c.transact.ensures.nature (λ honest. c.in-Err.ensures.cut c.args.self.now.settled honest)
     (search rules)
 
 pub returns-else-was_in_step-clause-law : goal.returns-else-was_in_step-clause-law
@@ -44,5 +44,5 @@ returns-else-was_in_step-clause-law g c =
     law_err c.args.out.now c.args.reply.now c.transact.new.reply c.args.self.now.batch.waits c.transact.new.self.waits
     c.args.self.now.further (g.P.Port.state c.args.self.now.batch.link.port)
     (g.P.Port.state c.transact.new.self.link.port) c.args.self.now.history.exchanges c.stopped-self.result.exchanges _
-    c.transact.ensures.nature (λ known honest. c.in-Err.ensures.cut (c.args.self.now.settled known) honest)
+    c.transact.ensures.nature (λ honest. c.in-Err.ensures.cut c.args.self.now.settled honest)
     (search rules)

@@ -80,7 +80,7 @@ returns-in_err-saved-clause-keeps g c = λ first only_reads opens.
           let shown = shows request _ _ _ modelled only_reads opens in
           let is_named = named request _ _ _ modelled opens in
           let errors = save_errors _ _ _ _ _ _ _ vault vault' refusal modelled only_reads opens
-          (c.requires.judged.accepts first.chip _ opened is_named refl) (search rules) returned.errors in
+          (c.requires.judged.accepts first.further first.chip _ opened is_named refl) (search rules) returned.errors in
           let falls = (spends_more (most_sized request (opens.genuine modelled)) spent).falls modelled.honest in
           let unwritten = none_written 0 first new reads_all.sent in
           let early = λ (punctual : first.punctual ≡ true) (is : refusal ≡ Stopped).
@@ -126,7 +126,7 @@ returns-in_err-work-clause-keeps g c = λ first only_reads opens.
       modelled = λ modelled.
           let small = (g.met.B.Bus.reaches c.args.self.bus.now (only_reads.nature.honest ∙ modelled.honest)).kept2 in
           let of = ready_chip _ _ _ _ _ _ _ _ _ _ _ modelled only_reads opens is
-          (λ is. c.requires.judged.accepts first.chip _ is (named request _ _ _ modelled opens) refl) keeps (λ a. let fits = c.save.type_inv in search rules)
+          (λ is. c.requires.judged.accepts first.further first.chip _ is (named request _ _ _ modelled opens) refl) keeps (λ a. let fits = c.save.type_inv in search rules)
           (small_first modelled.honest opens small) in
           let errors = change_errors _ _ _ _ _ _ _ _ _ _ vault vault' refusal is of returned.errors in
           let falls = (spends_more (most_sized request (opens.genuine modelled)) spent).falls modelled.honest in
@@ -179,7 +179,7 @@ returns-clause-keeps g c = λ first only_reads opens.
       modelled = λ modelled.
           let small = (g.met.B.Bus.reaches c.args.self.bus.now (only_reads.nature.honest ∙ modelled.honest)).kept2 in
           let of = ready_chip _ _ _ _ _ _ _ _ _ _ _ modelled only_reads opens is
-          (λ is. c.requires.judged.accepts first.chip _ is (named request _ _ _ modelled opens) refl) keeps (λ a. let fits = c.save.type_inv in search rules)
+          (λ is. c.requires.judged.accepts first.further first.chip _ is (named request _ _ _ modelled opens) refl) keeps (λ a. let fits = c.save.type_inv in search rules)
           (small_first modelled.honest opens small) in
           let falls = (spends_more (most_sized request (opens.genuine modelled)) spent).falls modelled.honest in
           let unwritten = λ (none : ¬ NeedsStatusWrite request image first.chip).
