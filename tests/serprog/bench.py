@@ -12,7 +12,7 @@ import reference
 from chip import DEVICE, Chip
 from server import ARGUMENTS, O_SPIOP, Server, Traits, trace_line
 
-# A case that interrupts a job at each transaction tries only every STRIDE-th transaction. STRIDE is 1, except in the
+# Some cases that disturb a job at each transaction try only every STRIDE-th transaction. STRIDE is 1, except in the
 # runs of self.py, whose program (stand_in.py) is slow.
 STRIDE = int(os.environ.get("STRIDE", "1"))
 
@@ -22,8 +22,8 @@ LONGEST = 300
 # The progress line that a run prints each minute if its standard error isn't a terminal.
 MINUTE = re.compile(r"(?:identify|scan|erase|program|protect|read back|compare): .*, (?:.* left|.* so far|took .*)")
 
-# The line that is printed before anything is sent. A terminal shows it until the programmer replies, and with plain
-# progress also afterwards.
+# The line that a run prints at a terminal before it sends anything, except with --progress none. The terminal shows the
+# line until the programmer replies, and with plain progress also afterwards.
 WAITING = "Waiting for the programmer. No reply in 10 s? Ctrl-C; see flashnor-serprog(8)."
 
 
@@ -51,7 +51,7 @@ def abridged(value):
 
 
 def check_data(what, got, wanted):
-    """Raises `Differs`, with the first address that differs, unless `got` and `wanted` have equal bytes."""
+    """Raises `Differs`, with the lengths or the first address that differs, unless `got` equals `wanted`."""
     check(f"{what}, length", len(got), len(wanted))
     if got != wanted:
         at = next(at for at, (one, other) in enumerate(zip(got, wanted)) if one != other)
@@ -83,8 +83,8 @@ class Bench:
         self.chip = Chip(part, data, status, unique, scale)
         self.server, self.command, self.words = None, "", []
         self.before, self.image, self.remembers = None, None, True
-        # The first 64 KiB of the chip before the last run. The trial reads of this run are in this range.
-        self.head = b""
+        # The bytes of the chip before the last run.
+        self.data_before = b""
         self.environment = {}
         # The start time of the last run, and the progress lines that it printed because it took more than a minute.
         self.began, self.minutes = 0, []
@@ -117,7 +117,7 @@ class Bench:
     def start_words(self, words, err=subprocess.PIPE, out=subprocess.PIPE):
         self.command, self.words = " ".join(map(str, words[1:])), [str(it) for it in words]
         self.before = copy.deepcopy(self.chip) if self.remembers else None
-        self.head = bytes(self.chip.data[:65536])
+        self.data_before = bytes(self.chip.data)
         self.began = time.monotonic()
         names = [name for option, name in zip(words, words[1:]) if option in ("-w", "-v") and self.remembers]
         # Sectors that equal the image are read only once, but only if the whole chip is compared with the image at the
@@ -143,10 +143,10 @@ class Bench:
         return self.without_note(Result(process.returncode, out, [it for it in err if it not in self.minutes]))
 
     def note(self):
-        """Returns the note with which a successful last run must end, as a list of one line or none.
+        """Returns the note with which the last run must end if it succeeded, as a list of one line or none.
 
-        A restore without -N prints this note if its journal saves only some sectors, and the file NAME.sectors is
-        missing.
+        The list has a line after a restore without -N from a journal of format 2 that saves some, but not all sectors,
+        if the file `JOURNAL.sectors` is missing.
         """
         names = [name for option, name in zip(self.words, self.words[1:]) if option == "--restore"]
         if not names or {"-N", "--noverify-all"} & set(self.words) or self.path(f"{names[0]}.sectors").exists():
@@ -232,11 +232,11 @@ class Bench:
     def carried(self, plan):
         """Returns the transactions that the programmer must have received, if `plan` is the plan of the last run.
 
-        The plan has the transactions of the engine (see reference.py). The result also contains the reads ahead, and
-        the reads that confirm a reply.
+        The plan has the transactions of the engine (see reference.py). The result also contains those before the job,
+        the reads ahead, and the reads that confirm a reply.
         """
         server = self.server
-        return reference.carried(plan, self.head, server.longest_read(), server.longest_part(),
+        return reference.carried(plan, self.data_before, server.longest_read(), server.longest_part(),
                                  copy.deepcopy(self.before), self.image)
 
     def first(self):
@@ -248,7 +248,7 @@ class Bench:
         return len(reference.before_job(self.chip.data, server.longest_part(), server.longest_read())) + 1
 
     def check_frames(self, plan):
-        """Checks that the bytes that the last run sent after the handshake are exactly the frames of this plan."""
+        """Checks that the last run sent exactly the frames of `carried(plan)` after the handshake."""
         _, rest = split_handshake(self.server.received)
         wanted = reference.frames(self.carried(plan))
         if rest == wanted:
@@ -283,7 +283,7 @@ class Bench:
         check("bytes sent", bytes(self.server.received), b"")
 
     def check_unselected(self):
-        """Checks that no transaction was sent."""
+        """Checks that the programmer carried out no transaction."""
         check("transactions", self.transactions(), [])
 
 

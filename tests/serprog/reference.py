@@ -1,4 +1,4 @@
-"""This module computes what the program must send and write for a chip that is never busy, from docs/SPECIFICATION.md.
+"""This module computes what the program must send, print and write for a chip that is never busy.
 
 A plan is a list of the engine's transactions: pairs of the bytes sent and the number of bytes received. From a plan,
 `carried` computes the transactions on the wire between programmer and chip. From these, `frames` computes the frames of
@@ -25,16 +25,19 @@ STATUS_TWICE = (b"\x05", 2)
 # `compared` sends twice.
 TWICE = (READ_ID, READ_SFDP, READ_UNIQUE, 0x35)
 CONFIRM = (bytes([READ_ID]), 3)
-# The program reads this number of bytes of the basic SFDP table, which are nine double words.
+# A probe reads this number of bytes of the basic SFDP table, which are nine double words.
 TABLE_LEN = 36
 WRITE_ENABLE = (b"\x06", 0)
 PROTECTION_1 = 0x7C
 # This number stands for a programmer without a limit. It is greater than any number of bytes in a transaction.
 UNLIMITED = 1 << 24
-# Before a job, the program makes trial reads at up to PLACES addresses, which are multiples of STEP. A trial read
-# returns at most TRIAL bytes. A read whose frame sends PROGRAM bytes, as a page program does, returns at most FEW
-# bytes.
+# Before a job, the program makes trial reads at or shortly after up to PLACES addresses, which are multiples of STEP.
+# Each of two overlapping trial reads returns at most TRIAL bytes. A long read, whose frame sends at most PROGRAM bytes
+# (as a page program does), returns at most FEW bytes.
 PLACES, STEP, TRIAL, FEW, PROGRAM = 8, 0x1110, 32, 4, 260
+ADDRESSES = range(0, PLACES * STEP, STEP)
+# If none of these addresses suits a long read, TOP is tried. A read there that sends PROGRAM bytes reads at FFFFF0h.
+TOP = 0xFFFEF0
 # A block that is read ahead has at most BLOCK bytes. CHANGING has the opcodes of the modifying commands.
 BLOCK = 65536
 CHANGING = (0x06, 0x01, 0x02, *ERASES, 0xC7)
@@ -79,10 +82,10 @@ WHOLE_IMAGE = "Give an image of the whole chip. -i NAME:FILE gives the bytes of 
 # This text follows the two unique IDs in the line after error 20.
 OTHER_UNIT = "The journal is another board's, or the chip was replaced: find this board's journal, or see " \
     "--replaced-chip."
-# One of these two texts ends the line after error 17 if only SRP0 differs from the journal.
+# One of these two texts ends the line after error 17 on a chip of the table if SRP0 differs, and SRP1 doesn't.
 SET_SRP0, CLEAR_SRP0 = (f" {do} SRP0 (--wp-{option}), and restore again."
                         for do, option in (("Set", "enable"), ("Clear", "disable")))
-# This text ends the line after error 17 if only SRP1 differs, and a power cycle clears it.
+# This text follows error 17 on a chip of the table if only the chip has SRP1 set, and SRP0 is clear in both.
 CLEAR_SRP1 = " A power cycle clears SRP1: disconnect the chip from power, and restore again."
 # This text ends the line after error 17 in other cases, except if bits 2 to 5 differ on a chip found by SFDP.
 WRITE_IMAGE = (" If the journal is this board's, write an image from before the session instead (-w, with a new journal): "
@@ -102,7 +105,8 @@ TO_UNLOCK = {
                    "--unlock.",
     (False, True): ". SRP1 is set: to lift the protection, disconnect the chip from power, then use --unlock.",
     (True, True): ". SRP0 and SRP1 are set: the protection may be there for good."}
-# The program prints these lines if bits 2 to 6 of status 1 are clear. If one is set, another line follows error 6.
+# These are the lines of error 6 if bits 2 to 6 of status 1 are clear. If one of them is set, another line follows
+# error 6.
 NO_PROTECTION = ["Error 6: no protection on this chip.", "This program doesn't know the protection bits of this chip."]
 # After --wp-enable (True) and --wp-disable (False) these lines say what the new value of SRP0 means.
 LOCK_MEANING = {
@@ -145,8 +149,9 @@ BITS = (((0x80, "SRP0"), (0x40, "SEC"), (0x20, "TB"), (0x10, "BP2"), (0x08, "BP1
 
 
 # The trial reads cause these two programmer faults. DEV stands for the device's name.
-LONG_FRAMES = "Programmer fault 14: DEV doesn't send a page program as one whole transaction. Install firmware that " \
-    "sends 260 bytes in a transaction, or that says how many it sends (Q_WRNMAXLEN)."
+LONG_FRAMES = "Programmer fault 14: DEV doesn't send a page program as one whole transaction. Disconnect the chip and " \
+    "its board from all power for ten seconds, and try again. If the line appears again, install firmware that sends " \
+    "260 bytes in a transaction, or that says how many it sends (Q_WRNMAXLEN)."
 FOUR_BYTES = "Programmer fault 15: DEV has a chip whose overlapping reads differ: it takes four address bytes, or a " \
     "contact is bad. Check contacts, disconnect the chip and its board from all power for ten seconds, and try again. If " \
     "the line appears again, the chip is set to begin in four-byte mode: this program can't use it."
@@ -277,16 +282,26 @@ class Limited(tuple):
 def trials(data, sends=UNLIMITED, reads=UNLIMITED):
     """Returns the trial reads on a chip with these bytes.
 
-    `sends` and `reads` are the limits of the programmer's transactions. At each address two reads overlap. The first
-    address whose bytes aren't all equal is the last one. There, a long read sends padding after its address, so that
-    its frame is as long as that of a page program. A short read then returns these bytes directly. If the bytes at each
-    address are equal, the long and the short read return status 1 instead.
+    `sends` and `reads` are the limits of the programmer's transactions. First, at each address, two reads overlap. The
+    first address whose bytes aren't all equal is the last one. Then, at each address and at TOP, a short read skips
+    `padding` bytes. If the bytes that it returns aren't all equal, another read returns the skipped bytes, but at most
+    `reads`. If these don't contain the bytes of the short read, the address is the last one: a long read sends
+    `padding` bytes after it, so that its frame is as long as that of a page program (or as `sends`), and the short read
+    is repeated. If there is no such address, a long and a short read return status 1 instead.
     """
     found, length, few, padding = [], min(TRIAL, reads), min(FEW, reads), min(PROGRAM, sends) - 4
-    for address in range(0, PLACES * STEP, STEP):
+    for address in ADDRESSES:
         found += [(command(READ_DATA, address), length), (command(READ_DATA, address + 1), length - 1)]
         if len(set(data[address : address + length])) > 1:
-            return found + [(command(READ_DATA, address, padding), few), (command(READ_DATA, address + padding), few)]
+            break
+    for address in *ADDRESSES, TOP:
+        start, short = address % len(data), (command(READ_DATA, address + padding), few)
+        found.append(short)
+        last = data[start + padding :][:few]
+        if len(set(last)) > 1:
+            found.append((command(READ_DATA, address), min(padding, reads)))
+            if last not in data[start:][: min(padding, reads)]:
+                return found + [(command(READ_DATA, address, padding), few), short]
     return found + [(POLL[0] + bytes(padding + 3), few), (POLL[0], few)]
 
 
@@ -306,10 +321,10 @@ def carried(plan, data, reads=BLOCK, sends=UNLIMITED, chip=None, image=None):
     `reads` and `sends` are the programmer's limits. The transactions begin with those of `before_job`.
 
     Data is read ahead. A read that begins where the last block ended reads a block of twice the last length, but at
-    most `reads` bytes, and not past the next multiple of 64 KiB or the `limit` of the read. Any other transaction
-    discards the block. A block is read twice. If the run expects an image, only the sectors that differ from the image
-    are read again. `chip` is then a model of the chip before the plan, which this function changes. After each read of
-    data the ID is read.
+    most `reads` bytes (rounded down to whole sectors), and not past the next multiple of 64 KiB or the `limit` of the
+    read. Any other transaction discards the block. A block is read twice. If the run expects an image, only the sectors
+    that differ from the image are read again. `chip` is then a model of the chip before the plan, which this function
+    changes. After each read of data the ID is read.
 
     Before the first modifying command the unique ID is read again, if the plan reads it. Before the basic SFDP table
     the ID is read again. Status 2 isn't read from a chip that is found by its SFDP, because the SFDP of the models has
@@ -396,9 +411,9 @@ def frames(transactions):
 
 
 def joins(out):
-    """Returns whether the program writes this command to the port together with the write enable before it.
+    """Returns whether the program may write this command to the port together with the write enable before it.
 
-    This applies to page programs with at least 32 data bytes.
+    This applies to page programs with at least 32 data bytes, if the serial buffer holds both commands.
     """
     return out[0] == 0x02 and len(out) >= 36
 
@@ -480,7 +495,7 @@ def erases(raised, size):
 def programs(number, old, target):
     """Returns the plan that programs a sector.
 
-    In each page one span is programmed, from the first to the last difference.
+    In each page with a difference one span is programmed, from the first to the last difference.
     """
     plan = []
     for at in range(0, SECTOR, PAGE):

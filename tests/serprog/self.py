@@ -2,7 +2,7 @@
 """The command tests/serprog/self.py tests whether run.py passes with a right program, and fails with a wrong one.
 
 The program is stand_in.py, which makes the mistake that the environment variable MISTAKE names. For each mistake the
-named case, or bits.py's job, must fail. The last line is `N passed, M failed`.
+case or bits.py's job that MISTAKES names must fail. The last line is `N passed, M failed`.
 """
 import os
 import subprocess
@@ -14,7 +14,7 @@ from pathlib import Path
 
 HERE = Path(__file__).resolve().parent
 
-# A key is a mistake of the stand-in, and its value is the case that must detect this mistake.
+# A key is a mistake of the stand-in, and its value is the case or the job of bits.py that must detect this mistake.
 MISTAKES = {
     "opens anything": "needs_a_character_device",
     "does not lock": "holds_its_lock",
@@ -88,13 +88,15 @@ MISTAKES = {
     "takes a few bytes that differ": "takes_unlike_bytes_at_some_places",
     "looks for no chip after the trial reads": "sends_nothing_before_its_job",
     "tries long frames once": "goes_on_after_noise",
+    "takes any bytes for a long frame": "finds_bytes_for_a_long_frame",
+    "takes long frames that differ": "refuses_firmware_that_changes_bytes",
     "sends no frame again": "takes_a_shared_buffer",
     "takes an option twice": "takes_long_names",
     "knows no long names": "takes_long_names",
 }
 RIGHT = sorted(set(MISTAKES.values()))
-# With this STRIDE, cases that interrupt a job at each transaction try only every ninth one. These are enough to detect
-# all mistakes.
+# With this STRIDE, some cases that disturb a job at each transaction try only every ninth one. These are enough to
+# detect all mistakes.
 STRIDE = "9"
 
 
@@ -118,7 +120,7 @@ def run(program, mistake, names):
 
 
 def detects(program, mistake):
-    """Returns whether only the case of this mistake fails.
+    """Returns whether the case that must detect this mistake fails.
 
     For a job of bits.py, one or more of its sweeps must fail.
     """

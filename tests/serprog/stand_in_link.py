@@ -37,7 +37,7 @@ class Fault(Exception):
 
 
 class Stopped(Exception):
-    """This exception has the cause of error 12, or the line of a chip fault."""
+    """This exception has the cause of error 12, or the line of a chip fault or of programmer fault 13."""
 
 
 DIFFER = "two reads of the same bytes differ"
@@ -164,7 +164,7 @@ class Link:
             self.refuse(str(why))
 
     def wake(self):
-        """Wakes the chip, and checks that the port sends 0Dh and 0Ah unchanged."""
+        """Wakes the chip. If the programmer's limits allow, checks that the port sends 0Dh and 0Ah unchanged."""
         if self.sends < len(reference.WAKES[0]) or self.receives < reference.WAKES[1]:
             self.operate(*reference.ONLY_WAKES)
             return
@@ -182,22 +182,30 @@ class Link:
                         + STTY.format(self.path))
 
     def try_reads(self):
-        """Makes the trial reads before a job, and raises programmer fault 14 if the programmer changes long frames."""
-        place = self.find_place(min(reference.TRIAL, self.receives))
+        """Makes the trial reads before a job.
+
+        Raises programmer fault 14 if a long frame fails, or reads wrong bytes three times. Programmer fault 15 is
+        described in `compare_overlaps`.
+        """
+        self.compare_overlaps(min(reference.TRIAL, self.receives))
         few, length = min(reference.FEW, self.receives), min(reference.PROGRAM, self.sends)
+        place = self.find_place(length - 4, few)
         long, short = b"\x05" + bytes(length - 1), b"\x05"
         if place is not None:
             long = reference.command(READ_DATA, place, length - 4)
             short = reference.command(READ_DATA, place + length - 4)
-        first = None
+        first = wrong = None
         for _ in range(1 if MISTAKE == "tries long frames once" else 3):
             behind = self.try_long(long, few)
-            if behind is None or first and behind != first[0]:
+            if behind is None or behind == first:
                 return
+            if MISTAKE == "takes long frames that differ" and wrong not in (None, behind):
+                return
+            wrong = behind
             direct = self.operate(short, few)
-            if behind == direct or first and direct != first[1] or MISTAKE == "takes any long frame":
+            if behind == direct or first is not None and direct != first or MISTAKE == "takes any long frame":
                 return
-            first = behind, direct
+            first = direct
         raise Fault(reference.LONG_FRAMES.replace("DEV", self.path))
 
     def look(self):
@@ -205,19 +213,33 @@ class Link:
         if b"".join(self.operate(*it) for it in reference.LOOK) == b"\xff" * 4:
             raise Fault("\n".join(reference.NO_CHIP))
 
-    def find_place(self, length):
-        """Returns the first address at which overlapping reads agree and their bytes aren't all equal, or `None`.
+    def find_place(self, padding, few):
+        """Returns the first address from which a long frame reads bytes that show whether its padding was dropped.
 
-        Raises programmer fault 15 if the reads differ in most bytes at one address, or in some bytes at each address.
+        These bytes aren't all equal, and don't occur in the bytes that the padding skips. Returns `None` if no address
+        has such bytes.
+        """
+        for address in *reference.ADDRESSES, reference.TOP:
+            last = self.operate(reference.command(READ_DATA, address + padding), few)
+            if len(set(last)) > 1 and last not in self.operate(
+                    reference.command(READ_DATA, address), min(padding, self.receives)) or \
+                    MISTAKE == "takes any bytes for a long frame":
+                return address
+        return None
+
+    def compare_overlaps(self, length):
+        """Compares overlapping reads until they agree at an address whose bytes aren't all equal.
+
+        If they never do, raises programmer fault 15 if they differ in most bytes at one address, or at each address.
         Reads count as different only if each of them returns its bytes a second time.
         """
         in_most, always = False, True
-        for address in range(0, reference.PLACES * reference.STEP, reference.STEP):
+        for address in reference.ADDRESSES:
             pair = (reference.command(READ_DATA, address), length), (reference.command(READ_DATA, address + 1), length - 1)
             first, second = (self.operate(*it) for it in pair)
             if first[1:] == second or MISTAKE == "takes any overlap":
                 if len(set(first)) > 1:
-                    return address
+                    return
                 always = False
                 continue
             repeats = MISTAKE == "tries each place once" or (
@@ -226,7 +248,6 @@ class Link:
             in_most |= repeats and sum(a != b for a, b in zip(first[1:], second)) > (length - 1) // 2
         if in_most or always and MISTAKE != "takes a few bytes that differ":
             raise Fault(reference.FOUR_BYTES.replace("DEV", self.path))
-        return None
 
     def try_long(self, out, length):
         """Returns the reply to a long frame.
@@ -479,7 +500,8 @@ class Link:
     def poll(self):
         """Returns status 1. BUSY is set if one of the two bytes of the reply shows it.
 
-        Before the first modifying command, and after a status write, it polls twice and compares the replies.
+        If the chip isn't busy, it polls twice and compares the replies before the first modifying command, and after a
+        status write.
         """
         believes = MISTAKE == "believes one status"
         status = self.operate(b"\x05", 1) * 2 if MISTAKE == "polls one byte" else self.operate(b"\x05", 2)
@@ -557,8 +579,8 @@ class Link:
     def send_frame(self, out, length):
         """Carries out one transaction, whose frame the programmer can take.
 
-        A write enable waits until the next command, and is sent together with this command if both fit into the serial
-        buffer.
+        A write enable that fits into the serial buffer waits until the next command. Both are sent together if the next
+        command `joins` and both fit into the serial buffer.
         """
         frame = b"\x13" + len(out).to_bytes(3, "little") + length.to_bytes(3, "little") + out
         waits = (out, length) == reference.WRITE_ENABLE and len(frame) <= self.buffer and MISTAKE != "sends one by one"

@@ -1,8 +1,8 @@
 """These cases test the trial reads before a job, which detect a chip in four-byte mode and wrong firmware.
 
-Wrong firmware changes, truncates or refuses long frames. A chip in four-byte mode takes one more address byte after
-03h, 02h, 20h, 52h and D8h (W25Q256FV datasheet, Address Modes). A run that is refused sends only ABh and reads, and
-creates no file. One wrong bit in a trial read must not prevent a run.
+Wrong firmware changes, truncates, refuses or ignores long frames. A chip in four-byte mode takes one more address byte
+after 03h, 02h, 20h, 52h and D8h (W25Q256FV datasheet, Address Modes). A run that is refused sends only ABh and reads,
+and creates no file. One wrong bit in a trial read must not prevent a run.
 """
 import random
 
@@ -20,7 +20,7 @@ JOBS = ((), ("-r", "out"), ("-v", "new"), ("-w", "new", "--journal", "j"), ("-E"
         ("--backup", "out"), ("--restore", "saved"), ("--restore", "saved", "-N"))
 # These jobs don't use the image `new`. They are also tried on a chip of 8 MiB.
 WITHOUT_IMAGE = [it for it in JOBS if "new" not in it]
-# A programmer with this limit on the bytes of a transaction doesn't report it.
+# A transaction may send at most this number of bytes to a programmer that doesn't report the limit.
 LIMIT = 128
 
 
@@ -65,12 +65,12 @@ def refuse(bench, line, repeated, jobs=JOBS, **traits):
 
 
 def refuses_four_byte_mode(start):
-    """Checks that each job on a chip in four-byte mode ends with programmer fault 15."""
+    """Checks that jobs on four chips in four-byte mode, whose bytes aren't all FFh, end with programmer fault 15."""
     blank = b"\xff" * SECTOR
     head = random.Random("refuses_four_byte_mode").randbytes(2 * SECTOR)
     # A row has a chip, its data, the numbers of the trial addresses at which overlapping reads differ, and the jobs.
-    # Reads that differ are repeated. In four-byte mode, a trial read at address 1110h reads at 111000h, which is 1000h
-    # on a chip of 64 KiB. The reads at 0 and 1 are at 0 and 100h.
+    # Reads that differ are repeated. In four-byte mode, a trial read that sends the address 1110h reads at 111000h,
+    # which is 1000h on a chip of 64 KiB. Trial reads that send the addresses 0 and 1 read at 0 and 100h.
     for part, data, places, jobs in (
             ("TINY64", images("refuses_four_byte_mode")[1], range(8), JOBS),
             ("TINY64", bytes(256) + FREE[256:], (0,), JOBS),
@@ -87,7 +87,7 @@ def refuses_four_byte_mode(start):
 
 
 def finds_no_empty_chip_in_four_byte_mode(start):
-    """Checks the limit of the trial reads: they don't detect four-byte mode on a chip whose bytes are all equal.
+    """Checks the limit of the trial reads: they don't detect four-byte mode on a chip whose bytes are all FFh.
 
     A read returns the right bytes nevertheless. A write ends with error 14, because its programs change other pages.
     When the mode has ended, as after a loss of power, a backup restores the chip.
@@ -119,7 +119,7 @@ def finds_no_empty_chip_in_four_byte_mode(start):
 
 
 def long_frames(data):
-    """Returns the trial reads of a chip with these bytes: the overlapping reads, and the pair with the long frame."""
+    """Returns the trial reads of a chip with these bytes: those before the long frame, and the pair with this frame."""
     found = reference.trials(data)
     return found[:-2], found[-2:]
 
@@ -142,6 +142,44 @@ def refuses_firmware_that_drops_bytes(start):
     places, pair = long_frames(data)
     check("the place", pair[0][0][:4], reference.command(READ_DATA, 2 * reference.STEP))
     refuse(start(data=data, sends=drops), reference.LONG_FRAMES, places + pair * 3)
+
+
+def finds_bytes_for_a_long_frame(start):
+    """Checks that a long frame reads bytes that show whether padding was dropped, if a trial address has such bytes.
+
+    The image of a PC begins with a descriptor that is mostly FFh (bytes 100h to 103h, for example). The last 16 bytes
+    of the image are those of the reset vector. Bytes that are repeated every four bytes show nothing.
+    """
+    old = random.Random("finds_bytes_for_a_long_frame").randbytes(SIZE)
+    head, blank = old[:48] + b"\xff" * (SECTOR - 48), b"\xff" * SECTOR
+    repeated = old[:4] * (SECTOR // 4)
+    for data, place in ((head + old[SECTOR:], reference.STEP),
+                        (head + repeated + old[2 * SECTOR :], 2 * reference.STEP),
+                        (head + blank * (SIZE // SECTOR - 2) + b"\xff" * (SECTOR - 16) + old[:16], reference.TOP)):
+        places, pair = long_frames(data)
+        check("the place", pair[0][0][:4], reference.command(READ_DATA, place))
+        refuse(start(data=data, sends=drops), reference.LONG_FRAMES, places + pair * 3)
+        bench = start(data=data)
+        bench.expect("-r", "out", out=[reference.found("TINY64"), f"Read {SIZE} bytes."])
+        bench.check_file("out", data)
+    # No trial address of this chip has bytes that show whether padding was dropped, so the run isn't refused.
+    data = head + b"\xff" * (SIZE - SECTOR)
+    check("the long frame", long_frames(data)[1][0][0][:1], b"\x05")
+    bench = start(data=data, sends=drops)
+    bench.expect("-r", "out", out=[reference.found("TINY64"), f"Read {SIZE} bytes."])
+    bench.check_file("out", data)
+
+
+def refuses_firmware_that_changes_bytes(start):
+    """Checks that firmware which truncates each long frame to a random length is programmer fault 14."""
+    source = random.Random("refuses_firmware_that_changes_bytes")
+    old = source.randbytes(SIZE)
+    places, pair = long_frames(old)
+
+    def loses_some(out):
+        return out[: 32 + source.randrange(200)] if len(out) > 64 else out
+
+    refuse(start(data=old, sends=loses_some), reference.LONG_FRAMES, places + pair * 3)
 
 
 def refuses_firmware_with_an_unknown_limit(start):
@@ -183,18 +221,22 @@ def takes_a_shared_buffer(start):
 def goes_on_after_noise(start):
     """Checks that a run goes on after one wrong bit in a trial read.
 
-    If the bit is in one of two overlapping reads, both are repeated, and the reads at the next address follow. If the
-    bit is in the long frame, the reads of the long frame are repeated. One bit that is wrong in three long frames is
-    programmer fault 14.
+    If the bit is in the first of two reads that must agree, only this read is repeated. If the bit is in the second
+    one, both are repeated. After overlapping reads with a wrong bit, those at the next address follow. The two reads
+    that look for the address of the long frame aren't repeated. The same wrong bit in the replies to three long frames
+    is programmer fault 14.
     """
     old, _ = images("goes_on_after_noise")
     places, pair = long_frames(old)
-    # These are the trial reads that follow if the reads at the first address don't count.
-    later = long_frames(bytes(reference.TRIAL) + old[reference.TRIAL :])
-    check("the reads at both places", (len(places), later[0][:2]), (2, places))
-    later = later[0][2:] + later[1]
-    for number, trials in ((2, places + places[:1] + later), (3, places * 2 + later), (4, places + pair + pair[:1]),
-                           (5, places + pair * 2)):
+    overlaps, rest = places[:2], places[2:] + pair
+    check("the reads before the long frame", [count for _, count in places], [reference.TRIAL, reference.TRIAL - 1,
+                                                                             reference.FEW, 256])
+    # These overlapping reads follow if those at the first address don't count.
+    later = [it for it in reference.trials(bytes(reference.TRIAL) + old[reference.TRIAL :])[2:]
+             if it[1] in (reference.TRIAL, reference.TRIAL - 1)]
+    for number, trials in ((2, overlaps + overlaps[:1] + later + rest), (3, overlaps * 2 + later + rest),
+                           (4, places + pair), (5, places + pair), (6, places + pair + pair[:1]),
+                           (7, places + pair * 2)):
         for byte in 1, 3:
             bench = start(data=old)
             bench.server.traits.wrong_bits = {number: (byte - number % 2, 6)}
@@ -205,13 +247,16 @@ def goes_on_after_noise(start):
                   [reference.WAKES, *trials])
             check("the first poll", got[1 + len(trials) :][: 3], [*reference.LOOK, (b"\x05", 2)])
     bench = start(data=old)
-    bench.server.traits.wrong_bits = {number: (1, 6) for number in (4, 6, 8)}
+    bench.server.traits.wrong_bits = {number: (1, 6) for number in (6, 8, 10)}
     bench.expect("-r", "out", err=[bench.device(reference.LONG_FRAMES)])
     bench.check_absent("out")
 
 
 def restores_bytes_that_change(start):
-    """Checks that a restore works although bytes change from read to read, as they may after an interrupted erase."""
+    """Checks that a restore with -N works although bytes change from read to read until its first erase.
+
+    An interrupted erase may leave bytes that change from read to read.
+    """
     old, new = images("restores_bytes_that_change")
     bench = start(data=new)
     bench.write("whole", reference.journal("TINY64", old, range(SIZE // SECTOR)))
@@ -231,16 +276,19 @@ def restores_bytes_that_change(start):
 
 
 def reports_failures_of_trials(start):
-    """Checks that a trial read without a right reply causes programmer fault 4, 5 or 11, depending on the reply.
+    """Checks that a trial read without ACK causes programmer fault 4 (no reply), 5 (neither ACK nor NAK) or 11 (NAK).
 
-    The long frame causes programmer fault 14 instead. A port that fails is programmer fault 10 at any trial read.
+    A long frame without ACK causes programmer fault 14 instead. If only its first reply is NAK, the run goes on. A port
+    that fails is programmer fault 10 at any trial read.
     """
     old, _ = images("reports_failures_of_trials")
     for number, event, begins in (
             (2, "nak", f"11: the programmer refused command 13h. {FIRMWARE}"),
-            (3, "mute", "4: the programmer is silent."), (5, "strange", "5: the programmer answered 21h,"),
-            (2, "unplug", "10: the port failed: "), (4, "unplug", "10: the port failed: "),
-            (5, "unplug", "10: the port failed: "), (4, "mute", None), (4, "strange", None)):
+            (3, "mute", "4: the programmer is silent."), (4, "mute", "4: the programmer is silent."),
+            (5, "strange", "5: the programmer answered 21h,"), (7, "strange", "5: the programmer answered 21h,"),
+            (2, "unplug", "10: the port failed: "), (5, "unplug", "10: the port failed: "),
+            (6, "unplug", "10: the port failed: "), (7, "unplug", "10: the port failed: "),
+            (6, "mute", None), (6, "strange", None)):
         bench = start(data=old, timeout=SOON)
         bench.write("new", FREE)
         wanted = bench.device(f"Programmer fault {begins}" if begins else reference.LONG_FRAMES)
@@ -248,9 +296,10 @@ def reports_failures_of_trials(start):
         check(f"{event} at {number}", (got.err[0][: len(wanted)], len(got.err), got.out, got.status), (wanted, 1, [], 1))
         bench.check_absent("j")
         bench.check_chip(old)
-    # If only the first long frame is refused, the program assumes a limit on the bytes of the reply, and goes on.
+    # If only the first long frame is refused, the program assumes that the programmer's buffer has no room for its
+    # reply, and goes on.
     bench = start(data=old)
-    bench.expect("-r", "out", out=[reference.found("TINY64"), f"Read {SIZE} bytes."], events={4: "nak"})
+    bench.expect("-r", "out", out=[reference.found("TINY64"), f"Read {SIZE} bytes."], events={6: "nak"})
     bench.check_file("out", old)
 
 
@@ -275,6 +324,8 @@ def takes_unlike_bytes_at_some_places(start):
             bench.expect("-r", "out", out=[reference.found("TINY64"), f"Read {SIZE} bytes."])
 
 
-CASES = [refuses_four_byte_mode, finds_no_empty_chip_in_four_byte_mode, takes_unlike_bytes_at_some_places, refuses_firmware_that_wraps,
-         refuses_firmware_that_drops_bytes, refuses_firmware_with_an_unknown_limit, takes_a_shared_buffer,
+CASES = [refuses_four_byte_mode, finds_no_empty_chip_in_four_byte_mode, takes_unlike_bytes_at_some_places,
+         refuses_firmware_that_wraps,
+         refuses_firmware_that_drops_bytes, finds_bytes_for_a_long_frame, refuses_firmware_that_changes_bytes,
+         refuses_firmware_with_an_unknown_limit, takes_a_shared_buffer,
          goes_on_after_noise, restores_bytes_that_change, reports_failures_of_trials]

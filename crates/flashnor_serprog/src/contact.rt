@@ -1,8 +1,7 @@
 //! Finds out whether a chip replies, and tries to free a chip that was left in QPI mode.
 
-ghost use Rattle.std.specs.Prelude.{◌≡◌, false};
-ghost use Rattle.nor_model.specs.Command.{begins_change};
-ghost use Rattle.nor_serprog.specs.Harmless.{StaysHarmless};
+ghost use Rattle.std.specs.Prelude.{◌≡◌, true};
+ghost use Rattle.nor_serprog.specs.Harmless.{StaysHarmless, begins_harmless};
 ghost use Rattle.flashnor_serprog.specs.Ports.{asked_over};
 
 use crate::port::{DevicePort, PortFault};
@@ -13,7 +12,8 @@ use std::time::Duration;
 // The byte that is received if no chip drives the line, and a pull-up holds it high.
 const IDLE: u8 = 0xFF;
 
-// A chip that doesn't reply is asked `TIMES` times, with a pause of `PAUSE` milliseconds after each time.
+// 9Fh and 05h are sent up to `TIMES` times, until 05h returns a byte other than FFh. A pause of `PAUSE` milliseconds
+// follows each time without such a byte.
 const TIMES: u32 = 10;
 
 const PAUSE: u64 = 150;
@@ -32,11 +32,12 @@ pub enum Contact {
 }
 
 /// Returns what replies to 9Fh (Read ID) and 05h (Read Status Register-1). `heard` is an earlier reply: if it has a
-/// byte other than FFh, a chip is present, and nothing is sent. If only FFh is received for 1.5 seconds, sends what may
-/// free a chip from another mode (`leave_modes`), and then 9Fh again.
+/// byte other than FFh, a chip is present, and nothing is sent. If status 1 is FFh for 1.5 seconds, and the last 9Fh in
+/// this time returns only FFh, sends what can free a chip from another mode (`leave_modes`) and then 9Fh again. If that
+/// returns an ID, a chip is present.
 ///
-/// If status 1 is FFh for 1.5 seconds, but an ID is returned, the device counts as a chip only if it has SFDP. A busy
-/// chip whose status 1 is FFh for 1.5 seconds can't be distinguished from a missing chip.
+/// If status 1 is FFh for 1.5 seconds, but the last 9Fh in this time returns an ID, the device counts as a chip only if
+/// it has SFDP. A busy chip whose status 1 is FFh for 1.5 seconds can't be distinguished from a missing chip.
 pub fn look_for_chip(
     rt: &HostRuntime,
     link: &mut Link<DevicePort>,
@@ -89,7 +90,7 @@ fn leave_modes(link: &mut Link<DevicePort>) -> Result<(), Failure<PortFault>>
 }
 
 fn send(link: &mut Link<DevicePort>, out: &[u8]) -> Result<(), Failure<PortFault>>
-    requires reads { begins_change out.now ≡ false }
+    requires reads { begins_harmless out.now ≡ true }
     ensures harmless { StaysHarmless (asked_over link.old) (asked_over link.new) }
 {
     link.exchange(Command::Operate { out, replies: 0 }, &mut [])

@@ -152,8 +152,8 @@ fn choices_for(setting: &str, flaw: Flaw) -> &'static str {
 // The arguments with which `stty` sets up a serial port for this program.
 const STTY_ARGUMENTS: &str = "raw -echo clocal -hupcl min 0 time 50";
 
-/// The reason why the programmer can't be used. By then, at most the transactions of `wake`, `look_for_chip` and
-/// `try_reads` were sent to the chip.
+/// The reason why the programmer can't be used. Before such a fault, at most the transactions of `wake`,
+/// `look_for_chip` and `try_reads` were sent to the chip.
 #[derive(Drop)]
 pub enum ProgrammerFault {
     /// 1: the device is missing, or the system could not open or lock it.
@@ -232,7 +232,9 @@ impl ProgrammerFault {
                 "Disconnect the programmer from power for a second, connect it again, and set up the port:",
             ),
             ProgrammerFault::LongFrames => Remedy::Do(
-                "Install firmware that sends 260 bytes in a transaction, or that says how many it sends (Q_WRNMAXLEN).",
+                "Disconnect the chip and its board from all power for ten seconds, and try again. If the line appears \
+                again, install firmware that sends 260 bytes in a transaction, or that says how many it sends \
+                (Q_WRNMAXLEN).",
             ),
             ProgrammerFault::Addresses => Remedy::Do(
                 "Check contacts, disconnect the chip and its board from all power for ten seconds, and try again. If \
@@ -300,7 +302,7 @@ impl fmt::Display for Advice<'_> {
     }
 }
 
-// The command that sets up this device as a serial port. If no command can contain its name, advice to rename it.
+// The command that sets up the device as a serial port, or advice to rename a device whose name no command can contain.
 #[derive(Clone, Copy, Drop)]
 struct SetUp<'a>(&'a str);
 

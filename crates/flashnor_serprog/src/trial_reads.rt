@@ -1,7 +1,6 @@
 //! Reads that detect, before a job begins, a chip in four-byte mode or a programmer that changes long frames.
-ghost use Rattle.std.specs.Prelude.{◌≡◌, ◌≤◌, ◌<◌, ◌^◌, false, IfOk, IfSome, length};
-ghost use Rattle.nor_model.specs.Command.{begins_change};
-ghost use Rattle.nor_serprog.specs.Harmless.{StaysHarmless};
+ghost use Rattle.std.specs.Prelude.{◌≡◌, ◌≤◌, ◌<◌, ◌^◌, true, IfOk, IfSome, length};
+ghost use Rattle.nor_serprog.specs.Harmless.{StaysHarmless, begins_harmless};
 ghost use Rattle.flashnor_serprog.specs.Ports.{asked_over};
 
 use crate::port::{DevicePort, PortFault};
@@ -14,7 +13,7 @@ const READ: u8 = 0x03;
 
 const READ_STATUS: u8 = 0x05;
 
-// The greatest number of bytes that a trial read returns: `MOST` at each address, and `FEW` in a long frame.
+// The greatest number of bytes that are compared: `MOST` in overlapping reads, and `FEW` behind a long frame.
 const MOST: usize = 32;
 
 const FEW: usize = 4;
@@ -24,7 +23,11 @@ const PLACES: u32 = 8;
 
 const STEP: u32 = 0x1110;
 
-// A long frame is reported (`LongFrames`) only if reads in it return the same wrong bytes this number of times.
+// One more address for a long frame, which then reads at FFFFF0h if it sends 260 bytes. There the firmware of a PC has
+// its first instruction (reset vector). A smaller chip ignores the upper address bits.
+const TOP: u32 = 0xFF_FEF0;
+
+// Wrong bytes in a long frame are reported (`LongFrames`) only if this number of frames has wrong bytes.
 const TIMES: u32 = 3;
 
 // The number of bytes that a page program sends, including its opcode and its address.
@@ -32,13 +35,16 @@ const PROGRAM: usize = 260;
 
 /// Makes trial reads, and compares their data. Returns one of these faults:
 ///
-/// - `Addresses`: overlapping reads agree at none of eight addresses, and differ in most bytes at one of them or in a
-///   few bytes at each. A chip in four-byte mode (W25Q256FV datasheet, Address Modes) may cause this.
-/// - `LongFrames`: a frame as long as that of a page program fails, or a read in this frame returns wrong bytes.
+/// - `Addresses`: overlapping reads agree at none of eight addresses (bytes that are all equal don't count), and differ
+///   in most bytes at one of them or in a few bytes at each. A chip in four-byte mode (W25Q256FV datasheet, Address
+///   Modes) may cause this.
+/// - `LongFrames`: a frame as long as that of a page program (or as the programmer's lower limit) reads wrong bytes or
+///   fails. A frame that is refused fails only if sending it without a reply fails, too.
 /// - `Handshake`: another exchange failed, or the system reported an error.
 ///
 /// An interrupted erase may leave bytes that change from read to read, and these must not prevent a restore. So a
-/// difference counts only if both reads, when repeated, return the same bytes as before.
+/// difference counts only if both reads, when repeated, return the same bytes as before. Repeated reads in a long frame
+/// may return other bytes, if these are wrong, too.
 pub fn try_reads(
     link: &mut Link<DevicePort>,
     programmer: &AnyProgrammer,
@@ -46,8 +52,9 @@ pub fn try_reads(
     ensures harmless { StaysHarmless (asked_over link.old) (asked_over link.new) }
 {
     let most = programmer.longest_read();
-    let place = find_place(link, shorter(MOST, most))?;
+    compare_overlaps(link, shorter(MOST, most))?;
     let len = shorter(PROGRAM, programmer.longest_part());
+    let place = find_place(link, len - 4, most)?;
     try_long_frame(link, place, len, shorter(FEW, most))
 }
 
@@ -72,12 +79,11 @@ enum Overlap {
     Unknown,
 }
 
-// Returns the first trial address at which overlapping reads agree, or `None`. Fails with `Addresses` if the reads
-// differ as they do on a chip in four-byte mode.
-fn find_place(link: &mut Link<DevicePort>, len: usize) -> Result<Option<u32>, ProgrammerFault>
+// Compares overlapping reads until they agree at a trial address. Fails with `Addresses` if the reads differ as they do
+// on a chip in four-byte mode.
+fn compare_overlaps(link: &mut Link<DevicePort>, len: usize) -> Result<(), ProgrammerFault>
     requires some { 1 ≤ len }
     requires most { len ≤ 32 }
-    ensures place { IfOk result (λ place. IfSome place (λ address. address < 2 ^ 23)) }
     ensures harmless { StaysHarmless (asked_over link.old) (asked_over link.new) }
 {
     let mut differs_in_most = false;
@@ -85,7 +91,7 @@ fn find_place(link: &mut Link<DevicePort>, len: usize) -> Result<Option<u32>, Pr
     for place in 0..PLACES {
         let address = place * STEP;
         match try_overlap(link, address, len)? {
-            Overlap::Agrees => return Ok(Some(address)),
+            Overlap::Agrees => return Ok(()),
             Overlap::DiffersInMost => differs_in_most = true,
             Overlap::DiffersInFew => {}
             Overlap::Unknown => always_differs = false,
@@ -94,7 +100,7 @@ fn find_place(link: &mut Link<DevicePort>, len: usize) -> Result<Option<u32>, Pr
     if differs_in_most || always_differs {
         Err(ProgrammerFault::Addresses)
     } else {
-        Ok(None)
+        Ok(())
     }
 }
 
@@ -144,16 +150,68 @@ fn are_alike(one: &[u8], other: &[u8]) -> bool {
     differing <= one.len() / 2
 }
 
+// Returns the first address from which a long frame shows whether all its padding arrived (`is_telling`), or `None` if
+// no trial address does.
+fn find_place(
+    link: &mut Link<DevicePort>,
+    padding: usize,
+    most: u32,
+) -> Result<Option<u32>, ProgrammerFault>
+    requires some { 1 ≤ padding }
+    requires most { padding ≤ 256 }
+    ensures place { IfOk result (λ place. IfSome place (λ address. address ≤ 0xFFFEF0)) }
+    ensures harmless { StaysHarmless (asked_over link.old) (asked_over link.new) }
+{
+    for place in 0..=PLACES {
+        let address = if place < PLACES { place * STEP } else { TOP };
+        if is_telling(link, address, padding, most)? {
+            return Ok(Some(address));
+        }
+    }
+    Ok(None)
+}
+
+// Returns whether the bytes at `address + padding` aren't all equal, and don't occur in the reply to one read of
+// `padding` bytes (but at most `most`) from `address` on. Firmware that loses padding bytes makes the chip return bytes
+// of this range.
+fn is_telling(
+    link: &mut Link<DevicePort>,
+    address: u32,
+    padding: usize,
+    most: u32,
+) -> Result<bool, ProgrammerFault>
+    requires address { address ≤ 0xFFFEF0 }
+    requires some { 1 ≤ padding }
+    requires most { padding ≤ 256 }
+    ensures harmless { StaysHarmless (asked_over link.old) (asked_over link.new) }
+{
+    let few = shorter(FEW, most);
+    let mut bytes = [0; FEW];
+    read(link, address + padding as u32, &mut bytes[..few])?;
+    if bytes[..few].iter().all(|byte| *byte == bytes[0]) {
+        return Ok(false);
+    }
+    let len = shorter(padding, most);
+    let mut before = [0; PROGRAM];
+    read(link, address, &mut before[..len])?;
+    Ok(
+        !before[..len]
+            .windows(few)
+            .any(|window| window == &bytes[..few]),
+    )
+}
+
 // Reads `replies` bytes after padding, in a frame that sends `len` bytes, and compares them with the reply to a short
-// frame. The bytes are those at `place + len - 4` or, if `place` is `None`, status 1. Returns `LongFrames` if the two
-// replies differ three times in the same way, or if the long frame fails (if refused, also without a reply).
+// frame. The bytes are those at `place + len - 4` or, if `place` is `None`, status 1. Returns `LongFrames` if the reply
+// to the long frame is wrong three times, and that to the short frame the same each time. Returns a fault of `of_long`
+// if the long frame fails; a refused frame fails only if sending it without a reply fails, too.
 fn try_long_frame(
     link: &mut Link<DevicePort>,
     place: Option<u32>,
     len: usize,
     replies: usize,
 ) -> Result<(), ProgrammerFault>
-    requires place { IfSome place (λ address. address < 2 ^ 23) }
+    requires place { IfSome place (λ address. address ≤ 0xFFFEF0) }
     requires some { 5 ≤ len }
     requires most { len ≤ 260 }
     requires few { replies ≤ 4 }
@@ -170,7 +228,7 @@ fn try_long_frame(
     }
     for _ in 1..TIMES {
         let mut again = [0; FEW];
-        if !read_behind(link, place, len, &mut again[..replies])? || again != behind {
+        if !read_behind(link, place, len, &mut again[..replies])? || again == direct {
             return Ok(());
         }
         read_direct(link, place, len, &mut again[..replies])?;
@@ -208,7 +266,7 @@ fn read_behind(
 }
 
 fn first_bytes(place: Option<u32>) -> [u8; 4]
-    ensures reads { begins_change result ≡ false }
+    ensures reads { begins_harmless result ≡ true }
 {
     match place {
         Some(address) => read_at(address),
@@ -217,7 +275,7 @@ fn first_bytes(place: Option<u32>) -> [u8; 4]
 }
 
 fn send_only(link: &mut Link<DevicePort>, out: &[u8]) -> Result<(), ProgrammerFault>
-    requires reads { begins_change out.now ≡ false }
+    requires reads { begins_harmless out.now ≡ true }
     ensures harmless { StaysHarmless (asked_over link.old) (asked_over link.new) }
 {
     synchronize(link).map_err(|failure| of_long(failure))?;
@@ -236,7 +294,7 @@ fn read_direct(
     len: usize,
     reply: &mut [u8],
 ) -> Result<(), ProgrammerFault>
-    requires place { IfSome place (λ address. address < 2 ^ 23) }
+    requires place { IfSome place (λ address. address ≤ 0xFFFEF0) }
     requires some { 4 ≤ len }
     requires most { len ≤ 260 }
     requires few { length reply.old ≤ 4 }
@@ -249,7 +307,7 @@ fn read_direct(
 }
 
 fn read(link: &mut Link<DevicePort>, address: u32, reply: &mut [u8]) -> Result<(), ProgrammerFault>
-    requires { length reply.old ≤ 32 }
+    requires { length reply.old ≤ 256 }
     ensures harmless { StaysHarmless (asked_over link.old) (asked_over link.new) }
 {
     exchange(link, &read_at(address), reply)
@@ -260,8 +318,8 @@ fn exchange(
     out: &[u8],
     reply: &mut [u8],
 ) -> Result<(), ProgrammerFault>
-    requires few { length reply.old ≤ 32 }
-    requires reads { begins_change out.now ≡ false }
+    requires few { length reply.old ≤ 256 }
+    requires reads { begins_harmless out.now ≡ true }
     ensures harmless { StaysHarmless (asked_over link.old) (asked_over link.new) }
 {
     operate(link, out, reply).map_err(|failure| {
@@ -274,8 +332,8 @@ fn operate(
     out: &[u8],
     reply: &mut [u8],
 ) -> Result<(), Failure<PortFault>>
-    requires few { length reply.old ≤ 32 }
-    requires reads { begins_change out.now ≡ false }
+    requires few { length reply.old ≤ 256 }
+    requires reads { begins_harmless out.now ≡ true }
     ensures harmless { StaysHarmless (asked_over link.old) (asked_over link.new) }
 {
     let command = Command::Operate {
@@ -287,7 +345,7 @@ fn operate(
 
 // Returns the bytes that a read sends. `address` must be below 2^24.
 fn read_at(address: u32) -> [u8; 4]
-    ensures reads { begins_change result ≡ false }
+    ensures reads { begins_harmless result ≡ true }
 {
     let [_, high, middle, low] = address.to_be_bytes();
     [READ, high, middle, low]

@@ -1,14 +1,24 @@
 -- Calls of a port that send nothing that modifies a chip.
-use Rattle.std.specs.Prelude.{◌≡◌, ◌++◌, ◌⊎◌, ℕ, false, List, All, ⊤}
-use Rattle.nor_model.specs.Command.{begins_change}
+use Rattle.std.specs.Prelude.{◌≡◌, ◌==◌, ◌||◌, ◌++◌, ◌⊎◌, ◌∷◌, [], ℕ, Bool, true, false, List, All, ⊤}
 use Rattle.nor_serprog.specs.declared.command.Command.{Command}
 use Rattle.nor_serprog.specs.declared.command.Command.TheVariants.{Operate}
 use Rattle.nor_serprog.specs.Frame.{frame_of}
 use Rattle.nor_serprog.specs.Asked.{AreNops}
 
--- Holds unless the command is an O_SPIOP whose transaction begins with the opcode of a modifying command.
+-- True for 03h, 05h, 5Ah and 9Fh, which read data, status 1, SFDP and the ID, for ABh, which wakes a chip, and for FFh,
+-- which ends QPI mode and continuous reads.
+abbrev pub is_harmless_opcode : ℕ → Bool
+is_harmless_opcode opcode =
+    opcode == 0x03 || opcode == 0x05 || opcode == 0x5A || opcode == 0x9F || opcode == 0xAB || opcode == 0xFF
+
+abbrev pub begins_harmless : (out : List ℕ) → Bool
+begins_harmless [] = false
+begins_harmless (opcode ∷ rest) = is_harmless_opcode opcode
+
+-- Holds unless the command is an O_SPIOP whose transaction sends no byte, or begins with another opcode than those of
+-- `is_harmless_opcode`.
 abbrev pub ModifiesNothing : Command → Type 0
-ModifiesNothing (Operate out replies) = begins_change out.now ≡ false
+ModifiesNothing (Operate out replies) = begins_harmless out.now ≡ true
 ModifiesNothing _ = ⊤
 
 -- Holds if `argument`, the bytes that one call of the port was asked to send, are only NOPs and SYNCNOPs, or the frame
