@@ -1,4 +1,4 @@
-"""Tries each single wrong bit of a reply, and each single transaction that the chip misses, in sessions and restores.
+"""Tries single wrong bits of replies, and single transactions that the chip misses, in sessions and restores.
 
 A run with a fault may end with exit status 0 only if the chip and the journal are right, and must not set a one-time
 bit (LB1 to LB3). If a run fails after it has changed the chip, a restore must succeed. In a reply to 03h, `SAMPLE` bits
@@ -110,7 +110,7 @@ def restore():
 
 
 def restore_tiny():
-    """Returns the job --restore of one sector of TINY64, which only its SFDP describes. It reads the other sectors."""
+    """Returns the job --restore of one sector of TINY64. It also reads the other sectors."""
     old, new = chip_with("TINY64", OLD), chip_with("TINY64", NEW)
     plan = reference.whole_restore("TINY64", reference.restore("TINY64", old, [1]), [1])
     return Work("TINY64", RESTORE_TINY, new, old, b"\0\0", b"\0\0", plan,
@@ -149,7 +149,7 @@ def faults(work, sweep):
     transaction.
     """
     bits = range(8 * sweep.replies)
-    if sweep.opcode == READ_DATA:
+    if sweep.opcode == READ_DATA and len(bits) > SAMPLE:
         differing = {8 * at + bit for at in range(SECTOR) for bit in range(8)
                      if (sector_of(work, work.before)[at] ^ sector_of(work, work.after)[at]) >> bit & 1}
         step = len(bits) // SAMPLE
@@ -172,7 +172,7 @@ def bench_of(program, folder, work, scale=0.0):
 
 
 def try_right(program, name):
-    """Runs a job without a fault, and checks its frames. Returns nothing, or the lines of a failure."""
+    """Runs a job without a fault, and checks frames, chip and journal. Returns nothing, or the lines of a failure."""
     job = next(it for it in sorted(WORKS, key=len, reverse=True) if name.startswith(it))
     work = WORKS[job]()
     with tempfile.TemporaryDirectory() as folder:

@@ -1,8 +1,8 @@
 """Cases of a clip that slips off the chip while the program waits for the chip.
 
 Each received byte is then FFh, which looks like BUSY. After 256 polls that return only FFh, the program reads the ID,
-and the run ends if the ID is FFFFFFh. If a chip is really busy, its other status bits show that, and the program
-continues to wait.
+and the run ends if the ID is FFFFFFh. A busy chip shows other status bits, except if its status 1 is FCh (the last
+case). Then the program doesn't read the ID, and continues to wait.
 """
 import time
 
@@ -72,13 +72,15 @@ def slips_during_a_restore(start):
 def slips_in_a_split_program(start):
     """If the clip slips between two parts of a page program, the session ends with error 12, and a restore succeeds.
 
-    The program splits page programs because this programmer sends at most 64 bytes in a transaction.
+    This programmer sends at most 6 bytes in a transaction, so a part of a program has at most two data bytes.
     """
     old, new = chip_images(FEW)
-    bench = start(data=old, longest_write=64)
+    bench = start(data=old, longest_write=6)
     bench.write("new", new)
     words = ("-w", "new", "--journal", "j")
     check("the run without a loss", bench.run(*words).status, 0)
+    first, second = [out for out, _ in bench.server.log if out[0] == 0x02][:2]
+    check("the second part", second[1:4], (int.from_bytes(first[1:4], "big") + 2).to_bytes(3, "big"))
     bench.chip.data[:] = old
     polls = polls_of(bench)
     bench.remove_journal()
