@@ -1,5 +1,5 @@
-# `make help` lists the targets. README.md says how long `make` and `make demo` take, and docs/TESTING.md how long `make
-# quick` and `make check` take.
+# `make help` lists the targets that have a `##`. README.md says how long `make` and `make demo` take, and
+# docs/TESTING.md how long `make quick` and `make check` take.
 
 PROGRAM := crates/flashnor/out/flashnor
 HARDWARE := crates/flashnor_serprog/out/flashnor_serprog
@@ -7,8 +7,8 @@ BENCH := crates/bench/out/bench
 SCRATCH := $(CURDIR)/out/demo
 WORDS := -p dummy:emulate=TINY64,image=chip.bin -w new.bin --rehearse 25
 
-# The sources of a program. The directories are included because a directory is newer than the program if a file was
-# removed from it.
+# The sources of all crates, on which both built programs depend. The directories are included because a directory
+# becomes newer if one of its files is removed.
 SOURCES := crates.txt HANDLES \
   $(shell find $(wildcard crates/*/src crates/*/specs crates/*/proofs) -type d -o -name '*.rt' -o -name '*.antt')
 
@@ -21,13 +21,13 @@ BUILT_HARDWARE := $(subst $(blank),\ ,$(HARDWARE))
 is_new = @newer=$$(find $(SOURCES) -maxdepth 0 -newer '$(1)' -print -quit) && \
 	if [ -n "$$newer" ]; then echo "$(1) is older than $$newer" >&2; exit 1; fi
 
-# `make install` installs below these. Both commands go to bin: flashnor works only on files, and flashnor-serprog on a
-# serial port, which the members of a group (often `dialout`) may open. The latter is a script that sets up the port and
-# runs the program in libexec.
+# `make install` installs below PREFIX, in DESTDIR if that is set. Both commands go to bin: flashnor works only on
+# files, and flashnor-serprog on a serial port, which the members of a group (often `dialout`) may open. The latter is a
+# script that sets up the port and runs the program in libexec.
 PREFIX ?= /usr/local
 BELOW = PREFIX='$(PREFIX)' DESTDIR='$(DESTDIR)'
 
-# The contents of the archive of `make dist`.
+# The version, the directory and the files of the archive of `make dist`.
 VERSION := 1.0
 DIST := out/flashnor-$(VERSION)
 MANUALS := man/flashnor.8 man/flashnor-serprog.8 man/flashnor-journal.5
@@ -35,7 +35,7 @@ COMPLETION := completion/flashnor.bash
 # README, the licence if there is one, and each page that README or a manual page names.
 PAGES = README.md $(wildcard LICEN[CS]E*) $(sort $(shell grep -ohE '[A-Za-z_-]+(/[A-Za-z_-]+)*\.md' README.md $(MANUALS)))
 
-# Fills the directory (1) with what is installed and packed.
+# Fills the directory (1) for `make install` or `make dist`.
 pack = scripts/pack.sh $(1) '$(PROGRAM)' '$(HARDWARE)' $(MANUALS) $(COMPLETION) $(sort $(PAGES))
 
 # The cases that `make storm` runs: the seed, or the first and the last one (1-6), and the number of cases of each seed.
@@ -57,7 +57,7 @@ build: toolchain files ## proves and builds flashnor only, for emulated chips
 	@scripts/proved.sh crates/flashnor/out/flashnor env -C crates/flashnor \
 	  rt run -- -p 'dummy:emulate=TINY64,image=$(SCRATCH)/chip.bin' -w '$(SCRATCH)/new.bin' --rehearse 25
 
-# This also runs the program once, for its help, which is printed only if the run fails.
+# This also runs the program once, for its help, which is printed only if the command fails.
 hardware: toolchain ## proves and builds flashnor-serprog only, for real boards
 	@echo "This proves flashnor-serprog and all crates below it: a few minutes if flashnor is proved already."
 	@mkdir -p '$(SCRATCH)'
@@ -77,7 +77,7 @@ toolchain:
 	@command -v rt > /dev/null || \
 	  { echo "There is no 'rt': it comes with Rattle's kit, whose folder bin has to be in PATH." >&2; exit 1; }
 
-# A chip file whose byte 0 is 00h, an image whose byte 0 is 01h, and FFh in all other bytes of both.
+# Creates a chip file whose byte 0 is 00h and an image whose byte 0 is 01h. All other bytes of both are FFh.
 files:
 	@mkdir -p '$(SCRATCH)'
 	@head -c 65535 /dev/zero | tr '\000' '\377' > '$(SCRATCH)/rest'
@@ -121,7 +121,7 @@ install: $(BUILT) $(BUILT_HARDWARE) ## installs programs, manual pages, pages an
 uninstall: ## removes these files again
 	@$(BELOW) scripts/archive/install.sh --remove
 
-# Before the first case this proves and builds storm.
+# This first proves and builds storm, and runs the first case of each seed once without its output.
 storm: toolchain ## compares random sessions with the reference implementation: make storm SEED=7 COUNT=5000
 	@cd crates/storm && rt run -- $(SEED) 1 > /dev/null
 	@crates/storm/out/storm $(SEED) $(COUNT)
@@ -132,7 +132,7 @@ sweep: $(BUILT) ## runs the program with each of its allocations refused in turn
 kill: $(BUILT) ## kills the program at its calls on files, and makes them fail (with a C compiler)
 	@tests/kill/run.sh '$(PROGRAM)'
 
-# An archive for users without a prover: what scripts/pack.sh packs, PROVED-WITH, and the checksum of each file.
+# An archive for users without a prover: what scripts/pack.sh packs, PROVED-WITH, and the files' checksums.
 # PROVED-WITH contains the lines of both programs. If a program's own PROVED-WITH is missing, or belongs to another
 # program, that program is proved and built first. The same files and commit give the same archive, byte by byte.
 dist: $(BUILT) $(BUILT_HARDWARE) ## packs an archive with both programs, their pages, an installer and PROVED-WITH

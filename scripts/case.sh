@@ -1,9 +1,9 @@
 #!/usr/bin/env bash
 # scripts/case.sh NAME: plays the case NAME of crates/transcripts/stdin.
 #
-# If the built program of transcripts is newer than its sources, this program plays the case. Otherwise the program is
-# compiled without a proof, which takes about half a minute. The script prints what the program prints (a failure names
-# the line of `stdin`). Its exit status is 0 only if the case was played and passed.
+# If the built program of transcripts is newer than the sources of all crates, this program plays the case. Otherwise
+# the program is compiled without a proof, which takes up to a minute. The script prints what the program prints (a
+# failure names the line of `stdin`). Its exit status is 0 only if the case was played and passed.
 set -euo pipefail
 
 name=${1-}

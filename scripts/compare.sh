@@ -3,12 +3,12 @@
 #
 # Both programs identify the chip, read it, and write a random image to a chip full of FFh. Both verify what they wrote;
 # flashnor also writes a journal, from which it then restores its chip. Both write and erase two regions. If flashrom
-# lists protection ranges, flashnor must list the same ranges. For each value of the protection bits that the datasheets
-# define, both must print the same protected range. The exit status is 1 if anything differs.
+# lists protection ranges, flashnor must list the same ranges. Then, for each value of the protection bits that the
+# datasheets define, both must also print the same protected range. The exit status is 1 if anything differs.
 #
-# The script prints each time of flashnor divided by that of flashrom and, for reading, also by that of `cp`. Each time
-# is the best of three rounds (or of ROUNDS). A ratio above its goal is marked, but is no failure. The merge gate
-# doesn't run this script, because it needs flashrom.
+# The script prints the times of flashnor for identification, reading and writing, divided by those of flashrom and, for
+# reading, also by that of `cp`. Each time is the best of three rounds (or of ROUNDS). A ratio above its goal is marked,
+# but is no failure. The merge gate doesn't run this script, because it needs flashrom.
 set -euo pipefail
 
 top=$(cd "$(dirname "$0")/.." && pwd)
@@ -105,7 +105,8 @@ write_all() {
     same nor.bin rom.bin
 }
 
-# measure NAME GOAL COMMAND..: runs the command in each round, and prints the ratio of the best times, and the goal.
+# measure NAME GOAL COMMAND..: runs the command in each round, and prints the ratio of the best times, and the goal if
+# it isn't empty.
 measure() {
     local name=$1 wanted=$2 best_rom='' best_nor='' round
     for ((round = 0; round < rounds; round++)); do
@@ -126,8 +127,8 @@ restore() {
     echo "restored from the journal of $(stat -c %s journal) bytes: the same bytes as before"
 }
 
-# Writes and erases two regions of a random chip, of which one is smaller than a sector. The written bytes are those of
-# the blank image. All other bytes must stay.
+# Writes the blank image to two regions of a chip with random bytes, and erases these regions of another such chip. One
+# region is smaller than a sector. Both programs must leave the same bytes, and so must a write and an erase.
 regions() {
     printf '00000800:000008ff small\n00123000:00124567 large\n' > layout
     both_hold random
@@ -185,7 +186,8 @@ codes() {
     echo "range under each protection code: the same for $same, undefined for $((64 - same))"
 }
 
-# sorted FILE: prints the pairs of hexadecimal numbers in a file, each with eight digits, in ascending order.
+# sorted FILE: prints the pairs of hexadecimal numbers in a file, each with eight digits, in ascending order and without
+# duplicates.
 sorted() {
     local start length
     while read -r start length; do

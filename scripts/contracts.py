@@ -1,8 +1,8 @@
-"""Reads the contracts of the sources for scripts/promises.py: the functions with their clauses, and the definitions
-that each clause names.
+"""Reads the contracts of the sources for scripts/promises.py and paths.py: the functions with their clauses, and the
+definitions that each clause names.
 
-A clause names the definitions that occur in its term, but not those in its premises. It also names what these
-definitions name in turn (unless they are records), and the definitions in the fields of a record.
+A clause names the definitions that occur in its term, except in its premises. It also names what these definitions name
+in turn: in their equations or, for a record with arguments, in its fields.
 """
 import functools
 import re
@@ -11,14 +11,14 @@ import rust
 from sources import CRATES, Word, clauses_of, find, source, tokens_of
 
 OPENING, CLOSING = "([{", ")]}"
-# A premise ends to the left at one of these tokens. For example, the premise of `λ x. a → b` is only `a`, which follows
-# the dot.
+# A premise begins after one of these tokens, or at the start of its brackets. For example, the premise of `λ x. a → b`
+# is only `a`, which follows the dot.
 FENCES = set("| ↦ ; = . ,".split())
 
 
 class Call:
-    """A function: its name (with its type, if it has one), the trait that declares it, its source and item, and its
-    clauses."""
+    """A function: its source and item, its name (with its type, if it has one), the trait that declares it (if any),
+    whether it is a test, its place, and its clauses."""
 
     def __init__(self, code, item):
         self.code, self.item = code, item
@@ -57,7 +57,8 @@ def files(folder):
 
 @functools.cache
 def calls():
-    """Returns all functions by their names. A function of a type is listed both with the type's name and without it."""
+    """Returns all functions by their names. A function of a type or trait is listed both with the name of this
+    type or trait and without it."""
     found = {}
     for path in files("src"):
         code = source(path)
@@ -80,7 +81,8 @@ def words():
 
 @functools.cache
 def names():
-    """Returns all names of the sources: functions, definitions, types, clauses, fields and must-fail edits."""
+    """Returns names of the sources: of functions, definitions, types, traits, clauses and mutants, and of fields and
+    arguments on lines of their own."""
     found = {path.stem for path in CRATES.glob("*/must-fail/*.edit")} | set(calls()) | set(words())
     for path in files("src") + files("specs"):
         text = source(path).text
@@ -92,8 +94,8 @@ def names():
 
 
 def conclusion(term):
-    """Returns the tokens of a term without its premises: in each pair of brackets, the tokens before a `→` are left
-    out."""
+    """Returns the tokens of a term without its premises: in each pair of brackets, the tokens before a `→`, back to
+    one of FENCES, are left out. Fields after a dot are left out, too."""
     levels = [[]]
     for token, is_field in tokens_of(term):
         if token in OPENING:
@@ -125,8 +127,8 @@ def named_in(place, term):
 
 @functools.cache
 def fields(word):
-    """Returns the fields of a record that has arguments, each with its type. Returns none for a record without
-    arguments, because its fields are values, not statements."""
+    """Returns the fields of a record that has arguments, each with its type. Returns none for other definitions; the
+    fields of a record without arguments are values, not statements."""
     if word.kind != "record" or not re.search(rf" {re.escape(word.name)} [({{]", word.code[0]):
         return {}
     parts = re.split(r"\n(?=  pub )", "\n".join(word.code))[1:]

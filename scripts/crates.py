@@ -2,9 +2,10 @@
 """scripts/crates.py: checks that crates.txt lists exactly the libraries that the sources of each crate use.
 
 The sources are the files of src/, specs/ and proofs/. A source uses a library if it has `use Rattle.LIBRARY..`, or a
-path that begins with `LIBRARY::`; comments don't count. In crates.txt, a crate must be listed below all crates that it
-uses. Each line must list these crates from the lowest line of the file to the highest, and then the libraries of the
-kit in alphabetical order. For each wrong line the script prints the right one, and ends with exit status 1.
+path that begins with `LIBRARY::`; comments don't count. Libraries that no line of crates.txt names, such as std, are
+ignored. In crates.txt, a crate must be listed below all crates that it uses. Each line must list these crates from the
+lowest line of the file to the highest, and then the libraries of the kit in alphabetical order. For each wrong line the
+script prints the right one, and ends with exit status 1.
 """
 import re
 import sys

@@ -5,12 +5,12 @@
 # be raw: a terminal that changes bytes (such as 0Dh to 0Ah) would change the bytes that are sent to the chip and read
 # from it.
 #
-# If there is no stty, or stty can't set up the port, the script prints a message and doesn't run the program. If stty
-# can't read the settings of the device, the device isn't a terminal or can't be opened. The program then runs, and
-# prints its own fault. FLASHNOR_SERPROG_STTY=no in the environment leaves the port as it is.
+# If dev= names a character device, and stty is missing or can't set it up, a message is printed, and the program
+# doesn't run. If stty can't read the settings of the device, the device isn't a terminal or can't be opened. The
+# program then runs, and reports a fault itself. FLASHNOR_SERPROG_STTY=no in the environment leaves the port as it is.
 
 # The program is where `make install` puts it, or next to this script, as in the archive of `make dist`. The dot
-# preserves a newline at the end of the name.
+# preserves a newline at the end of the path that readlink prints.
 here=$(readlink -f "$0" && echo .) || {
     echo "flashnor-serprog: readlink -f doesn't find this script, so the program isn't found" >&2
     exit 1

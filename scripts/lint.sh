@@ -4,11 +4,11 @@
 # The linter of shell scripts is shellcheck. The C compiler (with warnings) checks C files, and Python and pyflakes check
 # Python files. If they are installed, mandoc checks manual pages, and man checks that these fit 80 columns. A file
 # outside crates/ must be executable if and only if its first line names an interpreter. The completion must not use
-# features that bash 3.2 doesn't have.
+# the features of bash 4 that `is_old_bash` lists.
 #
-# If another linter isn't installed, the script prints a line `skipped: ..`. The last line is `N passed, M failed`, in
-# which each file counts once for each check, and the exit status is 1 if a check failed. Without git, which lists the
-# files, nothing is checked.
+# If shellcheck, the C compiler or pyflakes isn't installed, the script prints a line `skipped: ..`. The last line is `N
+# passed, M failed`, in which each file counts once for each check, and the exit status is 1 if a check failed. If git
+# doesn't track crates.txt, nothing is checked, because git lists the files.
 set -uo pipefail
 
 cd "$(dirname "$0")/.." || exit
@@ -68,8 +68,8 @@ is_python() {
 for name in sys.argv[1:]: ast.parse(open(name, encoding="utf-8").read(), name)' "$@"
 }
 
-# Succeeds if the file uses no feature of bash 4: negative indices, arrays by reference, reading lines into arrays, case
-# conversion, `|&`, `&>>`, `;&` and `;;&`.
+# Succeeds if the file uses none of these features of bash 4: negative indices, associative arrays, name references,
+# reading lines into arrays, case conversion, `|&`, `&>>`, `;&` and `;;&`.
 is_old_bash() { ! grep -nE '\[-[0-9]+\]|(declare|local|typeset) -[a-z]*[An]|mapfile|readarray|\$\{[a-z_]+[,^]|\|&|&>>|;;?&' "$1"; }
 
 # Succeeds if each line of the manual page fits a terminal of 80 columns.

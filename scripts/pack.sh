@@ -1,6 +1,7 @@
 #!/usr/bin/env bash
 # scripts/pack.sh DIRECTORY PROGRAM HARDWARE FILE..: fills a new directory with the contents of the archive of `make
-# dist`. These are both programs, the script flashnor-serprog, the installer, and the given files under their own names.
+# dist`, except PROVED-WITH and SHA256SUMS, which the Makefile adds. These are both programs, the script
+# flashnor-serprog, the installer, and the given files under their own names.
 #
 # The directory gets a README for users without Rattle's kit. So the project's README moves to docs/, and the links on
 # the pages are changed accordingly.

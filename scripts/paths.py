@@ -2,13 +2,15 @@
 """scripts/paths.py: checks that the files and names on the pages exist.
 
 The pages are README.md, CONTRIBUTING.md, CHANGELOG.md, docs/, the README files of tests/, the manual pages, and the
-header comment (`//!`) of each file of crates/*/src. A word is checked as a path if it ends as the name of a file does,
-or begins with the name of a directory other than `out`, which has built files. In a path, `*` and a word in capitals
-such as `NAME` match anything. A word such as `specs/Chip` is a file of a crate that its line or section names or, in a
-header comment, of the comment's crate.
+header comment (`//!`) of each file of crates/*/src. A word is checked as a path if it ends with one of ENDINGS, or
+begins with a directory of FOLDERS or the name of a crate. Words that begin with `out/`, which has built files, are not
+checked. In a path, `*` matches anything, and so does a word of at least four capitals such as `NAME` that isn't before
+`.md`. A word such as `specs/Chip` is a file of a crate that its section's title, or its line before the word, names (of
+any crate if they name none) or, in a header comment, of the comment's crate.
 
-In header comments and on the pages of NAMING, each name in backticks must be a name in the sources, of a file, or of a
-library. For each missing file or name, the script prints the line where it occurs, and ends with exit status 1.
+In header comments and on the pages of NAMING, each name in backticks must be a name in the sources, the name of a file
+or directory, or a word of crates.txt. For each missing file or name, the script prints the line where it occurs, and
+ends with exit status 1.
 """
 import fnmatch
 import functools
@@ -71,7 +73,8 @@ def is_path(word):
 
 @functools.cache
 def there():
-    """Returns the paths of all files and directories of the repository, relative to its top, except built files."""
+    """Returns the paths of all files and directories of the repository, relative to its top, except those in `out`,
+    `.git` and `__pycache__`."""
     found = set()
     for folder, folders, files in os.walk(TOP):
         folders[:] = [name for name in folders if name not in ("out", ".git", "__pycache__")]
@@ -81,7 +84,7 @@ def there():
 
 def is_there(word, folders):
     """Returns whether a word is the path of a file or a directory in one of `folders`. A name without `/` may also be
-    in a directory below them."""
+    in a directory below them. A path without a dot may lack its ending `.antt` or `.rt`."""
     name = word.rstrip("/")
     for ending in ("", ".antt", ".rt") if "." not in name else ("",):
         wanted = [os.path.normpath(os.path.join(folder, name + ending)) for folder in folders]
@@ -153,7 +156,8 @@ def gaps():
 
 
 def main():
-    """Checks all pages. Prints each missing path and name, and the numbers of paths and names that were checked."""
+    """Checks all pages. Prints each missing path and name, the messages of `gaps`, and the numbers of paths and names
+    that were checked."""
     told = {page: list(check(page)) for page in pages()}
     named = {page: list(check_names(page)) for page in told if page.suffix == ".rt" or page.name in NAMING}
     for page in told:

@@ -7,14 +7,15 @@ In a column `Call, clause`, a cell says which clauses state a promise. It has pa
     `call`, `clause` and `clause`           `call`, `call`: `clause`, `clause`          `law`, `law`
     `call` and `call` of `Type` and `Type`: `clause`, `clause`
 
-A call is a function with a contract, and a law is one without arguments. A definition that a contract uses may take the
-place of a call. A clause is the name of an `ensures` of this call, or a field of a record that an `ensures` names. In
-parentheses after a call or a clause are definitions that it names, fields of such records, and `Definition`: `field`.
-If a name follows other words than a comma, `and` or `with`, it may be a new call.
+A call is a function with a contract. A law is a call that takes no argument and returns nothing. A definition of specs/
+may take the place of a call. A clause is the name of an `ensures` of this call, or a field of a record that an
+`ensures` names. In parentheses after a call or a clause are definitions that it names, fields of those that are
+records, and `Definition`: `field`. If a name follows other words than a comma, `and` or `with`, it may be a new call.
 
 In columns of tests, each name must be a test, a target of the Makefile or a case of transcripts. In all other columns,
-each name in backticks must occur in the sources. For each wrong name, the script prints the line where it occurs, and
-ends with exit status 1.
+each name in backticks must be a name in the sources. In HARDWARE and README, only tables with a column `Call, clause`
+are checked. For each wrong name (in a column `Call, clause`, only for the first one in a cell), the script prints the
+line where it occurs, and ends with exit status 1.
 """
 import functools
 import re
@@ -57,7 +58,7 @@ class Thing:
 
 def add_fields(clauses, words):
     """Adds to `clauses` the fields of all records among these definitions, and among the definitions that they name in
-    turn."""
+    turn. Definitions that only a record names aren't followed."""
     for word in contracts.reached(words, False):
         for name, kind in contracts.fields(word).items():
             clauses.setdefault(name, set()).update(contracts.named_in(word.source, kind))
@@ -85,8 +86,8 @@ def thing_of_word(word):
 
 @functools.cache
 def things(name):
-    """Returns all functions and definitions to which a name may refer. If functions have exactly this name, returns
-    only these, without the functions of types."""
+    """Returns the functions with a contract to which a name may refer or, if there are none, the definitions. If
+    functions have exactly this name, leaves out the functions of types."""
     found = [call for call in contracts.calls().get(name, ()) if call.promises()]
     found = [call for call in found if call.name == name] or found
     if found:
@@ -149,7 +150,7 @@ def with_types(parts):
 
 def subject(name):
     """Returns the functions and definitions to which a name refers, and checks the parts in parentheses after it.
-    Raises Wrong if there are none."""
+    Raises Wrong if there is no such function or definition, or if these parts are wrong."""
     if not NAME.fullmatch(name.text):
         raise Wrong(f"`{name.text}` is no name")
     found = things(name.text)
@@ -182,7 +183,7 @@ def first_that_holds(problems):
 
 
 def inside_of(says, clauses, name):
-    """Checks the parts in parentheses after a name that names the definitions `says`, and has the clauses `clauses`.
+    """Checks the parts in parentheses after `name`, which names the definitions `says` and has the clauses `clauses`.
     Returns the first mistake, or None. After a definition or call and a colon, the parts may name what this definition
     or call names, and its clauses."""
     known = {*clauses, *(word.name for word in says), *(field for word in says for field in contracts.fields(word))}
@@ -283,7 +284,7 @@ def checked(head, cell):
 
 
 def main():
-    """Checks all tables. Prints each mistake, and the number of names that were checked."""
+    """Checks the tables of all pages. Prints the mistakes, and the number of texts in backticks in these tables."""
     count = 0
     for page in PAGES:
         cells = [(number, heads[column], cell, heads) for number, heads, column, cell in texts.cells_of(page)]

@@ -1,10 +1,11 @@
 #!/usr/bin/env python3
-"""scripts/prove.py CRATE: proves a crate and all crates that depend on it, in the order of crates.txt.
+"""scripts/prove.py CRATE: proves a crate and all crates that depend on it (the listed crates), in the order of
+crates.txt.
 
 `rt check` proves each crate, except its tests. It uses what earlier checks kept in `out/`. The crates are proved one
 after the other, because two checks in one clone would wait for each other at the crates on which both depend. A crate
-is tried only if all crates that it uses are proved. If a check fails, its output is printed. The last line has the
-counts, and the exit status is 1 if a crate wasn't proved.
+is tried only if those of the listed crates that it uses are proved. If a check fails, its output is printed. The last
+line has the counts, and the exit status is 1 if a crate wasn't proved.
 """
 import subprocess
 import sys

@@ -1,7 +1,7 @@
 #!/usr/bin/env bash
 # scripts/proved.sh PROGRAM COMMAND..: runs the command, which proves and builds PROGRAM, and then writes PROVED-WITH in
-# the program's directory. PROVED-WITH has the toolchain, the commit (with `-dirty` if sources weren't committed) and
-# the program's checksum.
+# the program's directory. PROVED-WITH has the toolchain, the commit (with `-dirty` if sources weren't committed, and
+# `unknown` if git doesn't track crates.txt) and the program's checksum.
 #
 # The script sets the time of the program to the time at which the command began. A source that was edited during the
 # build is then newer than the program. If the command fails, the script leaves no PROVED-WITH, and ends with the

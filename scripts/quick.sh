@@ -4,8 +4,9 @@
 # The script checks that the sources are formatted, that the pages agree with them, and that each crate compiles. It
 # runs each program as `rt ci` does, with the files `args`, `stdin` and `data/` of its crate. The program must print the
 # contents of `stdout`, and end with the status in `status`. If crates are given, only these are tried, so only they and
-# the crates that they use are compiled. In place of a library without tests, the first program that depends on it is
-# tried. If flashnor or transcripts is built from the current sources, it must pass its cases.
+# the crates that they use are compiled. In place of a library without tests, the first crate of crates.txt that has
+# tests or a program and depends on the library is tried. If flashnor or transcripts is built from the current sources,
+# it must pass its cases.
 #
 # Nothing is proved. If a step fails, the end of its output is printed. The last line has the counts, and the exit
 # status is 1 if a step failed. Some programs and tests would run for minutes in this way: `rows` and `bench` are only
@@ -73,7 +74,7 @@ is_laid_out() {
     fi
 }
 
-# Plays the examples from datasheets with the built program of transcripts.
+# Plays all cases of crates/transcripts/stdin with the built program of transcripts.
 play_transcripts() {
     "$top/crates/transcripts/out/transcripts" < "$top/crates/transcripts/stdin"
 }
@@ -130,7 +131,8 @@ try_crate() {
 export -f has_tests try_crate
 export top most compiled
 
-# Succeeds if a crate that is only compiled did compile. Status 6 of `rt try` means that the run did not end in time.
+# Succeeds if a crate that is only compiled did compile, and its run succeeded or was ended after a second. Status 6 of
+# `rt try` means that the run did not end in time.
 is_compiled() {
     local status
     cat "$work/$1.log"
@@ -140,8 +142,9 @@ is_compiled() {
 }
 
 # Succeeds if a program ended with the status in its crate's file `status` (0 if there is no such file), and printed the
-# contents of `stdout` (nothing if there is no such file). The status of `rt try` doesn't show this, because 1 to 6 may
-# also mean that the program was refused or did not end.
+# contents of `stdout` (nothing if there is no such file). A program in `one_case` must print `1 passed, 0 failed`
+# instead. The status of `rt try` doesn't show this, because 1 to 6 may also mean that the program was refused or did
+# not end.
 is_as_wanted() {
     local wanted=0 expected=/dev/null status
     cat "$work/$1.log"
@@ -167,8 +170,8 @@ count_try() {
     fi
 }
 
-# on_built NAME FILE COMMAND..: runs the command as a step if the program FILE is newer than its sources. If a source
-# was removed, its directory is newer than the program.
+# on_built NAME FILE COMMAND..: runs the command as a step if the program FILE is newer than the sources of all crates.
+# If a source was removed, its directory is newer than the program.
 on_built() {
     local name=$1 file=$2 newer=
     shift 2

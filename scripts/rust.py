@@ -1,14 +1,15 @@
-"""Reads a Rattle source as tokens, so that no script depends on line breaks or on the positions of comments."""
+"""Reads a Rattle source as tokens, which don't depend on line breaks or on the positions of comments."""
 import collections
 import re
 
-# The tokens are comments, strings, characters, names (with primes in clauses) and numbers, lifetimes, arrows, and
+# The tokens are comments, strings, characters, names (with primes in clauses) and numbers, lifetimes, `::`, arrows, and
 # single marks.
 TOKEN = re.compile(r'//[^\n]*|b?"(?:[^"\\]|\\.)*"|b?\'(?:[^\'\\]|\\.)\'|\w+\'*|\'\w+|::|=>|->|[^\s\w]', re.S)
 Token = collections.namedtuple("Token", "text start end")
 # An Item is a declaration, such as a function. `owner` is the type or trait of the block that contains it, and `trait`
-# is the trait that this block implements. Four fields are positions in the text: `first` of the first attribute, `head`
-# of the first word after the attributes, `body` of the body or the semicolon, and `end` after the item.
+# is the trait that this block implements or declares. Four fields are positions in the text: `first` of the first
+# attribute or word, `head` of the first word after the attributes, `body` of the body or the semicolon, and `end` after
+# the item.
 Item = collections.namedtuple("Item", "kind name owner trait attributes first head body end tokens")
 KINDS = "fn struct enum trait impl mod use const static type".split()
 CLOSING = {"(": ")", "[": "]", "{": "}"}
@@ -53,7 +54,8 @@ def end_of_head(tokens, at):
 
 
 def block_of(item):
-    """Returns the type and the trait of an item `impl<..> Trait for Type`, or of a trait."""
+    """Returns the type and the trait of an item `impl<..> Trait for Type`. For `impl<..> Type`, the trait is empty. For
+    a trait, returns its name twice."""
     head = [token.text for token in item.tokens]
     head = head[: head.index("{")] if "{" in head else head
     names, depth, is_bound = [], 0, False
@@ -71,7 +73,8 @@ def block_of(item):
 
 
 def items(tokens, owner="", trait=""):
-    """Yields the items of a text, and those in its `impl` blocks, traits and modules."""
+    """Yields the items of a text, and those in its `impl` blocks, traits and modules, except those that begin with
+    `ghost`."""
     at = 0
     while at < len(tokens):
         first, attributes = at, []

@@ -1,5 +1,5 @@
-"""Reads definitions of specs/ and types and functions of src/, and finds what each of them uses. scripts/statement.py
-and contracts.py import this file.
+"""Reads definitions of specs/ and types and functions of src/, and finds what each of them uses. Other scripts import
+this file.
 
 A name is looked up as the compiler does: first among the names that the definition itself binds, then among those that
 its file defines or imports by `use`.
@@ -30,7 +30,7 @@ CLAUSE = re.compile(r"\b(?:(?:requires|ensures)\*?(?:\s+\w+)?|ghost\s+\w+\s*[:=]
 
 
 def fail(message):
-    """Ends the script with this message, because the page can't be made."""
+    """Ends the script with this message."""
     sys.exit(f"DIFFERS: statement: {message}")
 
 
@@ -38,7 +38,8 @@ def fail(message):
 
 
 def tokens_of(term):
-    """Returns the tokens of a term. Each is a pair with True if the token is a field after a dot."""
+    """Returns the tokens of a term, without comments and strings. Each is a pair with True if the token is a field
+    after a dot."""
     found, is_field = [], False
     for match in TOKEN.finditer(term):
         token, start, end = match.group(), *match.span()
@@ -91,8 +92,8 @@ def free_names(term, bound, stands_for_itself=lambda name: False):
 
 
 class Word:
-    """A definition, type or function: its source and line, its kind and name, the comment above it, its lines, and the
-    heading above it in the file."""
+    """A definition, type, trait or function: its source, kind, name and line, the comment above it, its lines, the
+    heading above it in the file (`part`), and in src/ the text that may have a `use` of its own (`whole`)."""
 
     def __init__(self, source, kind, name, line, comment, part=""):
         self.source, self.kind, self.name, self.line = source, kind, name, line
@@ -100,7 +101,8 @@ class Word:
 
 
 def uses_in(text):
-    """Returns what the `use` lines of a text import: for each local name, the path and the name that it refers to."""
+    """Returns what the `use` lines of a text import: for each local name, the path and the name that it refers to (None
+    if it stands for the path)."""
     found = {}
     for path, names in re.findall(r"\buse ([\w.]+)\.\{([^}]*)\}", text):
         for entry in re.split(r",\s*", names.strip()):
@@ -134,8 +136,8 @@ def is_equation_of(name, line):
 
 
 class Source:
-    """A file below crates/: its definitions and types by their names, what its `use` lines import, and the text of its
-    header comment."""
+    """A file below crates/: its path, its text and lines, its definitions, types, traits and functions by their names,
+    what its unindented `use` lines import, and the text of its header comment."""
 
     def __init__(self, path):
         self.path, self.words = path, {}
@@ -152,7 +154,7 @@ class Source:
 
     def known(self, name, uses):
         """Returns the `Word` to which a name in a term refers, or the name if it belongs to a library or to the
-        language. Ends the script if the file neither defines nor imports the name."""
+        language. Ends the script if it is none of these."""
         name = self.parts.get(name) or next((whole for whole in uses if name in whole.split("◌")), name)
         if name in uses:
             return find(*uses[name])
@@ -164,7 +166,7 @@ class Source:
 class Spec(Source):
     """A file of specs/. Each definition is a line with its name and its type, followed by its equations, fields or
     constructors. A comment directly above one of these belongs to the definition. If a line belongs to no definition,
-    and isn't a comment, a `use`, a `mod` or an `infix`, the script ends."""
+    and isn't blank, a comment, a `use`, a `mod` or an `infix`, the script ends."""
 
     def __init__(self, path):
         super().__init__(path)
@@ -216,7 +218,7 @@ class Spec(Source):
         return [find(self.uses[name][0], field) if name in aliases else self.word(name) for name, field in free]
 
     def names(self, word):
-        """Returns the free names of a definition that has equations. Each equation binds the variables on its left."""
+        """Returns the free names of a definition that isn't a record. Each equation binds the variables on its left."""
         parts = []
         for line in word.code:
             if line.startswith("--"):

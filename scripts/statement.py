@@ -3,16 +3,16 @@
 
 STATEMENT.md has the contracts of HEADLINE, with the definitions and types that these need, at the places in its prose
 that scripts/statement_page.md gives. It only describes the definitions of NAMES, and leaves out fields of the records
-of FIELDS. STATEMENT-FULL.md, which isn't committed, has all of these, and further contracts, in appendices. If a
-definition has only one equation, its signature and its equation are joined.
+of FIELDS. STATEMENT-FULL.md, which isn't committed, has these definitions and the whole records, and further contracts,
+in appendices. In most definitions with only one equation, the signature and the equation are joined.
 
-With --check, the script writes nothing. It compares STATEMENT.md with what it would write, prints each difference, and
-ends with exit status 1 if there is one.
+With --check, the script writes nothing. It compares STATEMENT.md with what it would write, prints at most 20 lines that
+differ (except blank lines), and ends with exit status 1 if there is one.
 
-The script fails in these cases:
+The script also fails in these cases, among others:
 
 - A name isn't found.
-- SUBJECTS doesn't list the file of a definition.
+- SUBJECTS doesn't list the file of a definition in an appendix.
 - docs/NOTATION.md doesn't explain a name of a library.
 - STATEMENT.md is too long.
 """
@@ -88,9 +88,10 @@ def with_fields(word, kept):
 class Part:
     """Contracts and definitions, with all definitions that they need.
 
-    `done` has the definitions that an earlier part has already. `named` has the names of definitions that are only
-    described, and `cut` the records that are shown without some of their fields. `uses` has each definition with those
-    that it uses, and `libraries` the names of libraries.
+    The argument `done` has the definitions that an earlier part has already, `named` the names of definitions that are
+    only described, and `cut` the records that are shown without some of their fields. The field `uses` has each
+    contract and definition with those that it uses (except those of `named` and ELSEWHERE), and `libraries` the names
+    of the language and its libraries that they use.
     """
 
     def __init__(self, roots, done, named=(), cut=()):
@@ -143,7 +144,7 @@ def ranks():
 
 def ready(words, uses, done):
     """Returns those of the definitions `words` that can follow the definitions in `done`, each after those that it
-    uses. The definitions of a file stay together, in the order of the file."""
+    uses. If possible, the definitions of a file stay together, in the order of the file."""
     taken = []
     while can := [word for word in words if word not in taken and uses[word] <= done | set(taken)]:
         same = [word for word in can if taken and word.source is taken[-1].source]
@@ -233,8 +234,8 @@ def names(page, appendices):
 
 
 def check_notation(used):
-    """Ends the script if NOTATION.md doesn't explain a name of a library that the pages use, or explains a name that
-    they don't use."""
+    """Ends the script if NOTATION.md doesn't explain a name of a library that the pages use, or explains a name of
+    three or more letters that they don't use."""
     cells = [(heads[0], cell.replace("\\|", "|")) for _, heads, column, cell in texts.cells_of(NOTATION) if not column]
     known = {head: set(re.findall(r"[^\s()]+", " ".join(" ".join(texts.quoted(cell)) for which, cell in cells
                                                        if which == head))) for head in ("Sign", "Name")}
@@ -246,8 +247,8 @@ def check_notation(used):
 
 
 def check_prose(prose, lines):
-    """Ends the script if a name in backticks in the prose isn't on any of these lines, which are made from the
-    sources."""
+    """Ends the script if a name of three or more letters after a backtick, in the prose, NAMES or NOTES, isn't on any
+    of these lines (except `make`). Also ends it if a text of NAMES begins with another name than its key."""
     known = set(re.findall(r"\w+", "\n".join(lines)))
     named = re.findall(r"`([A-Za-z_]\w\w+)[` ]", "\n".join([prose, *NAMES.values(), *NOTES.values()]))
     if missing := sorted(set(named) - known - {"make"}):
@@ -283,7 +284,8 @@ def pages():
 
 
 def check(path, lines):
-    """Compares a page with these lines, and prints the differences. Returns the number of lines that differ."""
+    """Compares a page with these lines, and prints at most 20 lines that differ. Returns the number of lines that
+    differ, except blank lines."""
     old = (TOP / path).read_text(encoding="utf-8").splitlines() if (TOP / path).exists() else []
     told_apart = list(difflib.unified_diff(old, lines, lineterm="", n=0))[2:]
     others = [line for line in told_apart if line[0] in "-+" and line[1:]]

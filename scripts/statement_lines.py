@@ -1,5 +1,5 @@
-"""Lays out definitions for scripts/statement.py: more compactly than in the sources, and without keywords such as
-`pub`."""
+"""Lays out definitions and functions for scripts/statement.py, more compactly than in the sources. Definitions of
+specs/ lose keywords such as `pub`."""
 import itertools
 import re
 
@@ -44,8 +44,8 @@ def packed(word):
 
 def joined(word):
     """Returns the lines of a definition as the page has them. Keywords, and the type of a record, are left out. If a
-    definition has only one equation, whose arguments are all names, the types of the arguments are put next to these
-    names."""
+    definition without inner comments has only one equation, whose arguments are all names, the types of the arguments
+    are put next to these names."""
     code = [re.sub(r"^((abbrev|unfoldable|pub) )+|^(  )pub ", r"\3", line) for line in word.code]
     if word.kind == "record":
         head, where, fields = "\n".join(code).partition(" : Type 0 where")

@@ -61,8 +61,8 @@ def quoted(text):
 
 
 def cells_of(page):
-    """Returns the cells of all tables on a page. Each has its line, the heads of its table's columns, the number of its
-    column, and its text."""
+    """Returns the cells of all tables on a page, except the heads. Each has its line, the heads of its table's columns,
+    the number of its column, and its text."""
     found, heads = [], None
     for number, line in enumerate(read(page).splitlines(), 1):
         row = [cell.strip() for cell in re.split(r"(?<!\\)\|", line)[1:-1]] if line.startswith("|") else None
@@ -119,8 +119,8 @@ def running(parts):
 
 
 def printed():
-    """Returns the text of all cases in tests/flashnor/cases, without the marks `! `. `make runs` compares the lines in
-    it with what the program prints."""
+    """Returns the text of all cases in tests/flashnor/cases, without the marks `! `. `make runs` compares the
+    expected lines in it with what the program prints."""
     cases = "".join(path.read_text(encoding="utf-8") for path in sorted((TOP / "tests/flashnor/cases").glob("*.case")))
     return re.sub(r"(?m)^! ", "", cases)
 

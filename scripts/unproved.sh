@@ -1,10 +1,10 @@
 #!/usr/bin/env bash
 # scripts/unproved.sh CRATE FILE: compiles the program of a crate without proving it, and writes it to FILE.
 #
-# `rt try` compiles a program, and removes it afterwards. So the script runs `rt` in a directory of links to the kit, in
-# which only the linker is replaced: by a script that calls the kit's linker, and then copies the linked program. This
-# program has the runtime checks of `rt try`, which make it about ten times slower. If it doesn't compile, the script
-# prints what `rt` printed, and leaves FILE as it was.
+# `rt try` compiles a program, and removes it afterwards. So the script runs the `rt` of a directory of links to the kit
+# (and copies of its scripts), in which the linker is replaced by a script that calls the kit's linker, and then copies
+# the linked program. This program has the runtime checks of `rt try`, which make it about ten times slower. If it
+# doesn't compile, the script prints the error output of `rt`, and leaves FILE as it was.
 set -euo pipefail
 
 crate=$1

@@ -1,8 +1,8 @@
 """scripts/agree/faults.py: checks that the pages have the lines that the program prints for results and faults, and the
 numbers of the faults.
 
-The lines of results and errors are read from the sources, since no case prints the errors in REAL. All other lines are
-read from the cases.
+The lines of results and errors are read from the sources (no case prints the errors of REAL), and the lines of other
+faults from the cases.
 """
 import re
 
@@ -10,12 +10,12 @@ import rust
 from texts import finish, help_text, manual, only, printed, quoted, read, rows, rows_of, same, tokens
 
 OPTION = r"(?<![^\s])(?:--?[a-zA-Z][-a-z]*|[a-z]+=)"
-# These errors occur only on real chips, so only flashnor-serprog(8) describes them.
+# These errors occur only on real chips, so flashnor(8) doesn't list them.
 REAL = 1, 2, 13
 
 
 def blank(text):
-    """Returns a text with `_` in place of each number, name and placeholder."""
+    """Returns a text with `_` in place of each number, placeholder and word in capitals (except before ` fault`)."""
     return re.sub(r"(0x)?\{[^}]*\}|\b0x\w+\b|\b[0-9a-f]{6}\b|\b\d+\b|\b[A-Z][A-Z0-9]*\b(?! fault)", "_", text)
 
 
@@ -71,7 +71,7 @@ def take_answers():
 
 
 def take_numbers(page):
-    """Compares the numbers of each kind of fault on its page with those in its source."""
+    """Compares the numbers of each kind of flashnor's faults on its page with those in its source."""
     journal = manual("man/flashnor-journal.5")
     sfdp = [row[0] for row in rows_of("docs/SPECIFICATION.md", "SFDP fault")]
     for kind, path, found in (
@@ -93,7 +93,7 @@ def take_options(page):
 
 
 def main():
-    """Compares all lines and numbers."""
+    """Compares the lines of results and faults, the numbers of faults, and the options of usage faults."""
     page = manual("man/flashnor.8")
     take_lines(page)
     take_answers()

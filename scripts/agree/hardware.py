@@ -1,5 +1,5 @@
-"""scripts/agree/hardware.py: checks that flashnor-serprog(8) has the options, keys, printed lines and faults of the
-program for serial programmers, and that the completion, SPECIFICATION and HARDWARE agree with it in part.
+"""scripts/agree/hardware.py: checks that flashnor-serprog(8) has the options, keys, steps, errors and faults of the
+program flashnor-serprog, and compares parts of the help, the completion, SPECIFICATION and HARDWARE with the sources.
 
 What the program has is read from the sources. tests/serprog runs the examples of the manual page.
 """
@@ -26,14 +26,13 @@ def code(path):
 
 
 def codes(*crates):
-    """Returns the text of all sources of these crates."""
+    """Returns the text of all files of src/ of these crates."""
     return "".join(path.read_text(encoding="utf-8") for crate in crates
                    for path in sorted((CRATES / crate / "src").glob("**/*.rt")))
 
 
 def options():
-    """Returns the options of the program for serial programmers. Each has the list of its spellings, and the name of
-    its value."""
+    """Returns the options of flashnor-serprog. Each has the list of its spellings, and the name of its value."""
     text = code("nor_args/src/options.rt") + code("nor_args/src/options/hardware.rt")
     left_out = re.findall(r'name != "([-a-z]+)"', text)
     renamed = dict(re.findall(r'self\.name == "([-a-z]+)" \{\s*option\.long\("([-a-z]+)"\)', text))
@@ -70,7 +69,7 @@ def take_options(page):
 
 
 def take_chips(_):
-    """Compares the rows of the table that apply to real chips, and the names for `-c`, which `-L` lists."""
+    """Compares the rows of the table of chips, the names for `-c`, and the other names that `-L` lists."""
     text = code("nor_probe/src/table.rt")
     texts = dict(re.findall(r'ChipName::(\w+) => "([^"]+)"', text))
     table = [(texts[name], number.replace(", 0x", " "), int(size.replace("_", "")))
@@ -139,7 +138,7 @@ def take_lines(page):
 
 
 def take_numbers(page):
-    """Compares the numbers of each kind of fault."""
+    """Compares the numbers of each kind of fault, and the exit statuses."""
     faults, lines = code("flashnor_serprog/src/run_fault.rt"), code("nor_console/src/messages.rt")
     named = dict(zip(re.findall(r"(?m)^    (\w+)(?: = 1)?,$", re.search(r"(?s)enum FileFault \{(.*?)\n\}", lines)[1]),
                      rust.numbers_of_variants(tokens("nor_console/src/messages.rt"))))

@@ -1,7 +1,8 @@
-"""scripts/agree/words.py [PROGRAM]: checks that the pages and the completion have the options, keys, chips and version
-of the program.
+"""scripts/agree/words.py [PROGRAM]: checks that the pages and the completion have the options, keys and chips of the
+program, and that the pages have its version.
 
-The script runs the completion. It doesn't read the examples of README and of the manual pages, which `make runs` runs.
+The script runs the completion. It doesn't check the options in the examples of README and of the manual page, because
+`make runs` runs these examples.
 """
 import pathlib
 import re
@@ -95,7 +96,7 @@ def take_chips(told, page, program):
 
 def take_versions(told):
     """Compares the version in the help with the sources, the Makefile, the manual and CHANGELOG. If Rattle's kit is
-    installed, also checks that README names this kit (`rt version`) and its logic, the same for all kits there."""
+    installed, also checks that README names this kit (`rt version`) and its logic."""
     makefile = printed_by("make", "-s", "--no-print-directory", "--eval", "told: ; @echo $(VERSION)", "told")
     same("version", parser=re.findall(r"(?m)^flashnor ([\d.]+):", "\n".join(strings("nor_args/src/options.rt"))),
          help=re.findall(r"\Aflashnor ([^:]*):", told), Makefile=[makefile.strip()],

@@ -3,7 +3,7 @@
 compares both chips.
 
 The script runs random sessions of flashnor on its W25Q64FV, most of which are stopped, and restores from their
-journals, some of which are stopped, too. It sends the trace of each run to QEMU's chip `w25q64`, which has the same
+journals, some of which are stopped, too. It sends the traces of these runs to QEMU's chip `w25q64`, which has the same
 bytes at the start. After each run both chips must have the same bytes, and after the last restore the original bytes.
 The replies of QEMU's chip to 9Fh, 05h and 03h must be those that flashnor received, as far as the trace, or the bytes
 before and after it, show them.
@@ -81,8 +81,8 @@ class Case:
         self.change(self.random.randrange(SIZE - 150_000), self.random.choice([70_000, 140_000]))
 
     def make_part(self):
-        """Makes a layout with four regions, of which the session includes two, and changes bytes in and around all
-        four."""
+        """Makes a layout with four regions, of which the session includes two, and changes bytes near the start and the
+        end of each of the four."""
         starts = [self.random.randrange(SIZE - 60_000) for _ in range(4)]
         ends = [start + self.random.randrange(60_000) for start in starts]
         regions = enumerate(zip(starts, ends))
@@ -113,7 +113,7 @@ class Case:
 
 
 class Bench:
-    """A directory with flashnor's chip, and the counts of what was compared."""
+    """The program, a directory with the files of both chips, and the counts of what was sent and compared."""
 
     def __init__(self, program, folder):
         self.program = program
@@ -145,8 +145,8 @@ class Bench:
         return traces.read_trace(self.path("trace").read_text(encoding="ascii")), ended
 
     def replay(self, chip, before, transactions):
-        """Sends the transactions of a run to QEMU's chip. Returns the differences in the replies, and in the bytes and
-        the status afterwards."""
+        """Sends the transactions of a run to QEMU's chip. Returns the differences in the replies, and in the bytes (the
+        first one) and status 1 afterwards."""
         after = self.path("nor").read_bytes()
         compared, found = traces.play(chip, transactions, before, after)
         self.counts["transactions"] += len(transactions)
@@ -169,7 +169,8 @@ class Bench:
         return chip
 
     def session(self, case):
-        """Runs a session and its restores on both chips, and returns the differences."""
+        """Runs a session and its restores on both chips, and returns the differences. A first run on flashnor's chip
+        only shows where the session can be stopped."""
         self.lay(case)
         whole, _ = self.run([*case.words, "--journal", "journal"])
         changing = [number for number, it in enumerate(whole) if it.sent[0] == traces.SET_LATCH]

@@ -2,9 +2,9 @@
 # scripts/compare/rows.sh [PROGRAM]: runs flashrom and flashnor for most rows of docs/FLASHROM.md.
 #
 # Each row has arguments that flashrom accepts or refuses, and arguments that flashnor accepts or refuses. The script
-# recognizes a refusal by the printed line. Each option that docs/FLASHROM.md names must be tried by a row. The exit
-# status is 1 if a program does something else than the page says. The merge gate doesn't run this script, because it
-# needs flashrom.
+# recognizes a refusal by the exit status and (except for `--programmer`) by the printed line. Each option that
+# docs/FLASHROM.md names before its section on flashnor-serprog must be tried by a row. The exit status is 1 if a
+# program does something else than the page says. The merge gate doesn't run this script, because it needs flashrom.
 set -euo pipefail
 
 top=$(cd "$(dirname "$0")/../.." && pwd)
@@ -36,7 +36,7 @@ wrong() {
 }
 
 # Creates the files that each row needs at the start: chips full of FFh, an equal image and its first 4 KiB, another
-# image whose first 8 KiB differ, and a layout of two regions of 4 KiB.
+# image whose first 8 KiB differ, a text file, and a layout of two regions of 4 KiB.
 lay() {
     rm -rf -- *
     head -c $size /dev/zero | tr '\000' '\377' > image
@@ -49,7 +49,7 @@ lay() {
 }
 
 # run PROGRAM ARGUMENTS..: runs the program with the image as its standard input, and with its output in the file
-# `said`. Notes the options for `all_tried`.
+# `said`. Adds the options to `tried`.
 run() {
     local word
     runs=$((runs + 1))
@@ -57,8 +57,8 @@ run() {
     "$@" < image > said 2>&1
 }
 
-# rom ARGUMENTS..: runs flashrom on a W25Q128FV with the file rom.bin, or on the chip that `chip` names. flashrom also
-# gets its own name for the chip, which makes it faster, unless `any` is set.
+# rom ARGUMENTS..: runs flashrom on a W25Q128FV with the file rom.bin, or on the chip that `chip` names. Unless `any` is
+# set, flashrom also gets `--chip W25Q128.V`, its own name for a W25Q128FV, which makes it faster.
 rom() {
     local named=(--chip W25Q128.V)
     [[ -z ${any+set} ]] || named=()

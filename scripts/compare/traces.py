@@ -44,8 +44,8 @@ def read_trace(text):
 
 
 def wanted_of(transaction, image):
-    """Returns the bytes that the chip must reply, or None if neither the trace nor the bytes `image` of the chip show
-    them."""
+    """Returns the bytes that the chip must reply to 03h (from its bytes `image`), 05h or 9Fh (from the trace). Returns
+    None for another opcode, for 03h if `image` is None, and for 05h or 9Fh if the trace doesn't show the reply."""
     if transaction.sent[0] == READ and image is not None:
         start = int.from_bytes(transaction.sent[1:4], "big")
         return image[start : start + transaction.count]

@@ -17,8 +17,8 @@ class Gate(unittest.TestCase):
     """Tests that run the gate. A part passes if the test doesn't replace it by other commands."""
 
     def run_gate(self, parts, **environment):
-        """Runs the gate with `parts` in place of its scripts, and returns its exit status and the lines that it
-        prints."""
+        """Runs the gate, with the shell commands in `parts` in place of the scripts of these names, and returns its
+        exit status and the lines that it prints."""
         with tempfile.TemporaryDirectory() as folder:
             top = pathlib.Path(folder)
             (top / ".ci").mkdir()

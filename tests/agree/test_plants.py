@@ -213,7 +213,7 @@ HARMLESS = {
 
 
 class Trees:
-    """A number of copies of the files that agree.sh reads. Only one run at a time uses a copy."""
+    """A number of copies of the files that agree.sh reads. No two runs use the same copy at a time."""
 
     def __init__(self, folder, count):
         self.free = queue.Queue()
@@ -228,8 +228,8 @@ class Trees:
 
     def run(self, words, *changes):
         """Changes a copy of the repository, runs a command there, and undoes the changes. Each change has a file, a
-        pattern whose first match is replaced, and the new text. Returns the exit status, or None if a pattern matches
-        nothing, and the lines that report differences."""
+        pattern whose first match is replaced, and the new text. Returns the exit status and the lines that report
+        differences. If a pattern doesn't change its file, returns None and a line that names both instead."""
         tree = self.free.get()
         old = {file: (tree / file).read_text(encoding="utf-8") for file, *_ in changes}
         try:

@@ -8,7 +8,7 @@ from tree import HARDWARE, MANUALS, PROGRAM, SOURCE
 
 def installed(tree, expect):
     """Checks that `make install` installs both programs, built from the current sources, and the pages. If the build
-    fails, or a source is edited during the build, it must install nothing."""
+    fails, or a source is edited during the build, it must install nothing. `make uninstall` must remove all files."""
     root = tree.work / "a root"
     program = root / "usr/local/bin/flashnor"
     install = ("install", f"DESTDIR={root}")

@@ -2,7 +2,8 @@
 # tests/build/clone.sh COMMAND..: runs a command in a new directory that has what a clone of this repository would
 # have: the tracked files as they are here, and nothing that was built.
 #
-# The name of the directory has a space. The exit status is that of the command.
+# The name of the directory has a space. The exit status is that of the command. Outside a git repository the script
+# only prints a line `skipped:`.
 set -euo pipefail
 
 cd "$(dirname "$0")/../.."

@@ -1,11 +1,11 @@
 #!/usr/bin/env python3
-"""tests/build/make.py: tests the Makefile, in a copy of the repository (tree.py). These are the requirements:
+"""tests/build/make.py: tests the Makefile, in a copy of the repository (tree.py). These are the main requirements:
 
 - No target uses a program that is older than its sources.
 - An archive has all pages to which its pages link, and names the toolchain and the commit of each program. Equal files
   result in equal archives.
-- `make quick` runs each program with the files of its crate. It detects a program that doesn't compile, or doesn't
-  print or end as it must, and a library that doesn't compile.
+- `make quick` runs each program with the files of its crate. It detects a program that doesn't compile, or (except
+  bench) doesn't print or end as it must, and a library that doesn't compile.
 - `make case` fails if its case gives no result.
 - `make prove` proves a crate and those that depend on it.
 - `make demo` runs the first example of README, and leaves a program.
@@ -21,8 +21,7 @@ from pathlib import Path
 from archives import complete, installed, lacking, packed, repeated
 from tree import PROGRAM, SOURCE, TOP, Tree
 
-# These commands replace `rt try`. Their last line says that the run ended without a result, although the exit status is
-# 0.
+# These commands replace `rt try`. They print that the run ended without a result, although their exit status is 0.
 SILENT = "echo 'run=no-answer proved=no' >&2; exit 0\n"
 TARGETS = ["install", "dist", "runs", "serprog", "wire", "sweep", "kill", "compare"]
 
@@ -79,8 +78,8 @@ TRIED_FOR = {
 
 
 def tried(tree, expect):
-    """Checks that `make quick` runs each program as `rt ci` does, and detects each program that doesn't compile or
-    doesn't do what it must."""
+    """Checks that `make quick` runs each program as `rt ci` does, and detects programs and libraries that don't
+    compile, and programs that don't do what they must."""
     tree.put("a tree/scripts/agree.sh", "")
     for folder in (*tree.top.glob("crates/*/proofs"), *tree.top.glob("crates/*/specs")):
         shutil.rmtree(folder)

@@ -1,6 +1,6 @@
 """Provides a copy of the repository for the tests of the Makefile, in a directory whose name has a space.
 
-In this copy the command `rt` proves nothing. The programs that it builds print how many times they were built.
+In this copy the command `rt` proves nothing. The programs that `rt run` builds print how many times they were built.
 """
 import os
 import shutil
@@ -60,7 +60,7 @@ chmod 755 program
 
 
 class Tree:
-    """A copy of the repository, with the replaced `rt`."""
+    """A copy of the repository, in which the scripts RT and LINKER replace `rt` and the linker."""
 
     def __init__(self, work):
         self.work = work

@@ -58,8 +58,8 @@ class Step:
 
 @dataclasses.dataclass
 class Case:
-    """A case: its sentence, its files and steps in their order, and the first fault in its form (empty if there is
-    none)."""
+    """A case: the name of its file, its sentence, its files and steps in their order, whether its files are free, and
+    the first fault in its form (empty if there is none)."""
     file: str
     sentence: str
     parts: list = dataclasses.field(default_factory=list)
@@ -77,7 +77,8 @@ class Case:
         return self.parts[-1]
 
     def named(self):
-        """Returns the file to which the current line belongs: the one that the case named last."""
+        """Returns the file to which the current line belongs: the case's last part or, if that is a step, the last file
+        that it names. Raises Wrong if there is none."""
         last = self.parts[-1] if self.parts else None
         if isinstance(last, Step):
             last = last.after[-1] if last.after else None

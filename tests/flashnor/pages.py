@@ -1,10 +1,10 @@
-"""Turns the examples of README.md, HOW, the FAQ and the manual pages into cases.
+"""Turns the examples of README.md, HOW, the FAQ, flashnor(8) and flashnor-journal(5) into cases.
 
-A line that begins with `$` is a step. The steps run in the order of the page. If such a line ends with a backslash, it
-continues on the next line. The lines after a step are its output on standard output and standard error. The pages say
-that chip.bin and new.bin are those of `make files`, so each case begins with this step. If a page shows a file with
-`cat`, the case creates this file. If a page shows a line that begins with `error: ` after a step, the step runs at a
-terminal, because the program prints such lines only to a terminal.
+A line that begins with `$` is a step. The steps run in the order of the page. If such a line of a manual page ends with
+a backslash, it continues on the next line. The lines after a step are its output on standard output and standard error.
+The pages say that chip.bin and new.bin are those of `make files`, so each case begins with this step. If a page shows a
+file with `cat`, the case creates this file. If a page shows a line that begins with `error: ` after a step, the step
+runs at a terminal, because the program prints such lines, except those of usage fault 1, only to a terminal.
 
 tests/flashnor/pages.py TEXT: prints the snippet of flashnor(8), an example without `$`, that contains TEXT. Fails if
 not exactly one snippet contains it.

@@ -2,8 +2,8 @@
 """tests/flashnor/run.py [PROGRAM [FOLDER]]: runs the program on each case of the directory FOLDER, each case in a
 directory of its own. tests/flashnor/run.py PROGRAM README MANUAL..: runs the program on the examples of these pages.
 
-Without FOLDER, the script runs the cases of tests/flashnor/cases, and the examples of README.md, HOW, the FAQ and the
-manual pages (pages.py). It then makes three further checks:
+Without FOLDER, the script runs the cases of tests/flashnor/cases, and the examples of README.md, HOW, the FAQ,
+flashnor(8) and flashnor-journal(5) (pages.py). It then makes three further checks:
 
 - Wrong programs, wrong cases and an empty directory don't pass (self.py).
 - The pages agree with the help and the list of chips that the program prints (scripts/agree.sh).
@@ -167,7 +167,7 @@ def agree(program, tally):
 
 
 def cases_of(folder):
-    """Returns the cases in all files of a directory."""
+    """Returns the cases in all `*.case` files of a directory."""
     files = sorted(Path(folder).glob("*.case"))
     return [case for it in files for case in grammar.read_cases(it.name, os.fsdecode(it.read_bytes()))]
 

@@ -153,7 +153,7 @@ class Tally:
 
     def run(self, what, wanted, told, *words):
         """Runs run.py with the arguments `words`, and counts the result. The exit status and the last line must be
-        `wanted`, and the output must contain each text of `told`."""
+        `wanted` (None stands for any last line), and the output must contain each text of `told`."""
         ran = subprocess.run([sys.executable, TOP / "tests/flashnor/run.py", *words], stdout=subprocess.PIPE,
                              stderr=subprocess.STDOUT, check=False)
         said = os.fsdecode(ran.stdout)

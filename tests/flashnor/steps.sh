@@ -23,11 +23,11 @@ terminal() {
 }
 
 # `closed flashnor ..`: runs the program here, with its three standard streams open. Then it runs the program with each
-# of them closed, alone and together with others, each time in a copy of this directory. Each copy must have the
-# same files afterwards as this directory. A stream that is open must get the same text as here, and standard error
-# first the line of standard output if its text could not be printed. The status must be 1 if a text could not be
-# printed, and else it must be the same as here. Each difference is printed, after the redirections that closed the
-# streams.
+# of them closed, alone and together with others, each time in a copy of this directory. Each copy must have the same
+# files afterwards as this directory. A stream that is open must get the same text as here. If a text could not be
+# printed to standard output, standard error must first get the line `File fault 2: standard output.`. The status must
+# be 1 if a text could not be printed, and else it must be the same as here. Each difference is printed, after the
+# redirections that closed the streams.
 closed() {
     local copies number wanted line status=0
     local ways=('<&-' '>&-' '2>&-' '<&- >&-' '<&- 2>&-' '>&- 2>&-' '<&- >&- 2>&-')
@@ -45,7 +45,8 @@ closed() {
     return "$status"
 }
 
-# run_closed COPY REDIRECTIONS WORDS..: the run in the copy, compared with the run in this directory.
+# run_closed COPY REDIRECTIONS WORDS..: runs the program in the copy with the streams closed by REDIRECTIONS, and prints
+# how this run differs from what `closed` expects.
 run_closed() {
     local copy=$1 way=$2 ended=0 stream text
     shift 2
@@ -71,7 +72,8 @@ run_closed() {
 # meanwhile.c describes it. The command may run the program too.
 meanwhile() { at_moment "$1" "COMMAND=$2" "${@:4}"; }
 
-# `failing MOMENT ERROR flashnor ..`: runs the program, and makes this call fail, and all later ones like it.
+# `failing MOMENT ERROR flashnor ..`: runs the program, and makes the call that MOMENT names fail, and all later ones
+# like it.
 failing() { at_moment "$1" "ERROR=$2" "${@:4}"; }
 
 # `alike NAMES flashnor ..` or `alike NAMES meanwhile ..`: runs the program where the files with these names, which have

@@ -237,7 +237,8 @@ class Runs:
 
 def run(words, place, closed=(), is_full=False, limit=0, terminal=None, output=None):
     """Runs the command `words` in the directory `place`. Returns its standard output, its standard error and its exit
-    status. If `output` names a file, standard output goes to this file, and isn't returned."""
+    status. If `output` names a file, standard output goes to this file. If `terminal` is given, standard error and any
+    other standard output go to this terminal. The texts returned for redirected streams are empty."""
     kept = [os.open("/dev/null", os.O_RDONLY)] * is_full
     kept += [os.dup2(kept[0], it) for it in range(3, 10) if is_full and it != kept[0]]
 

@@ -16,9 +16,9 @@ last_of() {
     echo "$number"
 }
 
-# Prints the mistakes in the order of the calls in `made`. Before image or status is written, the journal and its
-# directory must be synced. After their last write, image and status must be truncated and synced. Image, status and
-# journal must be opened at most once.
+# Prints the mistakes in the order of the calls in `made`. Among others, these rules apply. Before a session writes
+# image or status, it must sync the journal and its directory. After their last write, image and status must be
+# truncated and synced. Image, status and journal must be opened at most once.
 problems_of_order() {
     local name opened first=0 written
     for name in image status journal; do
@@ -64,8 +64,8 @@ check() {
     echo "$1: $((passed - before)) checks"
 }
 
-# Checks that a run that creates its journal syncs the journal's directory, and that a run without an image syncs the
-# image's directory.
+# Checks that a run that creates its journal syncs the journal's directory, and that a run whose image is missing syncs
+# the image's directory.
 check_folders() {
     local name folder
     mkdir -p a/b
@@ -92,9 +92,9 @@ check_folders() {
     fi
 }
 
-# Checks that a session and a restore refuse an image or status that another process has locked, and that a restore
-# refuses a journal that another process has locked exclusively. Also checks that no other process can lock these files
-# while the session or restore works.
+# Checks that a session and a restore refuse a locked image or status, a restore an exclusively locked journal, a
+# verification a locked trace, and a readout a locked file of -r (all skipped without flock). Also checks that no other
+# process can take an exclusive lock on these files while a session, restore or readout uses them (`holds_all`).
 check_locks() {
     local file
     if command -v flock > /dev/null; then
@@ -130,8 +130,8 @@ check_locks() {
     on_tiny+=,trace=trace holds_all read 2 -r out
 }
 
-# is_refused LOCKED NUMBER NAME ARGUMENTS..: runs the program while another process has an exclusive lock on LOCKED. The
-# run must end with file fault NUMBER of NAME, and leave all files as they are.
+# is_refused LOCKED NUMBER NAME ARGUMENTS..: runs the program while LOCKED has an exclusive lock of flock(1), which acts
+# like that of another process. The run must end with file fault NUMBER of NAME, and leave all files as they are.
 is_refused() {
     local status=0 files
     files=$(sum_of ./*)
@@ -259,7 +259,7 @@ has_modes() {
 }
 
 # Checks that a session and its restore keep the owner, permissions and inode of image and status. The session must also
-# keep those of an existing trace, and the restore those of its journal.
+# keep those of an existing trace, and the restore those of its journal and the journal's time of modification.
 keeps_owner() {
     local of='%n %i %u %g %a' before traced=$on_tiny,trace=trace
     begin
@@ -286,8 +286,8 @@ has_stat() {
     counted ${what:+"$what leaves $found, and before there was $wanted"}
 }
 
-# Checks that runs that don't change the chip keep the permissions, owner, inode, length and times of image, status and
-# journal.
+# Checks that runs that don't change the chip keep the permissions, owner, inode, length and times (of the last change
+# of contents and inode) of image, status and an existing empty journal.
 keeps_all() {
     local words before of='%n %i %u %g %a %s %y %z'
     begin

@@ -4,7 +4,7 @@
      one, half, most  it is killed after a write has written one byte, half of its bytes, or all but one
      last             it is killed after a write has written only the last half of its bytes, as a host crash may leave
                       them
-     EIO and others   the call fails with this error, and does nothing
+     EIO and others   the call fails with this error, and does nothing (but a close closes the file)
      EIO+ and others  this call and all later calls on that file fail with this error
      short            a write writes half of its bytes, and all later writes fail with ENOSPC
      part             a read or a write moves half of its bytes, and returns their number
@@ -12,12 +12,12 @@
      there            another process has created the file with four bytes before it is opened
      stranger         another process has renamed the file to NAME.old before the call, and created another one as NAME
      shrunk           another process has truncated the file to ten bytes before the call
-   A run that doesn't end is killed after a minute. The file that CALLS names gets one line per call, with the call and
-   the file's name, and the line `cut` after the call that is interrupted. An open is `make` if it may create the file,
-   else `open` for reading, `over` for writing and `hold` for both. `dup` duplicates a descriptor, `statx` looks at a
-   name, and `fstat` at an open file. Standard input, output and error are not counted. If LOCKS is set, each of image,
-   status, journal, trace and out that another process could lock at the time of a call adds a line `free NAME` after
-   the call's.
+   If CALLS is set, a run that doesn't end is killed after a minute. The file that CALLS names gets one line per call,
+   with the call and the file's name, and the line `cut HOW` after the call that is interrupted. An open is `make` if it
+   may create the file, else `open` for reading, `over` for writing and `hold` for both. `dup` duplicates a descriptor,
+   `statx` looks at a name, and `fstat` at an open file. Standard input, output and error are not counted. If LOCKS is
+   set, each of image, status, journal, trace and out that another process could lock at the time of a call adds a line
+   `free NAME` after the call's.
 
    The file that RECORD names gets what happened to files, for lost.py: a line `WHAT AT SIZE NAME` for each file that
    was created (`make`), each write and length (`write`, `length`), each sync, and each print on standard output. The
@@ -28,10 +28,10 @@
      late NAME        all but the first one are
      early NAME       each is recorded before the changes that it was to make durable.
    Other mutants work differently:
-     without CALL NAME   this call on that file is left out
+     without CALL NAME   this call (fsync, ftruncate or flock) on that file is left out
      lossy NAME          a write to that file that writes only half of its bytes returns the number of all
      unlock NAME         the file is unlocked before each write to it
-     cached NAME         all bytes of that file but one are lost if its close fails. */
+     cached NAME         all bytes of that file except the first are lost if its close fails. */
 #define _GNU_SOURCE
 #include <errno.h>
 #include <fcntl.h>
@@ -48,7 +48,7 @@
 enum { FILES = 64, LENGTH = 4096 };
 
 static const char *calls, *how, *recorded, *locks;
-/* The mutant that WRONG names, and the name that follows it. */
+/* The value of WRONG, and what follows its first word. */
 static const char *fault, *faulty;
 static unsigned long called, nth;
 static int is_cut, is_full;

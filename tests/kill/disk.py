@@ -1,7 +1,7 @@
 """Computes the contents that a disk may have after a host crash.
 
 Changes may reach the disk in any order. Until a file is synced, each of its blocks may be as it was at the last sync or
-after any later write, and so may its length. If the length grew but a block wasn't written, the disk has zeros there.
+after any later change, and so may its length. If the length grew but a block wasn't written, the disk has zeros there.
 Until a directory is synced, each name in it may be as it was at the last sync or after any later change: it may refer
 to an older file, to a newer one, or to none.
 """
@@ -16,7 +16,8 @@ def block_of(content, number):
 
 
 class File:
-    """A file: the bytes that programs see (`seen`), and the lengths and blocks that the disk may have instead."""
+    """A file: the bytes that programs see (`seen`) and those at the last sync (`synced`), and the lengths and changed
+    blocks that the disk may have."""
 
     def __init__(self, content=b""):
         self.seen = bytearray(content)
@@ -28,8 +29,8 @@ class File:
         self.blocks = {}
 
     def changed(self, begin, end):
-        """Adds the current contents of the blocks from `begin` to `end` to the contents that these blocks may have, and
-        the current length to the lengths that the file may have."""
+        """Adds the current contents of the blocks with the bytes from `begin` to `end` (not included) to the contents
+        that these blocks may have, and the current length to the lengths that the file may have."""
         if len(self.seen) != self.lengths[-1]:
             self.lengths.append(len(self.seen))
         for number in range(begin // BLOCK, -(-end // BLOCK)):
@@ -141,8 +142,8 @@ def last(options):
 
 def picks_of(number, chance):
     """Returns the function `picks` (see `Disk.left`) of the crash with this number. In crash 0, the disk has nothing
-    that wasn't synced, and in crash 1 everything. In other crashes, chance decides for each name whether the disk has
-    little or nearly everything."""
+    that wasn't synced, and in crash 1 everything. In other crashes, chance decides for each name how much of its latest
+    contents the disk has."""
     if number < 2:
         return lambda: (first, last)[number]
 

@@ -9,8 +9,8 @@ was_there() { [[ $1 == image && ${from[0]} != - || $1 == status && ${from[1]} !=
 # Succeeds if the file $1 is image or status.
 is_chips() { [[ $1 == image || $1 == status ]]; }
 
-# Succeeds if the call comes after the last call on the journal. From then on, the run writes image and status, and
-# prints its result.
+# Succeeds if the call comes after the last read, write or sync of the journal, and stats that follow it. From then on,
+# the run writes image and status, and prints its result.
 is_late() { (($1 > called)); }
 
 # Succeeds if the call is a stat of an input file, and stats of the image and an open follow it. If this stat fails, the
@@ -157,7 +157,8 @@ is_hint() {
     esac
 }
 
-# Prints a line for each file that is written from call $1 on. In the way `short`, all later writes fail too.
+# Prints a line for each of image, status and trace that is written from call $1 on. In the way `short`, all later
+# writes fail too.
 lines_without_room() {
     local name later
     later=$(printf '%s\n' "${made[@]:$1 - 1}")
@@ -166,8 +167,8 @@ lines_without_room() {
     done
 }
 
-# Succeeds if the run printed only the lines of `lines_of`, and left the right files. It must also have printed its
-# result if the call came after the session (`is_late`), or only wrote or truncated the trace.
+# Succeeds if the run printed the lines of `lines_of`, and left the right files. If the call is late (`is_late`), or
+# wrote or truncated the trace, the run must also have printed its usual result.
 is_told() {
     local printed='' faults
     faults=$(lines_of "$@")
@@ -241,8 +242,9 @@ is_replaced() {
 # Succeeds if the run ended as it must after this call was interrupted in this way. In these cases it must end as if the
 # call had succeeded:
 # - A close failed: the standard library ignores this error, and all files were synced before.
-# - A read or write moved only a part of its bytes, or failed with EINTR: the program makes the call again.
-# - A directory can't be opened (EACCES, EPERM), or its file system can't sync it (EINVAL, EOPNOTSUPP, ENOSYS).
+# - A read or write moved only a part of its bytes, or any call failed with EINTR: the program makes the call again.
+# - Another process appended bytes to the file (`grown`): the program truncates the file.
+# - The directory `.` can't be opened (EACCES, EPERM), or its file system can't sync it (EINVAL, EOPNOTSUPP, ENOSYS).
 # - The file system has no locks (ENOLCK, EOPNOTSUPP, ENOSYS).
 # - A stat or fstat failed whose result is only a hint (`is_hint`).
 ended_rightly() {

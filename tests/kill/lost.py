@@ -2,10 +2,11 @@
 """tests/kill/lost.py PROGRAM LIBRARY [RUN [EVENT CHOICE]]: tests host crashes while flashnor works.
 
 Each story of stories.py is a chip in files, with successive runs of PROGRAM on this chip. LIBRARY, the compiled cut.c,
-records the changes that a run makes to files. After each of these events the host crashes, and disk.py computes what
-the disk may hold: nothing that wasn't synced, everything, or one of CHOICES random choices. These depend only on SEED
-and on the name of the crash. An earlier run may have left writes unsynced, and these are included. Crashes of a run
-that leave equal disks are tried once. After each crash, the test follows RECOVERY in flashnor(8):
+records each change that a run makes to files, and each print. After each of these events the host crashes, and disk.py
+computes what the disk may hold: nothing that wasn't synced, everything, or one of CHOICES random choices. These depend
+only on SEED and on the name of the crash. An earlier run may have left writes unsynced, and these are included. Crashes
+of a run that leave equal disks and must meet the same demands are tried once. After each crash, the test follows
+RECOVERY in flashnor(8):
 
   - If the digest of the journal is right, `--restore` must end with status 0, and image and status must be as before
     the session. If one of these files didn't exist then, `--restore` may report that it has the wrong length. The test
@@ -15,9 +16,11 @@ that leave equal disks are tried once. After each crash, the test follows RECOVE
   - If the run printed `Done`, image and status must be as the run had to make them on every disk that is possible, and
     the journal must restore the original chip.
 
-After some crashes from which the journal restores the chip, and after some kills, the host also crashes after each
-event of the restore. If WRONG names a mutant of cut.c, a story ends with the first run that loses a chip. The last line
-has the counts. The exit status is 1 if a chip was lost, or if there were too few crashes.
+Exception: if another program left the chip's files unsynced, the first crashes of the run may lose them (`lose`). After
+some crashes from which the journal restores the chip, and after some kills, the host also crashes after each event of
+the restore. If WRONG names a mutant of cut.c and a chip was lost, the story ends before the next such restore. The last
+line has the counts. The exit status is 1 if a chip was lost, a run failed without a crash, or there were too few
+crashes.
 """
 import collections
 import concurrent.futures
@@ -38,10 +41,11 @@ from stories import DONE, Step, images, stories
 SEED = int(os.environ.get("SEED", "1"))
 CHOICES = int(os.environ.get("CHOICES", "16"))
 WRONG = os.environ.get("WRONG", "")
-# The host also crashes during the restore after at most AGAIN crashes of each run, and after at most AGAIN of its
-# kills.
+# The host also crashes during the restore after at most AGAIN crashes of each run of a story, and after at most AGAIN
+# kills of this run.
 AGAIN = 3
-# These are the kinds of crashes. Each kind must occur, and there must be at least LEAST crashes.
+# These are the kinds of crashes. In a run of all stories without a mutant, each kind must occur, and there must be at
+# least LEAST crashes.
 KINDS = ("without a whole journal", "with one", "done")
 LEAST = 3000
 REFUSAL = re.compile(rb"Error 15: journal fault [1-7]\.\n")
@@ -52,7 +56,7 @@ class Lost(Exception):
 
 
 def is_whole(journal):
-    """Returns whether a journal ends with the SHA-256 digest of all bytes before the digest."""
+    """Returns whether a journal has at least 61 bytes, and ends with the SHA-256 digest of all bytes before it."""
     return journal is not None and len(journal) > 60 and hashlib.sha256(journal[:-32]).digest() == journal[-32:]
 
 
@@ -102,15 +106,15 @@ class Bench:
             raise Lost(f"{' '.join(words)} doesn't come to an end") from it
 
     def record(self, folder, words):
-        """Runs the program, and returns its result and the records of its changes to files (cut.c)."""
+        """Runs the program, and returns its result and the records that cut.c wrote (changes, syncs and prints)."""
         path = tempfile.mktemp(dir=self.folder)
         ended = self.run(folder, words, LD_PRELOAD=self.library, RECORD=path, WRONG=WRONG, CALL="0")
         return ended, read_record(path) if os.path.exists(path) else []
 
 
 class Machine:
-    """A host crash: the files that it left, whether `Done` was printed before, and whether another program may have
-    caused the state of the chip (`is_excused`)."""
+    """A host crash: its name (`place`), the files that it left, whether `Done` was printed before, and whether another
+    program may have caused the state of the chip (`is_excused`)."""
 
     def __init__(self, place, files, is_done, is_excused):
         self.place, self.files, self.is_done, self.is_excused = place, files, is_done, is_excused
@@ -145,7 +149,7 @@ class Run:
         return list(found.values())
 
     def work(self):
-        """Runs the step, and makes its recorded changes on the disk. Yields after each change."""
+        """Runs the step, and makes its recorded changes on the disk. Yields after each record, that is, each event."""
         with self.bench.folder_with(self.disk.seen()) as folder:
             ended, records = self.bench.record(folder, ["-p", self.chip.programmer + self.step.keys, *self.step.words])
             left = files_of(folder)
@@ -233,8 +237,8 @@ def runs_of(bench, story):
 
 
 def leave_unsynced(disk, files):
-    """Gives the files on the disk these contents. Programs still see the present contents, as if these hadn't been
-    synced."""
+    """Gives the files on the disk these durable contents. Programs still see the present contents, as if the present
+    ones hadn't been synced."""
     for name, content in files.items():
         file = disk.file(name)
         disk.put(name, content)
@@ -279,7 +283,7 @@ class Account:
         print(f"kill: {place}: {problem}", file=sys.stderr)
 
     def add(self, run):
-        """Checks the crashes of a run, and prints the first one that loses the chip. Returns all crashes of the run."""
+        """Checks the selected crashes of a run, and prints the first one that loses the chip. Returns all crashes."""
         machines = run.machines()
         asked = [it for it in machines if self.is_asked(it.place)]
         first = None
@@ -293,7 +297,8 @@ class Account:
         return machines
 
     def tell(self, bench, story):
-        """Runs a story, and prints its counts. For a mutant, the story ends with the first run that loses the chip."""
+        """Runs a story, and prints its counts. If a mutant lost a chip, the story ends before the next restore of
+        `runs_again`, and prints no counts."""
         before, runs = self.kinds.copy(), 0
         for run in runs_of(bench, story):
             machines = self.add(run)

@@ -1,17 +1,17 @@
 #!/usr/bin/env bash
-# tests/kill/run.sh [PROGRAM [RUN [CALL HOW]]]: the crash test. Kills flashnor at each of its calls on files, and makes
-# each of these calls fail. RUN selects one run by its name, CALL one call of the run by its number, and HOW one of the
-# ways of cut.c in which this call is interrupted.
+# tests/kill/run.sh [PROGRAM [RUN [CALL HOW]]]: the crash test. Kills flashnor at its calls on files, and makes these
+# calls fail, as the function `ways` says. RUN selects one run by its name, CALL one call of the run by its number, and
+# HOW one of the ways of cut.c in which this call is interrupted (for a run `lost/..`, an event and a choice).
 #
-# There are ten sessions, each on a chip whose files have given bytes, ten restores from their journals, a read and a
+# There are ten sessions, each on a chip with given files (or none), ten restores from their journals, a read and a
 # rehearsal. An uninterrupted run must print and leave what its line at the end of this script says. A run with one
 # interrupted call (laws.sh) must meet these requirements:
-#   - If it is killed, it has printed nothing before all files are written. Otherwise it prints its usual result, or the
-#     line for the failure.
+#   - If it is killed, it has printed nothing before all files are written. Otherwise it prints its usual result, the
+#     lines for the failure, or both.
 #   - Each file that could be written is as it must be, including the trace and the file of -r.
 #   - The steps of RECOVERY in flashnor(8) work. Either `--restore` ends with status 0, and image and status are then as
-#     before the session. Or `--restore` reports an incomplete journal, and image and status are still as before the
-#     session.
+#     before the session. Or the journal is missing, or `--restore` reports that it is incomplete, and image and status
+#     are still as before the session.
 # If a run fails, its first failure is printed with the command that repeats it (if ALL is set, each failure), and the
 # exit status is 1.
 #
@@ -66,7 +66,8 @@ fail() {
     finish
 }
 
-# The program may import only functions on files that cut.c intercepts. No other call could be interrupted.
+# The program may import only those functions on files that cut.c intercepts, because no other call could be
+# interrupted.
 changing='open|creat|write|trunc|sync|rename|link|remove|fallocate|splice|tee|sendfile|copy_file|mmap|temp|syscall'
 changing+='|chmod|chown|utime|mkdir|rmdir|mknod|mkfifo|lock|stat|seek|dup|fcntl'
 files=(image status trace out journal)
@@ -78,7 +79,7 @@ others=$(awk '{ sub(/@.*/, "", $NF); print $NF }' ../symbols | grep -E "$changin
 # bytes COUNT VALUE: prints COUNT bytes, each with the octal value VALUE.
 bytes() { head -c "$1" /dev/zero | tr '\000' "\\$2"; }
 
-# Creates images for chips of 64 KiB and of 8 MiB, which have FFh except in a few bytes, a layout, and status files.
+# Creates images for chips of 64 KiB and of 8 MiB, which have FFh in most bytes, a layout, and status files.
 make_files() {
     local tiny=65536 large=8388608 guarded=131072
     bytes $tiny 377 > erased
@@ -194,8 +195,8 @@ cut_off() {
 Run it again with: tests/kill/run.sh $program $run $number $how" >&2
 }
 
-# Tries host crashes (lost.py), unless run.sh was given the name of another run. Also checks that mutants are detected
-# (self.sh), unless it was given any name.
+# Tries host crashes (lost.py), unless run.sh was given the name of another run. If run.sh was given no name at all,
+# also checks that mutants are detected (self.sh). Without Python, does neither.
 lose_machines() {
     local status=0 last
     [[ -z $only || $only == lost/* ]] || return 0
@@ -254,7 +255,7 @@ cut_each() {
 }
 
 # Keeps the journal for the restores. Also checks that `is_given_back` fails if the program does nothing, and if a byte
-# of the image is wrong that no journal saved.
+# of the image is wrong that the journal doesn't save.
 keep_journal() {
     cp journal "$kept"
     ! program=true is_given_back || fail "$run passes as restored by a program that does nothing"
@@ -262,8 +263,8 @@ keep_journal() {
     ! is_given_back || fail "$run passes as restored although another byte was changed"
 }
 
-# begin_part NAME: starts a part of the test, in its own directory. Several parts run at once, and `gather` then prints
-# their output and adds their counts.
+# begin_part NAME: starts a part of the test, in its own directory. Several parts can run at once, and `gather` then
+# prints their output and adds their counts.
 begin_part() {
     part=$1 passed=0 failed=0
     trap end_part EXIT

@@ -7,8 +7,8 @@
 # for run.sh don't truncate the image, ignore a short write, lose bytes when a close fails, don't lock a file, unlock it
 # too early, or print before they work.
 #
-# The script also checks that disk.py computes exactly the contents that a disk may have after a host crash. The last
-# line is `N passed, M failed`.
+# The script also checks, for some changes, that disk.py computes exactly the contents that a disk may have after a host
+# crash. The last line is `N passed, M failed`.
 set -uo pipefail
 export LC_ALL=C CHOICES=4
 
@@ -21,7 +21,7 @@ passed=0
 failed=0
 
 # tells STORY WAY WHAT: runs lost.py on this story. It must report a lost chip, and its first report must match the
-# pattern WAY.
+# pattern WAY. WHAT describes the program.
 tells() {
     local story=$1 way=$2 what=$3 said status last
     said=$(python3 -B "$top/tests/kill/lost.py" "$program" "$library" "lost/$story" 2>&1)
@@ -52,7 +52,7 @@ EOT
     tells "${@:2}"
 }
 
-# Tests a program that prints a result before it works.
+# Tests a program that prints `Done` before it works, if a call is to be interrupted.
 hasty() {
     local said status
     cc -x c -o "$work/hasty" - << EOT
@@ -75,7 +75,7 @@ EOT
 }
 
 # detected MUTANT REPORT ARGUMENTS..: runs run.sh with these arguments on this mutant (WRONG in cut.c). It must print
-# REPORT.
+# REPORT and end with status 1.
 detected() {
     local said status
     said=$(WRONG=$1 bash "$top/tests/kill/run.sh" "$program" "${@:3}" 2>&1)
@@ -89,8 +89,8 @@ detected() {
     fi
 }
 
-# leaves WHAT IS: makes the changes WHAT (Python statements) on a disk. In 1,000 host crashes, the file f must have
-# exactly the contents in the set IS, where None stands for no file.
+# leaves WHAT IS: makes the changes WHAT (Python statements) on a disk. In 1,000 host crashes, the file f must have each
+# of the contents in the set IS, and no others. None stands for no file.
 leaves() {
     if python3 -B - "$2" "$top/tests/kill" << EOT
 import random, sys

@@ -7,13 +7,13 @@ SECTOR = 4096
 DONE = "Done: "
 STOPPED = "Error 12: stopped."
 
-# A Content has the bytes of a chip's image and status. One of them is None if its file doesn't exist, or if the chip
+# A Content has the bytes of a chip's image and status. Each of them is None if its file doesn't exist, or if the chip
 # has no such file.
 Content = collections.namedtuple("Content", "image status")
 
 # A Step is a run. `words` are its arguments after -p, `keys` is added to the value of -p, and `journal` is its
-# journal's file. `before` has the chip's contents before the session, and `wanted` those after the run. The run must
-# print `end`.
+# journal's file. `before` has the chip's contents before the session (for a restore: the session that it undoes), and
+# `wanted` those after the run, unless it is stopped. The output of the run must contain `end`.
 Step = collections.namedtuple("Step", "words keys journal before wanted end")
 
 # A Story has a chip, the contents of its files at the start, and its runs. If `old` is given, another program has
@@ -82,8 +82,8 @@ def images(seed):
 
 
 def stories(seed):
-    """Returns all stories. Each session has a journal with a new name, because `runs_of` deletes a journal that is no
-    longer needed."""
+    """Returns all stories. Each session of a story has a journal with a new name, because `runs_of` deletes a journal
+    that is no longer needed."""
     found = {name: Content(image, b"\0\0") for name, image in images(seed).items()}
     one, two, other = found["one"], found["two"], found["other"]
     none, erased = Content(None, None), Content(b"\xff" * SIZE, b"\0\0")

@@ -34,7 +34,7 @@ def saves_the_chip(start):
 
 
 def shows_how_much_is_saved(start):
-    """With plain progress at a terminal, a backup prints how many sectors of the chip it has scanned."""
+    """With plain progress at a terminal, a backup prints the number of each 256th scanned sector, from sector 1."""
     start().expect_at_terminal(*BACKUP, lines=["identify", "scan: sector 1 of 16"])
     bench = start("W25Q64FV")
     bench.expect_at_terminal(*BACKUP, lines=[
@@ -70,9 +70,9 @@ def restores_other_sectors(start):
 
 
 def restores_a_locked_chip(start):
-    """If SRP0 and a protected range are set, a restore from a backup ends with error 9, except with --quick.
+    """If SRP0 and a protected range are set, a restore from a backup ends with error 9.
 
-    If only SRP0 is set, the restore works without --quick, too.
+    With --quick it works, because no protected sector differs. If only SRP0 is set, it works without --quick.
     """
     old = large_chip()
     damaged = b"\0" * SECTOR + old[SECTOR:]
@@ -115,7 +115,7 @@ def restores_after_wrong_addresses(start):
 
 
 def makes_a_new_file(start):
-    """A backup to an existing file ends with file fault 4, and the file stays unchanged.
+    """A backup to an existing file (except the programmer's device) ends with file fault 4, and the file is unchanged.
 
     If there is no chip, or -c names another chip, the backup creates no file.
     """
@@ -173,7 +173,7 @@ def check_begun(bench, old):
 
 
 def saves_no_wrong_bit(start):
-    """One wrong bit in a reply stops a backup (error 12). If the journal exists, a restore from it ends with error 15.
+    """A wrong bit 3 in a reply stops a backup (error 12). If the journal exists, a restore from it ends with error 15.
 
     The case leaves out the replies before the job: those to ABh (which wakes the chip), to the trial reads, and to the
     first reads of the ID and of status 1.

@@ -1,6 +1,8 @@
 """Cases of restores on a chip whose board changed QE, the reserved bit or LB1 to LB3 after the journal was made.
 
-The restore writes the saved sectors and the protection bits back, doesn't write these bits, and prints their names.
+The restore writes the saved sectors and the protection bits back, leaves these bits as they are on the chip, and prints
+the names of those that differ from the journal. In `refuses_other_bits`, `refuses_another_board` and
+`believes_no_wrong_status`, the restore ends with an error instead, and the chip is unchanged.
 """
 import hashlib
 
@@ -15,7 +17,8 @@ PART, LARGE = "W25Q32FV", 1 << 22
 SECTOR = 4096
 UNIQUE = bytes.fromhex("d1d2d3d4d5d6d7d8")
 # Each entry has the status bytes in the journal, those of the chip before and after the restore, and the exit status.
-# The exit status is 0 only if no kept bit differs except a QE that is set on the chip and clear in the journal.
+# The exit status is 0 only if QE, the reserved bit and LB1 to LB3 are as in the journal, except a QE that is set only
+# on the chip.
 CHANGED = ((b"\0\0", b"\0\x02", b"\0\x02", 0), (b"\0\x02", b"\0\0", b"\0\0", 1),
            (b"\0\0", b"\0\x04", b"\0\x04", 1), (b"\0\0", b"\0\x08", b"\0\x08", 1),
            (b"\0\x08", b"\0\x0a", b"\0\x0a", 0), (b"\0\x08", b"\0\x3a", b"\0\x3a", 1),
@@ -47,7 +50,8 @@ def of_format_1(journal):
 def restores_a_changed_board(start):
     """A restore writes the bytes and the protection bits back, keeps the board's bits, and names those that differ.
 
-    The exit status is 1, and a last line says why, unless the only bit that differs is a QE that is set on the chip.
+    The exit status is 1, and a last line says why, unless the only one of these bits that differs is a QE that is set
+    on the chip.
     """
     for saved, found, after, status in CHANGED:
         for words in ("-N",), ("-N", "--quick"):
@@ -73,7 +77,7 @@ def compares_the_rest_of_a_changed_board(start):
 
 
 def fails_after_the_comparison(start):
-    """Checks that a restore without -N, after QE was cleared, compares the unsaved sectors and ends with status 1."""
+    """Checks that a restore without -N after QE was cleared prints a note on other sectors and ends with status 1."""
     bench, old, now = bench_with(start, b"\0\x02", b"\0\0")
     got = bench.run("--restore", "j")
     check("the restore", [got.status, got.err], [
@@ -91,7 +95,7 @@ def sends_a_second_identification(start):
 
 
 def refuses_other_bits(start):
-    """If SRP0 or SRP1 differs, or LB1 to LB3 are set only in the journal, a restore ends with error 17.
+    """If SRP0 or SRP1 differs, or one of LB1 to LB3 is set only in the journal, a restore ends with error 17.
 
     A journal of format 1 has no unique ID and may be another board's, so there a QE that differs is error 17, too.
     """
@@ -121,7 +125,7 @@ def refuses_another_board(start):
 
 
 def believes_no_wrong_status(start):
-    """If one read of status 2 returns a wrong bit, the restore ends with error 12, and nothing is modified."""
+    """If one of the reads 2 to 6 of status 2 has a wrong bit, a restore ends with error 12, and modifies nothing."""
     for first in range(2, 7):
         bench, old, now = bench_with(start, b"\0\0", b"\0\x02")
         carry, reads = bench.chip.transfer, []

@@ -1,7 +1,7 @@
-"""Cases of runs that are killed, or lose a reply, while the chip is busy for as long as a real chip.
+"""Cases of runs that are killed, or lose a reply, while the chip is busy for half a second or longer.
 
 The chip continues its operation while no program runs. The restore that follows must wait until the chip is ready, then
-restore each byte and status bit, and send nothing that a busy chip ignores.
+restore each byte and status bit. After its first poll of two bytes it must send nothing that a busy chip ignores.
 """
 import contextlib
 import itertools
@@ -15,8 +15,8 @@ from bench import Bench, Differs, check
 from chip import PARTS, SECTOR
 from losses import FEW, MANY, STOPPED, chip_images
 
-# The durations in seconds of the operation in which a run is stopped. If the chip is ready before the restore begins
-# (on a slow machine), the loss is tried again with the next duration.
+# The durations in seconds of the operation in which a run is stopped. If the chip is ready before the run is stopped or
+# the restore begins (on a slow machine), the loss is tried again with the next duration.
 DURATIONS = (0.5, 4, 30)
 POLL = b"\x05"
 ALL = range(16)
@@ -86,7 +86,7 @@ def erasing():
 def unlocking():
     """Returns a session on a protected W25Q64FV that erases a block, and erases and programs one more sector.
 
-    The session begins and ends with a status write, and so does its restore.
+    The first and the last operation of the session are status writes, and so are those of its restore.
     """
     old = bytearray(b"\xff" * PARTS["W25Q64FV"].size)
     chance = random.Random("unlocking")
@@ -213,8 +213,8 @@ def check_waiting(bench):
     One of these polls may be left from the run before, so a single one isn't enough.
     """
     waits = 0
-    # Skips what precedes the job: ABh, the trial reads, and a read of the ID and of status 1. A busy chip replies FFh to
-    # reads of data, so the last two trial reads read status 1.
+    # Skips what precedes the job: ABh, the trial reads, and a read of the ID and of status 1. A busy chip replies FFh
+    # to reads of data, so the last two trial reads read status 1.
     before = itertools.dropwhile(lambda it: it[0] != POLL or len(it[1]) != reference.STATUS_TWICE[1], bench.server.log)
     for out, reply in before:
         if out != POLL or not reply[0] & 1:
@@ -225,7 +225,7 @@ def check_waiting(bench):
 
 
 def restores_a_busy_chip(start):
-    """A restore waits for the operation of a session or restore that was killed, or whose reply was lost."""
+    """A restore waits for the operation of a session or restore that was killed, or of a session that lost a reply."""
     for loss in Loss("kill", "few", 2), Loss("lose", "few", 7), Loss("kill", "few", 1, 0, True):
         one_loss(start, loss)
 

@@ -94,13 +94,14 @@ def protected_range(status, size):
 class Chip:
     """A chip with its data and its two status bytes.
 
-    `scale` multiplies the durations of the datasheet; if it is 0, the chip is never busy. `slow` maps the number of an
-    operation to another duration. `wp_low` is true if the pin WP# is low, so that SRP0 locks the status. While
+    `scale` multiplies the durations of the datasheet; if it is 0, only the operations in `slow` take time. `slow` maps
+    the number of an operation to another duration. `wp_low` is true if WP# is low, so that SRP0 locks the status. While
     `is_asleep`, the chip is in deep power-down, and ignores each command except ABh. While `has_four`, it is in
     four-byte mode (W25Q256FV datasheet, Address Modes).
 
-    `ignored` counts the commands that should have changed the chip but didn't, and the transactions that a busy chip
-    ignored, except for reads of data or of the ID before the first poll of a job, which asks for two bytes.
+    `ignored` counts the transactions that receive no bytes and that the chip refused, and those that a busy chip
+    ignored, but none in deep power-down. Reads of data or of the ID that a busy chip ignored count only after the first
+    operation of a run, or after the first poll that receives two bytes.
     """
 
     def __init__(self, part, data=None, status=b"\0\0", unique=DEVICE, scale=0.0, wp_low=True):
@@ -114,14 +115,14 @@ class Chip:
         self.wel, self.until, self.ignored, self.slow = False, 0.0, 0, {}
         self.is_asleep = self.has_four = False
         self.count_anew()
-        # If the last transaction is a program or an erase, `in_progress` is the address and the former content of the
-        # changed bytes. If it is a status write, `status_in_progress` is the former status bytes.
+        # If the last transaction is a program or an erase, `in_progress` is the address and the former content of its
+        # page or block. If it is a status write, `status_in_progress` is the former status bytes.
         self.in_progress = self.status_in_progress = None
         # Maps the address of each marginal byte to two values. Each read returns one of them at random.
         self.marginal, self.chance = {}, random.Random(0)
 
     def count_anew(self):
-        """Resets the count of operations (programs, erases, status writes) and that of polls after the last one."""
+        """Resets `has_begun`, and the counts of operations (programs, erases, status writes) and of later polls."""
         self.operations, self.polls, self.has_begun = 0, 0, False
 
     def is_busy(self):
@@ -137,9 +138,9 @@ class Chip:
     def lose_power(self, fill=0x5A, marginal=None, torn=0):
         """Interrupts the operation of the last transaction. Afterwards WEL is clear, and so is SRP1 unless SRP0 is set.
 
-        The bytes of an interrupted program or erase become `fill`. If `marginal` is given, this number of changed bytes
-        becomes marginal instead, and the others are as after the operation. An interrupted status write has written
-        only the bits of `torn`, whose high byte is for status 1.
+        All bytes of the page or block of a program or erase become `fill`. If `marginal` is given, up to this number of
+        changed bytes become marginal instead, and the others are as after the operation. An interrupted status write
+        has written only the bits of `torn`, whose high byte is for status 1.
         """
         if self.in_progress:
             start, before = self.in_progress

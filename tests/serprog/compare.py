@@ -7,8 +7,8 @@ round trip, and then at one that also carries only 1 MB/s. (With --whole, only t
 programs must leave the right bytes on the chip, and must read and verify them.
 
 For each wire the script prints the seconds, the transactions, the polls (05h), the round trips (`ways`) and the bytes
-of both programs, and their ratios. The exit status is 1 if bytes of the chip or of a file are wrong. A ratio of the
-seconds above the project's goal is marked, but is no failure, because it depends on the machine.
+of both programs, and their ratios. The exit status is 1 if a program fails, or if bytes of the chip or of a file are
+wrong. A ratio of the seconds above the project's goal is marked, but is no failure, because it depends on the machine.
 """
 import os
 import random
@@ -29,14 +29,14 @@ POLL = b"\x05"
 FLASHROM = shutil.which("flashrom") or shutil.which("flashrom", path="/usr/sbin:/usr/local/sbin")
 FLASHROM_NAME = "W25Q64BV/W25Q64CV/W25Q64FV"
 # Each wire has a name, traits of the programmer, and the goal: the greatest ratio of flashnor-serprog's seconds to
-# flashrom's.
+# flashrom's, or `None` if there is no goal.
 WIRES = (("bare pty", {}, 1.0), ("1 ms", {"latency": 0.001}, None),
          ("1 ms and 1 MB/s", {"latency": 0.001, "rate": 1e6}, 0.8))
 GOAL_WHOLE = 0.8
 
 
 class Run(NamedTuple):
-    """What a client (flashnor-serprog or flashrom) needed for a job. `ways` is the number of round trips."""
+    """What a client (flashnor-serprog or flashrom) needed for a job. `ways` counts the server's reads of the port."""
 
     seconds: float
     transactions: int
@@ -46,7 +46,7 @@ class Run(NamedTuple):
 
 
 class Clients:
-    """The command lines of both clients, which run in a directory with the link `dev` to the programmer."""
+    """This class runs both clients in a directory with the link `dev` to the programmer."""
 
     def __init__(self, program, folder):
         self.program, self.folder = program, folder
@@ -59,7 +59,7 @@ class Clients:
         return [self.program, "-p", f"serprog:dev={self.folder}/dev", job, name, *journal]
 
     def run(self, client, job, name, chip, traits):
-        """Runs a job with a new programmer, and returns what it needed. If the job fails, the script ends."""
+        """Runs a job with a new programmer, and returns what the job needed. If the job fails, the script ends."""
         server = Server(self.folder / "dev", chip, Traits(**traits))
         try:
             begun = time.monotonic()
@@ -75,7 +75,7 @@ class Clients:
 
 
 def images(is_whole):
-    """Returns two random images of the chip. They differ in all sectors, or in 2,900 bytes of each of 52 sectors."""
+    """Returns two random images, which differ in all sectors, or in up to 2,900 bytes of each of 52 sectors."""
     chance = random.Random("compare")
     size = PARTS[PART].size
     old = chance.randbytes(size)

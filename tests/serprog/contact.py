@@ -1,12 +1,12 @@
 """In these cases the chip loses its contact or supply during a job, for a while or until the run ends.
 
-The loss begins at each transaction of the job in turn. A lost chip misses what is sent, and each byte of a reply is
-FFh, or each is 00h. The cases check that:
+In the cases of `lose`, it begins at each transaction of the run in turn, except the first. A lost chip misses what is
+sent, and each byte of a reply is FFh, or each is 00h. The cases check that:
 
 - A run ends with exit status 0 only if the chip, and the file that the run wrote, are as requested.
 - No sealed journal has bytes that the chip never had, and no one-time bit is set.
 - If a run changed the chip, the journal restores the original chip.
-- If the chip stays lost, the line after error 12 reports it.
+- If the chip is lost after the job's first read of the ID and stays lost, the line after error 12 reports it.
 """
 import hashlib
 import time
@@ -136,13 +136,13 @@ def check_cause(got, work, at, seal, byte):
             cause += " " + RESTORE
         elif work.words[0] in ("-w", "-E", "--wp-range"):
             cause += " " + (UNCHANGED if at <= seal else RESTORE)
-            # A job with --unlock lifts the protection with its first modifying command.
+            # The first modifying commands of a job with --unlock (06h and 01h) lift the protection.
             cause += " Until then it may be unprotected." * ("--unlock" in work.words and at > seal)
     check("the cause", (got.err[:2], got.out), ([STOPPED, cause], []))
 
 
 def lose(start, work):
-    """Runs a job repeatedly, with a loss of the chip that begins at each transaction in turn, and checks each run."""
+    """Runs a job repeatedly, with a loss that begins at each transaction except the first in turn. Checks each run."""
     bench = start(work.part, data=work.before, status=work.status, unique=UNIQUE)
     bench.remembers = False
     bench.write("layout", bits.LAYOUT)
@@ -156,7 +156,7 @@ def lose(start, work):
     # all mistakes in self.py.
     for at in (it for it in range(2, len(log) + 1) if it % STRIDE == 8 % STRIDE):
         is_first = first <= at < first + IDENTIFICATION
-        # If polls receive FFh, the program waits as for a busy chip, for 1.5 s. contacts.py tests these losses.
+        # If polls receive FFh, the program waits as for a busy chip. contacts.py tests such losses after an operation.
         is_poll = at >= first and next(out for out, reply in log[at - 1 :] if reply) == b"\x05"
         for byte in (0xFF, 0x00) if is_first else ((0xFF, 0x00)[at % 2],):
             for length in LENGTHS if is_first else (LENGTHS[at // 2 % len(LENGTHS)],):
@@ -175,8 +175,8 @@ def lose(start, work):
 def finds_no_contact(start):
     """Checks that a run without contact, in which every reply byte is FFh, ends with error 1 and creates no file.
 
-    The program must read the ID and status 1 ten times, send FFh and FFh FFh, which end QPI mode and continuous reads,
-    and read the ID once more.
+    The program must read the ID and status 1 ten times, send FFh and FFh FFh, which end continuous reads and the QPI
+    mode of some chips, and read the ID once more.
     """
     old, new = chip_images(FEW)
     for words, absent in (((), ()), (("-r", "out"), ("out",)), (("--backup", "j"), ("j",)), (("--wp-status",), ()),
@@ -213,7 +213,7 @@ def waits_for_a_late_contact(start):
 def waits_for_a_late_status(start):
     """Checks that a chip with SFDP is found even if it replies only FFh to reads of status 1 for four seconds.
 
-    A chip without SFDP is refused with error 2 after ten reads of the ID and of status 1.
+    Such a chip without SFDP is refused with error 2 after ten reads of the ID and of status 1, and one of SFDP.
     """
     bench = start()
     transfer, until, unknown = bench.chip.transfer, time.monotonic() + 4, [b"\x05", b"\xab"]

@@ -2,9 +2,9 @@
 """tests/serprog/emulated.py PROGRAM [KILLS]: tests the program on QEMU's chip w25q64 at a modelled programmer.
 
 The program reads, writes, verifies and restores this chip. Then it is killed, or loses a reply, at random transactions
-of a session, of a restore, or of both, and another restore follows. After each session and restore that wasn't stopped,
-QEMU's chip must hold the expected bytes. After QEMU has ended, the file of its chip must hold the original bytes. `make
-compare` runs this script; the merge gate doesn't, because the script needs QEMU.
+of a session, of a restore, or of both, and another restore follows. After the first session, and after each restore
+that wasn't stopped, QEMU's chip must hold the expected bytes. After QEMU has ended, the file of its chip must hold the
+original bytes. `make compare` runs this script if PROGRAM is built; the merge gate doesn't, because it needs QEMU.
 
 QEMU's chip is never busy, and has no status 2, unique ID or SFDP (see scripts/compare/qemu.py).
 """
@@ -16,7 +16,7 @@ import sys
 import tempfile
 from pathlib import Path
 
-sys.dont_write_bytecode = True  # so that no other file is created in scripts/
+sys.dont_write_bytecode = True  # so that Python creates no files in scripts/
 sys.path.append(str(Path(__file__).resolve().parents[2] / "scripts" / "compare"))
 import emulator
 import reference
@@ -35,7 +35,7 @@ class Differs(Exception):
 
 
 class Emulated:
-    """QEMU's chip, with the fields and methods that `Server` uses."""
+    """QEMU's chip, with the fields and methods that `Server` uses in these runs."""
 
     operations = polls = 0
 
@@ -104,9 +104,9 @@ def run_without_stops(bench, old, new):
 
 
 def run_with_stops(bench, old, new, chance, numbers, count):
-    """Stops sessions and restores, `count` times in all, and restores the chip after each stop.
+    """Stops a session, a restore, or both in each of `count` rounds, and restores the chip at the end of each round.
 
-    Returns how often the chip differed from the original before the last restore.
+    Returns the number of rounds in which the chip differed from the original before the last restore.
     """
     changed = 0
     for number in range(count):
@@ -125,7 +125,7 @@ def run_with_stops(bench, old, new, chance, numbers, count):
 
 
 def compare(program, folder, count):
-    """Runs all tests on QEMU's chip, and returns the line that `main` prints."""
+    """Runs all tests on QEMU's chip, and returns the end of the line that `main` prints."""
     old, new = images(False)
     for name, content in ("old", old), ("new", new), ("qemu", old):
         (folder / name).write_bytes(content)

@@ -121,7 +121,7 @@ def verifies_with_a_backup(start):
 
 
 def verifies_with_nothing_less(start):
-    """-v with a partial journal ends with backup fault 1, and with a damaged one with error 15. Nothing is sent.
+    """-v with a partial journal ends with backup fault 1, and with an invalid one with error 15. Nothing is sent.
 
     A file that doesn't begin as a journal is an image.
     """

@@ -1,6 +1,6 @@
 """Cases of programmers that can't be used, and of the line with the cause that follows error 12.
 
-The programmer faults of these cases occur before the first transaction: no transaction is sent, and no file is created.
+The programmer faults of these cases occur before the first transaction is carried out, and no file is created.
 """
 import fcntl
 import os
@@ -32,7 +32,7 @@ CAUSES = {
 
 
 def refuse(bench, text, keys="", number=None):
-    """Checks that a session and a read end with this programmer fault, send no transaction, and create no file."""
+    """Checks that a session and a read end with this programmer fault before any transaction, and create no file."""
     bench.write("new", b"\xff" * 65536)
     line = bench.device(f"Programmer fault {number}: {text}")
     before = bytes(bench.chip.data)
@@ -83,7 +83,7 @@ def locks_the_device(start):
 
 
 def opens_only_its_device(start):
-    """A run opens only the device that dev= names. A second programmer receives no byte, even if the first fails."""
+    """A run sends only to the device that dev= names: a second programmer receives no byte, even if the first fails."""
     old, new = images("opens_only_its_device")
     wire = session_wire(old, new)
     last = max(at for at, (out, _) in enumerate(wire, 1) if out[0] in reference.CHANGING)
@@ -99,7 +99,7 @@ def opens_only_its_device(start):
 
 
 def sends_nothing_before_its_job(start):
-    """Between the handshake and the job, a run sends only ABh, the trial reads, and reads of the ID and of status 1."""
+    """Before the job, the only transactions of a run are ABh, the trial reads, and reads of the ID and of status 1."""
     old, new = images("sends_nothing_before_its_job")
     bench = start(data=old)
     bench.write("new", new)
@@ -141,7 +141,7 @@ def needs_an_answer(start):
 
 
 def says_why_it_waits(start):
-    """At a port without a time-out, a run prints `WAITING`, sends one NOP, and waits until the programmer replies."""
+    """At a port without a time-out, a run prints `WAITING`, sends one NOP, and still waits after a second."""
     bench = start(is_silent=True, is_set_up=False)
     bench.write("new", b"\xff" * 65536)
     bench.expect_to_wait("-w", "new", "--journal", "j")
@@ -162,9 +162,9 @@ def needs_its_step(start):
 
 
 def needs_right_replies(start):
-    """If a reply is neither ACK nor NAK, the run ends with programmer fault 5.
+    """If a reply to one of five handshake commands is neither ACK nor NAK, the run ends with programmer fault 5.
 
-    If the programmer replies NAK to a command of its command map, the run ends with programmer fault 11.
+    If the reply to one of these commands is NAK, the run ends with programmer fault 11.
     """
     advice = f"Disconnect the programmer from power, connect it again, and set up the port: {STTY}"
     for opcode in 0x01, 0x02, 0x08, 0x12, 0x15:
@@ -174,10 +174,7 @@ def needs_right_replies(start):
 
 
 def needs_a_port(start):
-    """If the device fails during the handshake, as an unplugged one does, the run ends with programmer fault 10.
-
-    The line contains the system's message.
-    """
+    """If the device fails during the handshake, as an unplugged one does, the run ends with programmer fault 10."""
     begins = "Programmer fault 10: the port failed: "
     # On a busy machine the device may fail before the program reads. The read then returns no bytes and no error, which
     # is programmer fault 4, so the run is tried again.
@@ -256,7 +253,7 @@ def reports_causes(start):
 
 
 def reports_the_port(start):
-    """If the programmer is unplugged, a session ends with error 12, and the cause contains the system's message."""
+    """If the programmer is unplugged, a session ends with error 12, and a second line has a cause and the advice."""
     old, new = images("reports_the_port")
     bench = start(data=old)
     bench.write("new", new)
@@ -299,7 +296,7 @@ def takes_no_kill(start):
 
 
 def reads_twice(start):
-    """If two reads of the same bytes differ, a session ends with error 12, creates no journal, and changes nothing."""
+    """If two reads of the same bytes differ, a session ends with error 12, leaves no journal, and changes nothing."""
     old, new = images("reads_twice")
     bench = start(data=old)
     bench.write("new", new)

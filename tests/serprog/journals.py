@@ -56,7 +56,7 @@ def describes_status_and_unit(start):
 
 
 def describes_old_and_empty_journals(start):
-    """--check-journal describes a journal of format 1, which has no unique ID, and which saves no sector."""
+    """--check-journal describes a journal of format 1 (without a unique ID) that saves no sector."""
     bench = start()
     header = b"NORUNDO1\xfe\x10\x10" + b"\0\0" + SIZE.to_bytes(4, "little") + b"\xff" * 4
     bench.write("j", header + hashlib.sha256(header).digest())
@@ -81,7 +81,7 @@ def warns_of_blank_sectors(start):
 
 
 def explains_invalid_journals(start):
-    """If the journal is unsealed or damaged, --check-journal ends with error 15 and advice, and changes no file."""
+    """If the journal is unsealed or damaged, --check-journal ends with error 15 and advice, and doesn't change it."""
     bench = start()
     whole = reference.journal("TINY64", bytes(SIZE), (1, 2))
     cut = "error: the journal was never sealed, or was cut off later"
@@ -94,7 +94,8 @@ def explains_invalid_journals(start):
         bench.write("j", content)
         bench.compare(describe(bench, "j"), [], [why[0], f"Error 15: journal fault {fault}.", why[1]])
         bench.check_file("j", content)
-    # If a file is shorter than any journal, the advice is that for an unsealed journal only if the file begins as one.
+    # For a file that is shorter than any journal, the run prints the advice for an unsealed journal only if the file
+    # begins as a journal.
     for content, why in (b"NORUNDO", [cut, NEVER]), (b"hello", NONE), (b"norundo", NONE), (b"\0" * 7, NONE):
         bench.write("j", content)
         bench.compare(describe(bench, "j"), [], [why[0], "Error 15: journal fault 1.", why[1]])

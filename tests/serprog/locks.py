@@ -1,6 +1,6 @@
 """Cases of --wp-enable and --wp-disable, which set and clear SRP0 (bit 7 of status 1).
 
-The chip is a W25Q64FV, whose block protection the program knows. Its WP# pin is high unless a case says otherwise.
+Most cases use a W25Q64FV, whose block protection the program knows, with a high level at its WP# pin.
 """
 import reference
 from bench import check
@@ -74,8 +74,8 @@ def locks_the_protection(start):
 def reports_a_missed_write(start):
     """If the chip misses the status write, --wp-enable ends with chip fault 3.
 
-    If the programmer stops the run, a line advises to repeat the run only if the status write may have been carried
-    out.
+    If the programmer refuses the status write, the line with the cause advises to repeat the run. If it refuses the
+    transaction before the write enable, the line doesn't.
     """
     bench = bench_with(start, b"\x04\x02")
     bench.expect("--wp-enable", out=changed(b"\x04\x02", b"\x84\x02", SET))
@@ -94,7 +94,7 @@ def reports_a_missed_write(start):
 def refuses_to_lock(start):
     """If SRP1 is set, both options end with error 9, and on a chip without known block protection with error 6.
 
-    If -c names another chip, they end with error 3. They send no status write.
+    If -c names another chip, they end with error 3. Runs with error 9 or 6 send no status write.
     """
     for status in b"\0\x01", b"\x80\x01":
         bench = bench_with(start, status)
@@ -171,8 +171,8 @@ def changes_a_locked_chip(start):
 def says_which_lock_differs(start):
     """If only SRP0 differs, a line after error 17 says how to set or clear SRP0.
 
-    If only the chip has SRP1 set, the line says how to clear SRP1. In the other cases it advises to write an image. BP0
-    and QE don't change the advice.
+    If only SRP1 differs, and is set on the chip, the line says how to clear SRP1. In the other cases the line advises
+    to write an image. BP0 and QE don't change the advice.
     """
     data = b"\xff" * LARGE
     for saved, found, its, advice in (

@@ -21,7 +21,7 @@ TOOK = "The change took M:SS."
 
 
 def lines_of(bench, name="log"):
-    """Returns the lines of a log after its first line. Checks that all its bytes are printable or newlines."""
+    """Returns the lines of a log after its first, which it checks. All bytes must be printable ASCII or newlines."""
     text = bench.path(name).read_bytes()
     check("bytes of the log that aren't printable", re.sub(rb"[ -~\n]", b"", text), b"")
     check("the end of the log", text[-1:], b"\n")
@@ -97,8 +97,8 @@ def logs_how_long_a_change_takes(start):
             check("status", status, 0)
             check("lines of the log", times_in(lines_of(bench)), [EXPECTED, TOOK])
             check("lines on the screen", times_in(Screen(printed).lines), [EXPECTED, TOOK] if mode == "auto" else [])
-    # With -N nothing is read before a restore, so no rate is known. A quick restore that changes nothing logs no times,
-    # and a change that fails logs only the expected time.
+    # A restore with -N, which reads no sector before its change, also logs both times. A quick restore that changes
+    # nothing logs no times, and a change that fails logs only the expected time.
     answer = lines_of(bench)[-2:]
     bench.path("log").unlink()
     bench.expect("--restore", "jauto", "-N", "-o", "log", out=answer)
@@ -131,7 +131,7 @@ def logs_faults(start):
 
 
 def logs_until_a_kill(start):
-    """The log of a killed run contains a line for each transaction that the run had sent."""
+    """The log of a killed run contains a line for each modifying transaction that the programmer had carried out."""
     old, new = images("logs_until_a_kill")
     bench = start(data=old)
     bench.write("new", new)
@@ -216,7 +216,7 @@ def waits_for_no_other_run(start):
 
 
 def goes_on_without_its_log(start):
-    """If the log can't be written, the run completes its job, and then ends with file fault 2."""
+    """If the log can't be written, the run goes on with its job, and then ends with file fault 2."""
     old, new = images("goes_on_without_its_log")
     bench = start(data=old)
     bench.write("new", new)

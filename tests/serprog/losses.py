@@ -1,7 +1,7 @@
-"""Kills, lost replies, cut frames and losses of power in a session and in its restores, on a chip of 64 KiB.
+"""Kills and lost replies in a session and in its first restore, and cut frames and losses of power in a session.
 
-After each of them a restore must succeed, and the chip must hold each byte of the original. If the session's journal
-was never sealed, the chip must be unchanged instead.
+The chip has 64 KiB. After each of these events a restore must succeed, and the chip must hold each byte of the
+original. If the session's journal was never sealed, the chip must be unchanged instead.
 """
 import tempfile
 from typing import NamedTuple
@@ -21,7 +21,7 @@ STOPPED = "Error 12: stopped."
 class Loss(NamedTuple):
     """An event at the transaction `session` of a session, and at the transaction `restore` of its first restore.
 
-    If one of the numbers is 0, that run has no event.
+    If one of the numbers is 0, that run has no event. The session changes the sectors `changed`.
     """
 
     event: str
@@ -52,7 +52,7 @@ def session_wire(old, new):
 
 
 def losses():
-    """Returns the losses: at each transaction of a session, of a restore after a session without a loss, and of both.
+    """Returns losses at each transaction of a session, and of a restore after a session without a loss, and in both.
 
     Only kills are tried at the transactions before the job. The losses of `rare_losses` are returned, too.
     """

@@ -6,7 +6,7 @@ these cases:
 
 - The program's table of chips contains the chip's ID.
 - The chip's SFDP says that 35h reads status 2 (JESD216B, double word 15, quad enable requirements 101b and 110b).
-- A restore uses a journal with a status 2 other than 00h, which shows that its session sent 35h to this chip.
+- A restore uses a journal with the chip's ID and a status 2 other than 00h, so its session sent 35h to such a chip.
 """
 import reference
 from bench import check
@@ -74,9 +74,9 @@ def asked(bench):
 
 
 def never_enters_qpi(start):
-    """No job sends 35h to a chip whose SFDP doesn't say that 35h reads status 2.
+    """The jobs of this case send no 35h to a chip whose SFDP doesn't say that 35h reads status 2.
 
-    All jobs work, except --wp-status, --wp-list, --wp-enable and --wp-disable, which end with exit status 1.
+    They work, except --wp-status, --wp-list, --wp-enable and --wp-disable, which end with exit status 1.
     """
     for requirements in OTHERS:
         bench, old, new = connect(start, requirements)

@@ -1,4 +1,4 @@
-"""Cases that run the examples and command blocks of flashnor-serprog(8) and of docs/HARDWARE.md with bash.
+"""Cases that run the examples of flashnor-serprog(8) and docs/HARDWARE.md, and some command blocks of the former.
 
 In each command, the port of the modelled programmer replaces the port of the page. If a page shows a file by `cat`, the
 file is created with the content that the page shows.
@@ -79,7 +79,7 @@ def play(bench, steps, least):
 
 
 def plays_the_examples(start):
-    """Each command of the examples prints the lines that the page shows, on the chip that the page describes."""
+    """Each command of a page's examples prints the lines that the page shows. At the end, the chip is as before."""
     old = b"\0" + b"\xff" * (LARGE - 1)
     examples = [line for block in blocks() if block.startswith("$ ") for line in block.splitlines()]
     session = pages.of_markdown((TOP / "docs/HARDWARE.md").read_text(encoding="utf-8"))
@@ -138,7 +138,10 @@ def rescues_in_four_lines(start):
 
 
 def restores_after_chip_fault_4(start):
-    """The page's block for chip fault 4 restores from the session's journal (chip fault 5), and then from a backup."""
+    """Checks the page's commands for chip fault 4.
+
+    These are a restore from the session's journal, which ends with chip fault 5, and then one from a backup.
+    """
     old, new = images("restores_after_chip_fault_4")
     bench = start(data=old)
     bench.write("new.bin", new)

@@ -43,7 +43,7 @@ def random_image(seed):
 
 
 def reads_regions_of_an_fmap(start):
-    """-r with --fmap-file and -i reads only the bytes of the named areas."""
+    """-r with --fmap-file and -i writes only the bytes of the named areas to its file, and FFh for all other bytes."""
     old = with_fmap(random_image("fmap"), 0x7123, [(0, 0x1000, b"RO"), (0x1001, 0x2FFF, b"RW_A"), (0x4000, 1, b"ID")])
     bench = start(data=old)
     bench.write("before", old)

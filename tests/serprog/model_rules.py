@@ -1,7 +1,6 @@
 """Cases of models.py itself: how its chips respond to transactions, also to some that no program should send.
 
-The program under test isn't run. The expected bytes come from the command sections of the datasheets and, for SFDP,
-from JESD216.
+The program under test isn't run. The expected bytes come from the datasheets and, for SFDP, from JESD216.
 """
 import sfdp
 from bench import check
@@ -50,7 +49,7 @@ def wraps_a_page(start):
 def reads_before_and_after_a_header(start):
     """If a read sends too few header bytes, its reply begins with the level of the floating line.
 
-    If a read sends too many bytes, the first bytes of the reply are skipped.
+    If a read sends too many bytes, the first bytes of the data are skipped.
     """
     chip = erased("GD25Q64C", floating=0)
     check("too early", chip.transfer(b"\x5a\0\0", 4), b"\0\0SF")
@@ -65,7 +64,7 @@ def reads_before_and_after_a_header(start):
 def stays_in_qpi(start):
     """35h enters QPI mode on some chips. A power-up ends this mode.
 
-    FFh ends it, too, if the chip knows FFh and the floating line is high.
+    On a chip with FFh in `leaves_qpi`, FFh ends this mode, too, if the line to the programmer, which floats, is high.
     """
     for name in "MX25L12835F", "IS25LP128", "MT25QL128":
         chip = erased(name)

@@ -1,4 +1,4 @@
-"""These cases use programmers that limit the bytes of a transaction, so that page programs and reads are split."""
+"""These cases use programmers that limit the bytes of a transaction, so that page programs, reads or both are split."""
 import reference
 from bench import check
 from losses import FEW, chip_images
@@ -61,7 +61,7 @@ def splits_on_a_busy_chip(start):
 
 
 def restores_parts(start):
-    """Checks that a restore undoes a session that was killed, or lost a reply, between two parts of a page program."""
+    """Checks that a restore undoes a session that was killed, or lost a reply, in the first parts of a page program."""
     old, new = chip_images(FEW)
     traits = {"longest_write": 7, "longest_read": 4096}
     bench = start(data=old, **traits)

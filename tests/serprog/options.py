@@ -1,7 +1,7 @@
-"""These cases test each option: what the program prints and sends, and what the chip and the files hold afterwards.
+"""These cases test options: what the program prints and sends, and what the chip and the files hold afterwards.
 
 The numbers of transactions are those of reference.py, or are counted by hand: on TINY64 the engine sends 5 transactions
-for a probe, 7 for an identification, and 16 for a scan.
+for a probe, 7 for an identification, and 16 for a scan of the whole chip.
 """
 import random
 
@@ -142,7 +142,7 @@ def reads(start):
 def reads_regions(start):
     """Checks that -r with -l and -i reads only the sectors of the included regions.
 
-    All other bytes of the file are FFh.
+    The file has FFh at all addresses outside these regions.
     """
     old, _ = images("reads_regions")
     bench = start(data=old)
@@ -179,7 +179,7 @@ def verifies(start):
     bench.write("same", old)
     bench.write("other", old[:0x1234] + bytes([old[0x1234] ^ 1]) + new[0x1235:])
     bench.expect("-v", "same", out=[reference.found("TINY64"), "Verified."])
-    # The program reads sectors that equal the image only once. Its five reads have 1, 2, 4, 8 and 1 sectors.
+    # The program reads each sector that equals the image once. Its five reads have 1, 2, 4, 8 and 1 sectors.
     plan = reference.probe("TINY64") + [reference.read_sector(it) for it in range(16)]
     bench.check_frames(plan)
     check("reads", sum(out[0] == 0x03 for out, _ in bench.server.log[bench.first() - 1 :]), 5)
@@ -213,7 +213,7 @@ def writes(start):
 
 
 def writes_without_verification(start):
-    """Checks that -n omits the reads that verify the changed sectors, and that a line reports this."""
+    """Checks that -n omits the verification and the comparison of the whole chip, and that a line reports this."""
     old, new = images("writes_without_verification")
     bench = start(data=old)
     bench.write("new", new)
@@ -586,7 +586,7 @@ def shows_what_a_power_loss_means(start):
 
 
 def takes_long_names(start):
-    """Checks that the options with a letter have flashrom's long names, too.
+    """Checks that -c, -r, -l, -i, -v, -w, -n, -E and -h have flashrom's long names, too.
 
     A command with a letter and its long name ends with usage fault 1.
     """

@@ -141,7 +141,7 @@ def raw_settings(bench):
 
 
 def sets_up_the_port(start):
-    """Checks that the script flashnor-serprog makes the port raw, whatever its flags were, and then runs the program.
+    """Checks that the script flashnor-serprog makes a port with the flags COOKED raw, and then runs the program.
 
     The script must find the port in each form of -p that the program accepts, even after other letters (-Vp).
     """
@@ -194,7 +194,7 @@ def runs_nothing_if_the_port_stays_as_it_is(start):
                       {"PATH": f"{stty.parent}:{os.environ['PATH']}"})
     check("the run", (done.stdout, done.stderr, done.returncode), ("", "stty: no\n", 1))
     bench.check_nothing_sent()
-    # PATH now has the other commands that the script needs, but no stty.
+    # PATH now has no stty, but has readlink, which the script needs first.
     stty.unlink()
     for name in "dirname", "readlink":
         (stty.parent / name).symlink_to(shutil.which(name))

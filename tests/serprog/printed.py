@@ -1,6 +1,6 @@
 """These cases test printed lines: commands to copy, progress, locked status bits, reasons of the system, and logs.
 
-A printed command must name the right file in each shell that the machine has. Some cases test which file a failed run
+A printed command must name the right file in each of SHELLS. Some cases test which file a failed run
 removes, keeps or overwrites.
 """
 import os
@@ -87,7 +87,7 @@ def quotes_names_after_error_12(start):
 
 
 def quotes_the_device(start):
-    """Checks that each shell takes the device's name from the stty command that a fault prints."""
+    """Checks that each of SHELLS reads the device's name, with its apostrophe, from the stty command of a fault."""
     bench = start()
     device = bench.path("it's")
     os.symlink("/dev/null", device)
@@ -164,9 +164,9 @@ def advises_on_locks(start):
 
 
 def fits_narrow_terminals(start):
-    """Checks that the rewritten progress line has at most 39 characters.
+    """Checks that the rewritten progress line has at most 39 characters during a step, and fewer than 80 before it.
 
-    If the environment sets COLUMNS to a positive number, the line also has fewer characters than this number.
+    If the environment sets COLUMNS to a positive number, the line of a step also has fewer characters than this number.
     """
     old, new = images("fits_narrow_terminals")
     for columns, longest in (None, 39), ("200", 39), ("30", 29), ("0", 39), ("x", 39):
@@ -230,8 +230,8 @@ def removes_an_unsealed_journal(start):
 def keeps_the_file_of_another_program(start):
     """Checks that a stopped session keeps a file with which another program replaced the session's unsealed journal.
 
-    The session removes the file only if it is empty or an unsealed journal of format 2, because it could be the
-    session's own.
+    The session removes the file only if it is empty, an unsealed journal of format 2, or the beginning of one. The file
+    could then be the session's own.
     """
     old, new = images("keeps_the_file_of_another_program")
     sealed = reference.journal("TINY64", new, [1])
@@ -268,7 +268,7 @@ LOST = "After this run sealed the journal, another program removed, replaced or 
 
 
 def at_moment(bench, moment, **chosen):
-    """Makes the next runs execute COMMAND just before the file call `moment`, or makes this call fail with ERROR."""
+    """Makes the next runs execute COMMAND just before the file call `moment`, or lets this and later calls fail."""
     library = bench.path("meanwhile.so")
     subprocess.run(["cc", "-std=c11", "-O1", "-shared", "-fPIC", "-o", library, MEANWHILE], check=True)
     bench.environment = {"LD_PRELOAD": str(library), "MOMENT": moment, **chosen}

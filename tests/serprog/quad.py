@@ -32,7 +32,7 @@ def modifies(bench):
 def keeps_quad(start):
     """Checks that a chip with QE in bit 6 of status 1 is backed up, written, erased and restored.
 
-    QE stays set, and no status write is sent.
+    QE stays set, and the last restore sends no status write.
     """
     bench, old, new = connect(start, 0b010, status=bytes([QE, 0]))
     found = reference.found("TINY64")
@@ -77,7 +77,7 @@ def refuses_other_bits(start):
 
 
 def needs_even_sectors(start):
-    """Checks that a chip without 4 KiB erases everywhere is only read and compared.
+    """Checks that -r and -v work on a chip without 4 KiB erases everywhere.
 
     -w, -E and --backup end with error 2, create no journal and send no modifying command.
     """
@@ -107,7 +107,7 @@ def with_pages(bench, exponent, words=16):
 
 
 def needs_whole_pages(start):
-    """Checks that a chip with pages of fewer than 256 bytes is only read and compared.
+    """Checks that -r and -v work on a chip with pages of fewer than 256 bytes.
 
     -w, -E and --backup end with error 2, create no journal and send no modifying command.
     """

@@ -122,7 +122,7 @@ def restores_the_named_chip(start):
 def restores_no_other(start):
     """Checks that --restore refuses a damaged journal (error 15), and journals that don't fit the chip.
 
-    The errors are 16 for another ID or size, 20 for another unique ID, and 17 for another status.
+    The errors are 16 for another ID and size, 20 for another unique ID, and 17 for another SRP0.
     """
     old, new = images("restores_no_other")
     unique = bytes.fromhex("d1d2d3d4d5d6d7d8")
@@ -162,7 +162,8 @@ def keeps_old_journals(start):
 
 
 def refuses_images(start):
-    """Checks that an image of another length is error 4, and a missing image file fault 1. The chip isn't changed."""
+    """Checks that an image of another length is error 4, and that a missing image is file fault 1. The chip isn't
+    changed."""
     old, new = images("refuses_images")
     bench = start(data=old)
     bench.write("short", new[:-1])
@@ -265,7 +266,8 @@ def uses_small_programmers(start):
 def fills_no_buffer(start):
     """Checks that a write enable and a page program are written together to the port if the serial buffer holds both.
 
-    Otherwise, and before any other command, the write enable is written alone.
+    The page program must have 32 data bytes or more. Otherwise, and before any other command, the write enable is
+    written alone.
     """
     old = bytes(SECTOR) + b"\xff" * (SIZE - SECTOR)
     new = bytearray(b"\x01" + old[1:SECTOR] + bytes(range(255)) * 2 + b"\xff" * (SIZE - SECTOR - 510))

@@ -81,8 +81,8 @@ def takes_several_options(start):
         bench.check_file("out", only(old, "data", "main", "id"))
         bench.check_file("a", cut(old, "data"))
         bench.check_file("b", cut(old, "id"))
-    # If regions overlap, the file of the later option is used. A wrong region and the file `-` are found in each
-    # option.
+    # If regions overlap, the file of the later option is used. A wrong region is found in each option, and the
+    # file `-` in the second one.
     bench = begin(start, old)
     bench.write("first", b"\x01" * 0x2000)
     bench.write("second", b"\x02" * 0x1000)

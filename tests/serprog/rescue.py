@@ -1,8 +1,9 @@
 """These cases follow the section RECOVERY of flashnor-serprog(8) as a reader would, guided only by the printed lines.
 
 A session is disturbed, once for each kind of fault and each place that is tried. Then `decide` looks up the printed
-lines in the table "When to restore" of the page. If the table says no, the chip must be as before the session. If the
-table says yes, `rescue` performs the steps of the page, and the chip must then be as before the session.
+lines in the table "When to restore" of the page. If the table says no, the chip must be as before the session, except
+if the session made its change. If the table says yes, `rescue` performs the steps of the page, and the chip must then
+be as before the session.
 """
 import re
 

@@ -1,7 +1,8 @@
-"""These cases test restores that compare the sectors which the journal doesn't save, before and after the restore.
+"""These cases test restores with and without -N. A restore without -N compares the sectors that the journal doesn't
+save: it reads them before and after its changes.
 
-The expected bytes and addresses are those of the chip's model (chip.py). If a line ends with advice, only its beginning
-is compared.
+The expected addresses are computed from the bytes on the chip's model (chip.py). `begins` compares only the beginnings
+of lines, and so no advice at their ends.
 """
 import reference
 from bench import check
@@ -18,7 +19,8 @@ def restored(seed, numbers=(2, 7, 15)):
 
 
 def restore_wire(old, numbers):
-    """Returns the transactions on the wire of a restore without -N, and the numbers of its modifying commands."""
+    """Returns the transactions on the wire of a restore without -N, and the positions (counted from 1) of its modifying
+    commands among them."""
     plan = reference.whole_restore("TINY64", reference.restore("TINY64", old, numbers), numbers)
     wire = reference.carried(plan, old)
     return wire, [at for at, (out, _) in enumerate(wire, 1) if out[0] in reference.CHANGING]
@@ -35,7 +37,7 @@ def rest_count(numbers, data):
 
 
 def compares_the_rest_of_a_restore(start):
-    """Checks that a restore ends with chip fault 4 if an address bit is wrong in each command until the comparison.
+    """Checks that a restore ends with chip fault 4 if an address bit is wrong from the first change to the comparison.
 
     The saved sectors verify, because the verification reads them with the wrong bit, too. With -N, and in a second
     restore from this journal, the wrong sectors aren't detected.
@@ -116,7 +118,7 @@ def compares_after_error_14(start):
 def reads_restores_twice(start):
     """Checks that a restore reads all data twice, even data that equals the journal.
 
-    One wrong bit in any of these reads stops the restore with error 12.
+    One wrong bit in one of these reads stops the restore with error 12.
     """
     old, _, journal = restored("reads_restores_twice")
     for words in (), ("--quick",), ("-N",), ("--quick", "-N"):

@@ -2,18 +2,19 @@
 """The command `tests/serprog/run.py PROGRAM [NAME..]` tests the program flashnor-serprog with a simulated programmer.
 
 server.py simulates the programmer at a pseudo-terminal, and chip.py simulates the chip after the datasheets. The
-command runs the cases of the MODULES below, or only the cases, bits.py's jobs (`bits_..`) and `losses` that are named:
+command runs the cases of the MODULES below, bits.py's jobs (`bits_..`) and `losses`, or only those that are named:
 
 - manual.py and rescue.py follow the manual page.
 - all_makers.py tests the chips that chips/ describes, and status_bits.py tests bits of their status 1. Both use the
   model of models.py, which model_rules.py tests.
 - bits.py inverts single bits of replies, and lets the chip miss single frames.
-- `losses` runs losses.py and busy.py. They kill the program, or drop a reply, at each transaction of a session and of
-  its restores. In busy.py this happens while the chip is busy.
+- `losses` runs losses.py and busy.py. losses.py kills the program at each transaction of a session and of its restore.
+  From the first transaction of the job on it also drops each reply. At each erase and program of a session it cuts the
+  frame or the chip's power. busy.py kills the program, or drops a reply, at some operations while the chip is busy.
 
 reference.py computes what the program must send and print, without the program. For a failed case, the command prints
 what was expected and what was received. Its last line is `N passed, M failed`, and its exit status is 1 if a case
-failed.
+failed or none was run.
 """
 import os
 import sys

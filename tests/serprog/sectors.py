@@ -17,7 +17,7 @@ from losses import sealed_after, session_wire
 from options import ALL, images
 from wire import begins
 
-# A session changes these sectors. In sector 1 bits only change from 1 to 0.
+# The sessions of most cases change these sectors. In sector 1 bits only change from 1 to 0.
 CHANGED = (1, 2, 7, 15)
 # This library records the program's calls on files.
 CUT = Path(__file__).parents[1] / "kill/cut.c"

@@ -45,7 +45,7 @@ class Traits:
 
     - `nak`: the transaction isn't carried out, and the reply is NAK.
     - `strange`: the transaction is carried out, and the reply begins with a byte that is neither ACK nor NAK.
-    - `mute`: the transaction is carried out, and the programmer never sends a byte again.
+    - `mute`: the transaction is carried out, and the programmer sends no byte until the next run.
     - `unplug`: the transaction isn't carried out, and the programmer is disconnected.
     - `lose`: the transaction is carried out, and the programmer is disconnected before it replies.
     - `power`: in addition to `lose`, the chip loses its power during the operation.
@@ -87,8 +87,8 @@ class Traits:
     # The chip misses all transactions from the first to the second number, because it has no contact or no supply. The
     # third value is the byte that is received for each byte of a reply.
     lost: tuple = ()
-    # The addresses in the transactions from the first to the second number have a wrong bit on their way to the chip.
-    # The third value is the number of this bit.
+    # The addresses of programs, erases and reads of data from the transaction with the first number to that with the
+    # second have a wrong bit on their way to the chip. The third value is the number of this bit.
     wrong_address: tuple = ()
     # Before the transaction with this number the board is exchanged. The second value is the chip of the other board.
     other: tuple = ()

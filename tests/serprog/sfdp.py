@@ -29,7 +29,7 @@ class Table(NamedTuple):
 
 
 class Modes(NamedTuple):
-    """These are the fields of double words 1 and 15 that differ between the chips in chips/."""
+    """These are fields of double words 1, 5, 7, 15 and 16 that differ between the chips in chips/."""
 
     has_qpi: bool = False
     enters: int = 0

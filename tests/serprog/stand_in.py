@@ -1,8 +1,9 @@
 #!/usr/bin/env python3
-"""This stand-in for flashnor-serprog tests the tests: they must pass with it, and fail with each of its mistakes.
+"""This stand-in for flashnor-serprog tests the cases that self.py names.
 
-self.py runs it. The environment variable MISTAKE names the mistake that it makes. The stand-in has only the options
-that the cases use. Never use it on a chip.
+They must pass with the stand-in, and each of its mistakes must make the case fail that self.py names for this mistake.
+The environment variable MISTAKE names the mistake that the stand-in makes. The stand-in has only options that these
+cases use. Never use it on a chip.
 """
 import errno
 import hashlib
@@ -86,8 +87,8 @@ def status_text(status):
 def lock_advice(saved, found):
     """Returns the advice after error 17 for a chip whose ID is in the table of chips.
 
-    If only SRP0 differs, SRP0 can be set or cleared. If only SRP1 differs, a power cycle may clear it. Otherwise an
-    image can be written.
+    If SRP0 differs and SRP1 doesn't, SRP0 can be set or cleared. If SRP1 differs, is set on the chip, and SRP0 is clear
+    in both, a power cycle may clear SRP1. Otherwise an image can be written.
     """
     differs = [(one ^ other) & bit for one, other, bit in zip(saved, found, (SRP0, SRP1))]
     if differs == [SRP0, 0]:
@@ -201,7 +202,7 @@ class Job:
         return line, done, *["Nothing was verified (-n)."] * ("-n" in self.given)
 
     def read_whole(self, image):
-        """Returns the bytes of the whole chip, which are read before a change with regions."""
+        """Returns the bytes of the whole chip. A change with regions reads them first, unless -n or -N is given."""
         self.check_length(b"\xff" * self.size if image is None else image)
         included_sectors(self.ranges, self.size, self.given.get("-i"))
         self.found(self.given.get("-c"))
@@ -293,7 +294,7 @@ class Job:
         return lines
 
     def read_rest(self, rest):
-        """Returns the bytes of these sectors. No read reads ahead into another sector."""
+        """Returns the bytes of these sectors. No read reads ahead into a saved sector."""
         found = []
         for read in rest:
             self.link.limit = reference.Limited.limit if MISTAKE == "reads ahead into saved sectors" else read.limit
@@ -347,7 +348,10 @@ class Job:
         return line, self.done(saved)
 
     def fit(self, saved):
-        """Returns the status to restore, or `None` if a bit differs that the board's software can't have changed."""
+        """Returns the status to restore, and prints which bits the chip keeps.
+
+        Returns `None` if a bit differs that the board's software can't have changed.
+        """
         found = self.read_status()
         if (saved[0] ^ found[0]) & SRP0 or (saved[1] ^ found[1]) & SRP1:
             return None
@@ -357,7 +361,10 @@ class Job:
         return bytes([saved[0], saved[1] & ~0x3E | found[1] & 0x3E])
 
     def rewrite(self, target, saved, status, wanted):
-        """Erases and programs the saved sectors, sets the protection bits, and verifies the sectors."""
+        """Erases and programs the saved sectors (with --quick only those that differ), and verifies these sectors.
+
+        Sets the protection bits before it verifies.
+        """
         self.steps = [] if MISTAKE == "restores nothing" else reference.rewriting(target, saved)
         if MISTAKE == "skips equal sectors" or ("--quick" in self.given and MISTAKE != "is never quick"):
             now = self.scan(saved)
@@ -458,7 +465,7 @@ class Job:
 
 
 def job_of(given):
-    """Returns the method that performs the operation of these options."""
+    """Returns the function that performs the operation of these options for a `Job`."""
     for words, job in ((("-r",), Job.read), (("--backup",), Job.backup), (("-v",), Job.verify),
                        (("-w", "-E"), Job.change), (("--restore",), Job.restore),
                        (("--wp-status", "--wp-list", "--wp-range"), Job.protection),

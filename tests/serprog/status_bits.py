@@ -1,8 +1,9 @@
-"""These cases set bits 2 to 6 of status 1 on the chips in chips/.
+"""These cases set some of bits 2 to 6 of status 1 on chips of chips/.
 
-A chip is refused if one of these bits may protect sectors. A bit that certainly protects nothing is kept. The printed
-line says what the bits mean on the chips of this maker (from memory of the datasheets, section Status Register).
-W25Q16JV, whose ID isn't in the table of chips, is found by its SFDP.
+A chip is refused if one of these bits may protect sectors (or, on SST26, shows another state). A bit that certainly
+protects nothing is kept. The printed line says what the bits mean on the chips of this maker, if the program knows the
+maker (from memory of the datasheets, section Status Register). W25Q16JV, whose ID isn't in the table of chips, is found
+by its SFDP.
 """
 from functools import partial
 
@@ -45,7 +46,7 @@ STATUS = (
 
 
 def has_status(start, it, status, refused):
-    """written if the bits set in this status 1 protect nothing, and otherwise refused"""
+    """refused if a bit set in this status 1 may protect sectors or shows another state, and otherwise written"""
     play = Play(start, it, status)
     if it.name in LOCKED:
         play.registers = bytes((*play.registers[:2], play.registers[2] & ~OWN_LOCKS))

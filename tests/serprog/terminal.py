@@ -8,7 +8,7 @@ import reference
 from bench import LONGEST, WAITING, Differs, check, read_all
 from options import SECTOR, images
 
-# A run prints four things to a terminal: it draws the progress line, clears it, or ends it, or it prints a whole line.
+# A run does four things at a terminal: it draws the progress line, clears it, ends it, or prints a whole line.
 DRAWN = re.compile(rb"\r([ -~]+)\x1b\[K")
 CLEARED = re.compile(rb"\r\x1b\[K")
 ENDED = re.compile(rb"\r\n")
@@ -42,8 +42,8 @@ def untimed(lines):
 class Screen:
     """This class parses what a run printed to a terminal: the texts of the rewritten line, and the lines that stay.
 
-    It raises `Differs` if a text is too long, if a line doesn't begin at the left margin, or if an empty line was
-    printed.
+    It raises `Differs` if a text is too long (unless it says how long the step took), if a line doesn't begin at the
+    left margin, or if an empty line was printed.
     """
 
     def __init__(self, printed, is_cut=False, columns=COLUMNS):
@@ -87,7 +87,7 @@ class Screen:
         return [it for it in self.lines if it.startswith(f"{name}: ")][-1].partition(", ")[0]
 
     def check_steps(self, *names):
-        """Checks that exactly these steps have percentages, and that these never fall and end at 100."""
+        """Checks that exactly these steps have percentages. Those of each step must never fall, and end at 100."""
         known = {found[1] for found in map(STEP.fullmatch, self.drawn) if found["share"] or found["all"]}
         check("steps with a percentage", sorted(known), sorted(names))
         for name in names:
@@ -146,7 +146,7 @@ def rewrites_a_line(start):
         "The change took M:SS."])
     screen.check_steps("scan", "erase", "compare")
     bench.check_chip(old)
-    # A restore with -N reads nothing before it erases, so no rate is known for an estimate.
+    # A restore with -N reads no sector before it erases, so no rate is known for an estimate.
     status, printed, _ = run(bench, "--restore", "j", "-N")
     screen = Screen(printed)
     check("the lines", screen.others(), [
@@ -175,9 +175,9 @@ def says_that_the_chip_is_busy(start):
 
 
 def rewrites_it_ten_times_a_second(start):
-    """Checks that a long job draws the line in each step, at most about ten times per second.
+    """Checks that a long job draws the line in its scan, erases, programs and comparison.
 
-    The line is also drawn while the chip is busy.
+    During the erases, the line is drawn 8 to 40 times.
     """
     old = bytearray(b"\x5a" * (1 << 23))
     bench = start("W25Q64FV", data=bytes(old), scale=1.0, rate=6_000_000)
@@ -241,7 +241,7 @@ def logged(log):
 
 
 def with_read_back(lines):
-    """Returns the lines of -V with `read back` before the first program, where a blank sector is read again."""
+    """Returns the lines of -V with `read back` before the write enable of the first program."""
     at = next(at for at, it in enumerate(lines) if it.startswith("program ")) - 1
     return [*lines[:at], "read back", *lines[at:]]
 

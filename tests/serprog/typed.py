@@ -75,7 +75,7 @@ def escapes_arguments(start):
 
 
 def gives_tips(start):
-    """Checks that an option which only flashrom or flashnor has is refused with a tip that names an alternative."""
+    """Checks that options of flashrom or flashnor, and -A, are refused with a tip, and --reed without one."""
     bench = start()
     for option, tip in (
             ("-x", "-r FILE with -i NAME:FILE reads regions into files of their own"),
@@ -120,7 +120,7 @@ def lists_the_chips(start):
 
 
 def takes_repeated_flags(start):
-    """Checks that -V may be repeated, as in flashrom, and that --progress without a mode is --progress auto."""
+    """Checks that -V may be repeated, as in flashrom, and that --progress may be given without a mode."""
     bench = start()
     once = [it.split(" ", 1)[-1] for it in bench.run("-V").err]
     check("lines of -V", bool(once), True)

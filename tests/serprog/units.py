@@ -1,4 +1,4 @@
-"""These cases exchange the board during a job, or restore from a journal that doesn't fit the chip.
+"""These cases exchange the board during a job. The last two test the lines about another size and about a cleared QE.
 
 Both boards have a chip of one type with equal bytes. Only their unique IDs differ. The program reads the unique ID when
 it identifies the chip, and again before the first modifying command. If the board is exchanged in between, the job must
@@ -43,7 +43,8 @@ def exchange(bench, words, journal, left):
         # If the board is exchanged between two compared reads of the unique ID, their replies differ. Otherwise the
         # unique ID differs from the one that was read first.
         cause = EXCHANGED if again < number <= seal - 4 else DIFFER
-        # The journal is sealed and kept if the exchange is detected when the unique ID is read again.
+        # The journal is sealed and kept if the exchange is detected by the last two reads of the unique ID before the
+        # first modifying command.
         bench.expect(*words, err=[STOPPED, f"{cause} {left}", *(used if number > again else [])])
         for chip in bench.chip, other:
             check("the chip is unchanged", (chip.data == before, bytes(chip.status)), (True, status))

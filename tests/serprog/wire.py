@@ -1,7 +1,7 @@
 """These cases test faults between the programmer and the chip, and chips that need care.
 
-The expected bytes and addresses are those of the chip's model (chip.py). If a line ends with advice, only its beginning
-is compared.
+The expected bytes and addresses are those of the chip's model (chip.py). `begins` compares only the
+beginnings of lines, and so no advice at their ends.
 """
 import random
 
@@ -103,8 +103,8 @@ def reads_status_writes_back(start):
     check("the run", bench.run(*PROTECT).status, 0)
     number = numbers_of(bench, 0x01)[0]
     bench.server.traits.misses = {number: 0xFF}
-    # With -N the restore sends as many transactions as the session, so the status write has the number that it had
-    # there.
+    # With -N the restore sends as many transactions before its status write as the session, so the status write has
+    # the same number.
     begins("--restore", bench.run("--restore", "j", "-N"), [STOPPED, not_stored(BEFORE, AFTER)])
     bench.check_chip(blank, AFTER)
     check("the restore", bench.run("--restore", "j").status, 0)
@@ -234,9 +234,10 @@ def finds_a_wrong_erase(start):
 
 
 def compares_the_rest(start):
-    """Checks that a session ends with chip fault 4 if an address bit is wrong in the whole change.
+    """Checks that a run with a session ends with chip fault 4 if an address bit is wrong in the whole change.
 
-    The changed sectors verify, because the verification reads them with the wrong bit, too.
+    The session succeeds, because it verifies the changed sectors with the wrong bit, too. The comparison of the whole
+    chip then finds the difference.
     """
     old, new = images("compares_the_rest", (2, 7, 15))
     wire = session_wire(old, new)
@@ -318,9 +319,9 @@ def compares_excluded_sectors(start):
 
 
 def refuses_unknown_protection(start):
-    """Checks that a chip found by its SFDP isn't changed if one of bits 2 to 6 of its status 1 is set.
+    """Checks that GUARD64, which is found by its SFDP, isn't changed if one of bits 2 to 6 of its status 1 is set.
 
-    A session ends with chip fault 1, and a restore with error 17. A read works.
+    A session ends with chip fault 1, and a restore with error 17. A read works, and so does a session if all are clear.
     """
     old, new = images("refuses_unknown_protection")
     journal = reference.journal("GUARD64", old, (1, 2, 7, 15))

@@ -1,8 +1,8 @@
 /* Refuses allocations of the program into which this library is loaded (LD_PRELOAD): the one whose number, counted from
    1, is in the environment variable REFUSE (0 refuses none). If SPAN names a file, the library also refuses every
    allocation in a span of the run: from the moment in which that file was created, or was closed after it was read,
-   until another file (not a directory) is opened or written. At the start of each span, the library makes one
-   allocation itself, so that at least one is refused. When the program ends, the library writes the numbers of
+   until a file (not a directory) is opened, or another file is written. At the start of each span, the library makes
+   one allocation itself, so that at least one is refused. When the program ends, the library writes the numbers of
    allocations, of refused ones and of spans, and the name of the file that ended the last span, to the file that
    COUNTED names. */
 #define _GNU_SOURCE

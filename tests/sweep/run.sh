@@ -1,21 +1,22 @@
 #!/usr/bin/env bash
-# tests/sweep/run.sh [PROGRAM [RUN [NUMBER]]]: the allocation-failure test. Runs flashnor many times, and refuses a
-# different allocation each time. RUN selects one run by its name, and NUMBER the only allocation that is refused (0
-# refuses none).
+# tests/sweep/run.sh [PROGRAM [RUN [NUMBER]]]: the allocation-failure test. Runs flashnor many times, and refuses one or
+# more of its allocations. RUN selects one run by its name. For one of the first four runs, NUMBER selects the only
+# allocation that is refused (0 refuses none).
 #
 # Four runs work on a TINY64 with given bytes. Each first runs without a refused allocation, and must print and leave
 # what its line at the end of this script says. It is then repeated once for each of its allocations, which refuse.c
-# refuses. It must end as usual, or with status 1 and one of the lines that report that memory ran out. Image and status
-# must be as before the run, except a file for which the line reports that it was not written. If there is a journal, it
-# must be complete and restore the chip, or be a prefix of the usual journal.
+# refuses. It must end as usual, or with status 1 and one of the lines that report that memory ran out. After such a
+# line, image and status must be as before the run. But if the line reports that one of the two was not written, the
+# other must be as after the run. If there is a journal, it must be complete and restore the chip, or be a prefix of the
+# usual journal.
 #
 # Four further sessions and their restores are refused every allocation while only the journal is used: from the moment
 # in which the journal's file was created (or was closed after it was read) until the chip's file is written. Each must
 # print and leave what its line says.
 #
-# The test ends at the first run that does something else, or in which nothing was refused. It prints the command that
-# repeats this run, and ends with status 1. The run `wrong` checks that the test detects programs that report another
-# file or change the chip. The test needs a C compiler.
+# The test ends at the first run that does something else, or that requests no memory at the point where an allocation
+# must be refused. It prints the command that repeats this run, and ends with status 1. The run `wrong` checks that the
+# test detects programs that print wrong lines, change the chip, or leave a wrong journal. The test needs a C compiler.
 set -euo pipefail
 
 top=$(cd "$(dirname "$0")/../.." && pwd)
@@ -59,8 +60,8 @@ others=$(grep -owE 'mmap|mmap64|s?brk|aligned_alloc|posix_memalign|memalign|vall
 # bytes COUNT VALUE: prints COUNT bytes, each with the octal value VALUE.
 bytes() { head -c "$1" /dev/zero | tr '\000' "\\$2"; }
 
-# Creates images for the chips, which have FFh except in a few bytes, a layout, and the status that protects the last
-# 128 KiB of a chip of 8 MiB.
+# Creates images for the chips, a layout, and two status files. The status in `guarding` protects the last 128 KiB of a
+# chip of 8 MiB.
 make_files() {
     local large=8388608 place=8257536
     bytes $size 377 > erased
@@ -77,8 +78,8 @@ make_files() {
     echo '0x800:0x8ff bios' > layout
 }
 
-# begin BEFORE IMAGE: creates the chip's files with the bytes of BEFORE, copies IMAGE to the file `wanted`, and removes
-# the journal.
+# begin BEFORE IMAGE: creates the chip's image with the bytes of BEFORE, and its status file with those of the file
+# that `bits` names. Copies IMAGE to the file `wanted`, and removes the journal.
 begin() {
     cp "$1" chip.bin
     cp "$2" wanted
@@ -87,8 +88,8 @@ begin() {
 }
 
 # attempt NUMBER JOURNAL ARGUMENTS..: runs the program, and refuses the allocation NUMBER and those while only JOURNAL
-# is used (SPAN in refuse.c). The output goes to the files `said` and `faults`, and the counts of refuse.c to `asked`,
-# `refused`, `spans` and `until`.
+# is used (SPAN in refuse.c). The output goes to the files `said` and `faults`. `asked`, `refused`, `spans` and `until`
+# are set to what refuse.c wrote: three counts and a file's name.
 attempt() {
     local number=$1 journal=$2
     shift 2
@@ -113,8 +114,9 @@ differs() {
 # Succeeds if the run ended and printed as usual, that is, as without a refused allocation.
 is_own() { [[ $status == 0 && ! -s faults && $(cat said) == "$answer" ]]; }
 
-# Succeeds if the run reported that memory ran out. Sets `kind` to this report, and `unwritten` to the file of the chip
-# that was not written, if any. Only after the report of an unwritten file may the run have printed its result.
+# Succeeds if the run reported that memory ran out. Sets `kind` to the fault or error in this report, and `unwritten` to
+# the file of the chip that was not written, if any. If the run reported an unwritten file of the chip, and only then,
+# it must have printed its result.
 tells_memory() {
     local last
     unwritten=''
@@ -232,7 +234,7 @@ attempt_without_memory() {
     passed=$((passed + 1))
 }
 
-# Prints each report that memory ran out, with the number of runs that ended with it.
+# Prints each fault or error (`kind`) that reported that memory ran out, with the number of runs that ended with it.
 kinds() {
     for kind in "${!told[@]}"; do echo "$kind (${told[$kind]})"; done | sort | paste -sd, | sed 's/,/, /g'
 }
@@ -242,8 +244,8 @@ kinds() {
 wrong() {
     local printed status=0
     [[ -z $only || $only == wrong ]] || return 0
-    # The stub reads the number of the refused allocation from REFUSE, makes this number of allocations, and runs
-    # COMMANDS.
+    # The stub reads the number of the refused allocation from REFUSE. It makes this number of allocations, and runs
+    # COMMANDS. If the number is 0 or missing, or the stub has no arguments, it runs the program instead.
     [[ -x stub ]] || cc -std=gnu11 -O1 -x c -o stub - << EOT
 #include <stdlib.h>
 #include <unistd.h>
@@ -269,7 +271,7 @@ make_files
 tiny=dummy:emulate=TINY64,image=chip.bin,status=status.bin
 large=dummy:emulate=W25Q64FV,image=chip.bin,status=status.bin
 found="Found SFDP (fe1010), $size bytes."
-# The next two runs also detect a program that always reports that memory ran out for its image or its layout.
+# The next two runs also detect a program that always reports a lack of memory for its image (the first run) or layout.
 sweep memory_for_image erased erased erased "$found
 Done: touched 0, erases 0, programs 0, transactions 23." -w wanted --journal journal
 sweep layout_memory sector_00 erased region_ff "$found

@@ -8,8 +8,8 @@ has no checksum.
 
 ACK, NAK = b"\x06", b"\x15"
 O_SPIOP = 0x13
-# FOLLOW has the number of bytes that follow each opcode. After O_SPIOP, these are its two lengths of three bytes each,
-# and its data follow them.
+# FOLLOW has the number of bytes that follow an opcode of KNOWN (none if it isn't a key). After O_SPIOP, these are its
+# two lengths of three bytes each, and its data follow them. The firmware expects no bytes after another opcode.
 FOLLOW = {0x09: 3, 0x0A: 6, 0x0C: 4, 0x0E: 4, 0x12: 1, O_SPIOP: 6, 0x14: 4, 0x15: 1, 0x16: 1}
 KNOWN = (0, 1, 2, 3, 4, 5, 8, 0x10, 0x11, 0x12, O_SPIOP, 0x14, 0x15, 0x16)
 

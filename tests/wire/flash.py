@@ -1,13 +1,13 @@
 """Models an SPI NOR flash chip, as the instruction tables and timing diagrams of datasheets describe it.
 
 A chip acts when CS# rises: `select` receives all bytes that were clocked in while CS# was low. The chip carries out an
-instruction that changes something only if CS# rises right after the last byte of the instruction, as the datasheets
-demand.
+instruction that changes something, except the release from power-down (ABh), only if CS# rises right after the last
+byte of the instruction, as the datasheets demand.
 
 `Flash` has no block protection, and only the status bits BUSY and WEL. `Winbond` (winbond.py) is a W25Q64FV.
 
-Two sets record what a chip did. `once` has each one-time bit that was ever set. `hit` has the number of each sector
-that an erase or a program reached, and the text "security register" if one of these was changed.
+Two sets record what a chip did. `once` has each one-time bit, SRP1 among them, that a status write set. `hit` has the
+number of each sector that an erase or a program reached, and the text "security register" if one of these was changed.
 """
 import copy
 

@@ -4,7 +4,7 @@ from typing import NamedTuple
 from firmware import FOLLOW, KNOWN, O_SPIOP
 from line import OWN_SUPPLY, PLAIN, STALE, Fault
 
-# CHANGING has the opcodes of the chip's instructions that change something, including write enable (06h, 50h).
+# CHANGING has opcodes of instructions that change something in the chip, including write enable (06h, 50h).
 CHANGING = (0x06, 0x50, 0x01, 0x02, 0x20, 0x52, 0xD8, 0xC7)
 # TO_IT has the bytes that are inserted on the way to the programmer, and FROM_IT those that are inserted into its
 # replies.
@@ -33,7 +33,7 @@ class Frame(NamedTuple):
 
     @property
     def modifies(self):
-        """Returns whether the instruction changes the chip's data or status. A write enable changes neither."""
+        """Returns whether the instruction changes data or non-volatile status bits. A write enable changes neither."""
         return self.changes and self.kind[1] not in (0x06, 0x50)
 
     @property
@@ -100,7 +100,7 @@ def some(begin, end, all_up_to):
 
 
 def sweep(frames, is_long=False):
-    """Returns the faults at the bytes of these frames, in both directions.
+    """Returns the faults at some bytes (`some`) of the frames that `chosen` returns, in both directions.
 
     If `is_long` is true, returns only faults on the way to the programmer, in frames that modify the chip.
     """

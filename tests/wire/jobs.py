@@ -12,8 +12,8 @@ TINY, LARGE = Flash.size, Winbond.size
 JOURNAL = "j"
 
 # IN_TINY and IN_LARGE have the changes of a write: an address, with the bytes there before and after. If a change sets
-# a bit, the program erases the sector. Where the chip's size allows it, all bytes of the addresses are opcodes of the
-# chip.
+# a bit, the program erases the sector. Where the chip's size allows it, the bytes of the addresses are opcodes of the
+# chip, except one (10h), which is an opcode of serprog.
 IN_TINY = {0x2020: (b"\x00\x01", b"\x20\x06"), 0x60C7: (b"\x01\x00", b"\xc7\x52"), 0xC752: (b"\xff\xff", b"\x01\x04"),
            0xD801: (b"\xff\xff", b"\x60\xd8")}
 IN_LARGE = {0x0120C7: (b"\x00\x01", b"\x06\x01"), 0x02D820: (b"\x00\x01", b"\x13\x04"),
@@ -28,11 +28,12 @@ class Job(NamedTuple):
     """A job of the program, on a chip of the class `part`.
 
     `words` are the arguments after -p. `changes` has the bytes that change, as IN_TINY does, and `erased` the names of
-    ranges in ERASED. `status` has the chip's status bytes before the job, and `then` those that the job must leave.
+    ranges in ERASED. `status` has the chip's status bytes before the job (for a restore in JOBS, before the change that
+    it undoes), and `then` those that the job must leave.
 
     If the job is a restore, `before` has the arguments of the change that it undoes. `sectors` are the sectors that the
     job's journal saves. If `is_whole` is true, the job erases the whole chip. If `is_long` is true, bytes are lost,
-    doubled or inserted only in frames that modify the chip.
+    doubled or inserted only on the way to the programmer, in frames that modify the chip.
     """
 
     name: str
@@ -63,7 +64,7 @@ def filler(size):
 
 def images(job):
     """Returns the chip's bytes before and after a job or, for a restore, before and after the change that it undoes.
-    Before that, each sector that changes has FFh in all bytes that don't change."""
+    In the first image, each sector in `changes` or `erased` has FFh in all bytes that don't change."""
     old = filler(job.part.size)
     for at in job.changes:
         begin = at // SECTOR * SECTOR
@@ -138,7 +139,7 @@ JOBS = all_jobs()
 
 
 def make_programmer(job, old, **traits):
-    """Returns a programmer whose chip has the bytes `old` and the status bytes from before the job. `traits` are
-    arguments of `Programmer`."""
+    """Returns a programmer whose chip has the bytes `old` and the status bytes `job.status`. `traits` are arguments of
+    `Programmer`."""
     more = {} if job.part is Flash else {"status": job.status}
     return Programmer(job.part(old, **more), **traits)

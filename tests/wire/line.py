@@ -12,16 +12,17 @@ import time
 import tty
 from typing import NamedTuple
 
-# All times are multiplied by TIMES. The environment variable PATIENCE sets it, for a machine that is busy with other
-# work.
+# TIMES multiplies the times that a read waits and that a run may take. The environment variable PATIENCE sets TIMES,
+# for a machine that is busy with other work.
 TIMES = int(os.environ.get("PATIENCE", "1"))
-# A read of the program waits PATIENCE tenths of a second for a byte. A run may take LONGEST seconds.
+# A read of the program waits PATIENCE tenths of a second for a byte, unless a caller of `Line` chooses another time. A
+# run may take LONGEST seconds.
 PATIENCE, LONGEST = 3, 120 * TIMES
 # A terminal can wait at most LONGEST_WAIT tenths of a second, because termios has one byte for this time (VTIME).
 LONGEST_WAIT = 255
-# These are the kinds of cuts. After a STALE cut, the next run receives the replies that the killed run did not read, as
-# a USB device may send them. For an OWN_SUPPLY cut, the programmer selects the chip as soon as it has the lengths of a
-# frame, and the chip keeps its power when the programmer loses its power.
+# These are the kinds of cuts. After a STALE cut, the next run receives, unless a power cycle comes first, the replies
+# that the killed run did not read, as a USB device may send them. For an OWN_SUPPLY cut, the programmer selects the
+# chip as soon as it has the lengths of a frame, and the chip keeps its power when the programmer loses its power.
 PLAIN, STALE, OWN_SUPPLY = 1, 2, 3
 
 
@@ -64,7 +65,7 @@ class Way:
 
     def pass_on(self, data):
         """Returns the bytes that arrive if `data` is sent: `data` with the effect of the fault, if the fault is within
-        `data`."""
+        `data` and isn't a cut, which changes no bytes."""
         begin, fault = self.count, self.fault
         self.count += len(data)
         if not fault or fault.kind == "cut" or fault.at >= self.count or fault.at + fault.value < begin:
@@ -114,8 +115,8 @@ class Line:
         return Result(process.returncode, *lines, bytes(sent), back.count)
 
     def serve(self, process, fault):
-        """Carries bytes between a process and the programmer until the process ends. Returns the bytes that the process
-        sent, and the `Way` of the replies."""
+        """Carries bytes between a process and the programmer until the process ends, or kills it at a cut or after
+        LONGEST seconds. Returns the bytes that the process sent, and the `Way` of the replies."""
         sent, ended, end = bytearray(), os.pidfd_open(process.pid), time.monotonic() + LONGEST
         to, back = (Way(fault if fault and fault.way == way else None) for way in ("to", "back"))
         last = fault.at if fault and fault.kind == "cut" else None

@@ -1,4 +1,4 @@
-"""Plays a job with one fault and the runs of a user afterwards, and checks the chip after each run."""
+"""Plays a job with one fault and the runs of a user afterwards, and checks what they leave in the chip."""
 import functools
 import tempfile
 from pathlib import Path
@@ -18,8 +18,8 @@ KEPT_BITS = 'All bytes and protection bits are restored, but not the status bits
 SET_QUAD = "QE (set)"
 # While the programmer waits for bytes of a frame, the user identifies the chip again, at most MOST_RUNS times.
 MOST_RUNS = 6
-# A case with a finding is played again with LONG_PATIENCE (in tenths of a second), because a busy machine may have
-# caused the finding.
+# A case with a finding that isn't allowed is played again with LONG_PATIENCE (in tenths of a second), because a busy
+# machine may have caused the finding.
 LONG_PATIENCE = 50
 # A run without a fault has CLEAN_PATIENCE (in tenths of a second), since the programmer replies to every command.
 CLEAN_PATIENCE = 100
@@ -39,14 +39,15 @@ class Finding(NamedTuple):
     """A wrong result of a case: its kind, and a text. These are the kinds:
 
     - once: A one-time bit was set.
-    - wrong: The chip isn't as the exit status 0, or the line KEPT_BITS, says.
+    - wrong: The chip isn't as the exit status 0, or the line KEPT_BITS, says. Or KEPT_BITS came without exit status 1
+      or the right line KEPT.
     - silent: The exit status is 0, and the run reports nothing, but sectors are wrong, all of them outside the journal.
     - lost: A restore after a power cycle failed, although the journal has all changed sectors. Or the chip was changed,
       although the journal isn't sealed.
-    - hangs: A run did not end.
+    - hangs: The run with the fault did not end in time.
     - moved: The run sent other bytes before the fault than a run without a fault, or it ended before the fault.
-    - bits: QE or protection bits are wrong, but they can be written again. A restore reports them with exit status 1,
-      and a job without a journal can't report them.
+    - bits: Board bits or protection bits are wrong. A restore reports them with exit status 1, and a job without a
+      journal can't report them.
     - broken: The test itself failed (run.py).
     """
 
@@ -93,7 +94,8 @@ class Bench:
         """Checks that a run that reports success has left the bytes `data` and the status bytes `status`.
 
         Exit status 0 reports success. The line KEPT_BITS does so too, except for board bits. Returns whether the run
-        reports success.
+        reports success. Two differences are accepted: a QE that is set after a restore, and wrong bytes only in sectors
+        that the job doesn't save, if the run printed further lines and the status bytes are right.
         """
         is_restore = what == "the restore" or bool(self.job.before)
         if KEPT_BITS in got.err:
@@ -116,7 +118,7 @@ class Bench:
 
     def compare_kept(self, got, data, status, what):
         """Checks a run that printed KEPT_BITS. The chip must have the bytes `data` and the status bytes `status`,
-        except for the board bits that the line KEPT names."""
+        except for the board bits that the line KEPT names, and the exit status must be 1."""
         wrong, registers = self.wrong_sectors(data), self.chip.registers()
         kept = kept_bits(registers, status)
         named = [it for it in got.err if it.startswith(KEPT)]
@@ -159,8 +161,8 @@ def told(sectors):
 
 @functools.lru_cache(maxsize=2)
 def clean(program, name):
-    """Runs a job without a fault, for a restore after the change that it undoes. Returns the job and its `Played`.
-    Raises ValueError if the exit status isn't 0 or the chip is wrong."""
+    """Runs a job without a fault, for a restore after the change that it undoes. Returns the job, with the status bytes
+    before this run, and its `Played`. Raises ValueError if the exit status isn't 0 or the chip is wrong."""
     job = jobs.JOBS[name]
     old, new = jobs.images(job)
     files = {"new": new, "layout": jobs.layout(job.changes)}
@@ -188,7 +190,7 @@ def original(job, played):
 
 
 def play(program, name, fault, patience=PATIENCE):
-    """Plays a job with a fault. Returns the findings, and a line for each run."""
+    """Plays a job with a fault. Returns the findings, and the lines that describe the runs."""
     job, played = clean(program, name)
     traits = {"selects_early": True} if fault[2:] == ("cut", OWN_SUPPLY) else {}
     with tempfile.TemporaryDirectory() as folder:
@@ -229,8 +231,8 @@ def follow(bench, job, played):
 
 
 def finish(bench, job, played, had_cycle):
-    """Restores the chip if the job has a journal, or else runs the job again. `had_cycle` is true if the programmer was
-    disconnected before."""
+    """Restores the chip if the job has a journal and its file exists. If the job has no journal, runs the job again.
+    `had_cycle` is true if the programmer was disconnected before."""
     data, status = original(job, played)
     if not job.has_journal:
         got = bench.run(*job.words)

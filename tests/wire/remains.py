@@ -3,8 +3,8 @@ users."""
 from frames import HEAD
 from jobs import JOBS
 
-# If this is true, a restore must report a changed sector that its journal doesn't save. It finds this sector by the
-# checksums that the session wrote to a file beside the journal.
+# If this is true, a restore without -N must report a changed sector that its journal doesn't save. It finds this sector
+# by the checksums that the session wrote to a file beside the journal.
 NAMES_OTHERS = True
 
 

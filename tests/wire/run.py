@@ -8,9 +8,9 @@ tests/serprog. frames.py chooses the bytes, and jobs.py defines the jobs. play.p
 user afterwards.
 
 A case that failed is printed with its runs. The last line is `N passed, M failed`, and the exit status is 1 if a case
-failed. Without --all, only the cases are played that `is_in_part` chooses. --list also prints each case that `remains`
-allows. On a machine that is busy with other work, --processes sets how many cases are played at a time, and the
-environment variable PATIENCE=N multiplies all times by N (line.py).
+failed or none was played. Without --all, only the cases are played that `is_in_part` chooses. --list also prints each
+case that `remains` allows. On a machine that is busy with other work, --processes sets how many cases are played at a
+time, and the environment variable PATIENCE=N multiplies the times of line.py by N.
 """
 import argparse
 import collections
@@ -28,7 +28,7 @@ from remains import remains
 
 # A case mostly waits for replies, so each core can play several cases at a time.
 PROCESSES = 6 * (os.cpu_count() or 1)
-# Without --all, every STEP-th case is played, in addition to the most important ones (`is_in_part`).
+# Without --all, every STEP-th case of a job is played, in addition to the most important ones (`is_in_part`).
 STEP = 29
 
 
@@ -43,9 +43,9 @@ def cases_of(program, name):
 def is_in_part(number, fault, frame):
     """Returns whether a case is played without --all. These cases are:
 
-    - each loss of one byte, and each PLAIN cut, in a frame that modifies the chip
-    - each loss of up to three bytes in a status write
-    - each case whose number is a multiple of STEP
+    - each loss of one byte on the way to the programmer, and each PLAIN cut, in a frame that modifies the chip
+    - each loss of up to three bytes on the way to the programmer in a status write
+    - each case whose number in its job is a multiple of STEP
     """
     is_main = frame.modifies and fault.way == "to" and (fault.kind, fault.value) in (("lose", 1), ("cut", 1))
     is_main |= frame.kind[1] == 0x01 and fault.way == "to" and fault.kind == "lose"
@@ -101,8 +101,8 @@ def main(words):
 
 
 def report(program, cases, pool, shows_all):
-    """Plays these cases, and prints those that failed. Returns the number of failed cases, and for each reason of
-    `remains` the number of cases that it allowed."""
+    """Plays these cases, and prints those that failed and, if `shows_all` is true, those with allowed findings. Returns
+    the number of failed cases, and for each reason of `remains` the number of cases that it allowed."""
     failed, left = 0, collections.Counter()
     plays = pool.map(try_case, [program] * len(cases), cases, chunksize=4)
     for (name, fault, frame), (found, reasons, ran) in zip(cases, plays):

@@ -1,6 +1,6 @@
 #!/usr/bin/env python3
-"""tests/wire/self.py: compares the models with their datasheets, and checks that Wire detects the mistakes of
-wrong.py."""
+"""tests/wire/self.py: tests the models of the chips, the programmer and the line, and checks that Wire detects wrong
+results, such as the mistakes of wrong.py."""
 import os
 import sys
 import tempfile
@@ -20,7 +20,7 @@ from remains import remains
 from winbond import CMP, LB, QE, SRP0, SRP1, Winbond
 
 WRONG = str(Path(__file__).with_name("wrong.py").resolve())
-# The program wrong.py may wait PATIENCE tenths of a second for a reply.
+# In the runs of a case, wrong.py may wait PATIENCE tenths of a second for a byte (`tenths` multiplies this time).
 PATIENCE = 10
 ENABLE, POLL = b"\x06", b"\x05"
 
@@ -45,7 +45,8 @@ def change(chip, *out):
 
 
 def lengths_of_status_writes():
-    """Checks that 01h takes one or two data bytes, that one byte clears QE, and that other lengths change nothing."""
+    """Checks that 01h takes one or two data bytes, that one byte clears QE, and that no byte or three bytes change
+    nothing."""
     same(change(winbond((0, QE)), 0x01, 0x1C, QE).registers(), (0x1C, QE))
     same(change(winbond((0, QE)), 0x01, 0x1C).registers(), (0x1C, 0))
     same(change(winbond((0, QE)), 0x01).registers(), (0, QE))
@@ -53,8 +54,8 @@ def lengths_of_status_writes():
 
 
 def one_time_bits():
-    """Checks that a set LB bit stays set and is recorded, that SRP1 alone is cleared by a loss of power, and that SRP1
-    with SRP0 locks the status for ever."""
+    """Checks that a set LB bit stays set and is recorded, that SRP1 without SRP0 is cleared by a loss of power, and
+    that SRP1 with SRP0 locks the status even after one."""
     chip = change(winbond(), 0x01, 0, 0x10)
     same((chip.registers(), chip.once), ((0, 0x10), {0x10}))
     same(change(chip, 0x01, 0, QE).registers(), (0, 0x10 | QE))
@@ -119,7 +120,8 @@ def busy_chips():
 
 
 def protection():
-    """Checks the protected ranges of the datasheet, at their ends."""
+    """Checks six protected ranges of the datasheet at one of their ends, and that a fully protected chip ignores a chip
+    erase."""
     end = Winbond.size
     for status, free, shut in (
         ((0x04, 0), 0x7DF000, 0x7E0000), ((0x24, 0), 0x020000, 0x01F000), ((0x18, 0), 0x3FF000, 0x400000),
@@ -175,7 +177,8 @@ def a_supply_of_its_own():
 
 
 def faults_of_the_line():
-    """Checks that each fault changes the bytes at its position, even if the bytes are sent in two parts."""
+    """Checks that each fault except a cut changes the bytes at its position, even if the bytes are sent in two parts. A
+    cut changes no byte."""
     for kind, value, wanted in (("lose", 1, b"0134567"), ("lose", 3, b"01567"), ("double", 1, b"012234567"),
                                 ("insert", 0x41, b"01A234567"), ("cut", 1, b"01234567")):
         for split in range(9):
@@ -184,8 +187,8 @@ def faults_of_the_line():
 
 
 def busy_machines():
-    """Checks that PATIENCE multiplies the time that the terminal waits, up to the longest time that termios can store,
-    and that run.py accepts --processes."""
+    """Checks that `tenths` multiplies the time that the terminal waits, up to the longest time that termios can store,
+    that a new line waits this time, and that run.py accepts --processes."""
     same([tenths(3, times) for times in (1, 4, 99)], [3, 12, LONGEST_WAIT])
     with tempfile.TemporaryDirectory() as folder:
         line = Line(WRONG, folder, None, PATIENCE)
@@ -196,7 +199,8 @@ def busy_machines():
 
 
 def faults_that_never_happen():
-    """Checks that a fault that comes after the end of the run gives the finding `moved`, so the case doesn't pass."""
+    """Checks that a fault after the last byte of a run's replies gives the finding `moved`, and a fault at that byte
+    gives none."""
     os.environ["WRONG"] = ""
     _, played = play.clean(WRONG, "wp-enable")
     last = frames.frames_of(played.sent)[-1].last
@@ -206,8 +210,8 @@ def faults_that_never_happen():
 
 
 def found_in(wrong, faults, name="wp-enable"):
-    """Runs wrong.py with the mistakes `wrong`, once for each fault that the function `faults` chooses. Returns the
-    kinds of findings for each fault."""
+    """Plays the job `name` with wrong.py and its mistakes `wrong`, once for each fault that the function `faults`
+    chooses. Returns the kinds of findings for each fault, none of which may be `moved`."""
     os.environ["WRONG"] = wrong
     # `play.clean` keeps the run without a fault, and this run depends on the mistakes.
     play.clean.cache_clear()
@@ -230,14 +234,15 @@ def cuts(all_frames):
 
 
 def finds_what_is_sent_together():
-    """Checks that a lost byte of a status write sets a one-time bit if a poll is sent together with the status write,
-    and only then."""
+    """Checks that a lost data byte of a status write sets a one-time bit if a poll is sent together with the status
+    write, and not with the right program."""
     same([it & {"once"} for it in found_in("together", losses)][-2:], [{"once"}, {"once"}])
     same(set().union(*found_in("", losses)) & {"once", "wrong", "silent"}, set())
 
 
 def finds_what_completes_a_frame():
-    """Checks that a cut status write sets a one-time bit if the next run begins with 10h, and only then."""
+    """Checks that a cut status write can set a one-time bit if the next run of wrong.py begins with 10h (its mistake
+    `syncnop`), and can't if wrong.py makes no mistake."""
     same({"once"} in [it & {"once"} for it in found_in("syncnop", cuts)], True)
     same(set().union(*found_in("", cuts)) & {"once", "wrong", "silent"}, set())
 
@@ -274,7 +279,8 @@ def finds_restores_without_a_bit():
 
 
 def finds_wrong_lines():
-    """Checks that Wire judges a restore that prints KEPT_BITS by the bytes and the status bytes of the chip."""
+    """Checks the findings for restores with and without the line KEPT_BITS, which depend on the exit status, the lines,
+    and the chip's bytes and status bytes."""
     job = jobs.JOBS["unlock-restore"]
     old, _ = jobs.images(job)
     journaled, other = min(job.sectors) * SECTOR, 0

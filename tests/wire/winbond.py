@@ -5,7 +5,7 @@ SRP0, SRP1, QE, CMP, SUSPENDED = 0x80, 0x01, 0x02, 0x40, 0x80
 LB = 0x38
 # KEPT_1 and KEPT_2 are the non-volatile bits of status 1 and status 2, which a status write can set.
 KEPT_1, KEPT_2 = 0xFC, 0x7B
-# BOARD_BITS has the bits of status 2 that no job changes, with their names in the datasheet (7.1).
+# BOARD_BITS has the bits of status 2 that a restore leaves as they are, with their names in the datasheet (7.1).
 BOARD_BITS = {QE: "QE", 0x08: "LB1", 0x10: "LB2", 0x20: "LB3"}
 REGISTERS = {0x001000: 0x08, 0x002000: 0x10, 0x003000: 0x20}
 
@@ -70,7 +70,8 @@ class Winbond(Flash):
         self.volatile = True
 
     def write_status(self, out):
-        # A status write of only one byte clears QE, CMP and SRP1, because older chips have only one status register.
+        # A status write of only one data byte clears QE, CMP and SRP1, because older chips have only one status
+        # register.
         two = out[2] if len(out) == 3 else self.now[1] & LB
         self.store(out[1], two)
 
@@ -78,8 +79,8 @@ class Winbond(Flash):
         self.store(self.now[0], out[1])
 
     def store(self, one, two):
-        """Writes both registers, if 06h or 50h was sent before and SRP1 is clear. A one-time bit that is set stays
-        set."""
+        """Writes both registers (after 50h only their volatile bits), if 06h or 50h was sent before and SRP1 is clear.
+        A one-time bit that is set stays set."""
         may, lasting = self.latch or self.volatile, self.latch
         self.volatile = False
         if not may or self.now[1] & SRP1:

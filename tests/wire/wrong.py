@@ -3,7 +3,7 @@
 without it the program is right.
 
 The program implements only parts of flashnor-serprog: it sets SRP0 with --wp-enable, protects a range with --wp-range,
-and restores the status bytes with --restore. These are the mistakes:
+and restores the status bytes, except QE, with --restore. These are the mistakes:
 
 - together: The first poll is sent together with the status write.
 - syncnop: The first byte of a run is 10h.

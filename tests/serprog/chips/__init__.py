@@ -1,4 +1,4 @@
-"""This package describes chips for models.py, with one module per maker or group of makers.
+"""This package describes chips for models.py, with one module (except common.py) per maker or group of makers.
 
 **The descriptions were written from memory of the datasheets, without a page at hand, and no chip was tried.**
 `sources` names the datasheet sections in which to check them. Another revision of a chip may have another SFDP.

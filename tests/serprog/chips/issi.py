@@ -1,7 +1,7 @@
 """This module describes ISSI's IS25LP chips.
 
-From bit 7 to bit 0, the status has SRWD QE BP3 BP2 BP1 BP0 WEL WIP. The function register, which 48h reads and 42h
-writes, has TBS; the model leaves it out. 35h enters QPI mode.
+From bit 7 to bit 0, the status has SRWD QE BP3 BP2 BP1 BP0 WEL WIP. The model leaves out the function
+register (with TBS), which 48h reads and 42h writes. 35h enters QPI mode.
 """
 from chips.common import BASE, ERASES, M8, M16, RESET, SFDP, UNIQUE, WRITE_1, sleeps
 from models import Description, by_blocks

@@ -1,7 +1,8 @@
 """This module describes Macronix's MX25L and MX25U chips, and an SPI NAND chip.
 
 From bit 7 to bit 0, the status has SRWD QE BP3 BP2 BP1 BP0 WEL WIP. Bit 3 of the configuration register, which 15h
-reads, is TB. 4Bh reads no unique ID. On chips with QPI mode, 35h enters this mode, and F5h leaves it.
+reads (except on MX25L6405D), is TB. 4Bh reads no unique ID. On chips with QPI mode, 35h enters this mode, and F5h
+leaves it (but not in the model).
 """
 from chips.common import BASE, ERASES, M8, M16, RESET, SFDP, WRITE_2, sleeps
 from models import Description, by_blocks

@@ -4,9 +4,9 @@ From bit 7 to bit 0, status 1 of S25FL128L has SRP0 SEC TBPROT BP2 BP1 BP0 WEL W
 like status 2 of Winbond, but has LB0 in bit 2. Its 4 KiB erases reach the whole chip.
 
 Status 1 of S25FL128S has SRWD P_ERR E_ERR BP2 BP1 BP0 WEL WIP. 35h reads its CR1: LC1 LC0 TBPROT - BPNV TBPARM QUAD
-FREEZE. Its 4 KiB erase (20h) works only in 32 small sectors. These are at the start of the chip or, if TBPARM is set,
-at the end. Elsewhere the chip ignores 20h. It has no 32 KiB erase. A refused program sets P_ERR, and a refused erase
-sets E_ERR. WIP then stays set until 30h is sent.
+FREEZE. Its 4 KiB erase (20h, missing on S25FL128S-256) works only in 32 small sectors. These are at the start of the
+chip or, if TBPARM is set, at the end. Elsewhere the chip ignores 20h. It has no 32 KiB erase. A refused program sets
+P_ERR, and a refused erase sets E_ERR. WIP then stays set until 30h is sent.
 """
 from chips.common import BASE, ERASES, M16, RESET, SFDP, STATUS_2, UNIQUE, WRITE_2, WRITE_2_CLEARS, sleeps
 from models import Description, by_sixty_fourths

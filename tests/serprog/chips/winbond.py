@@ -1,7 +1,7 @@
 """This module describes Winbond's W25Q chips.
 
-From bit 7 to bit 0, status 1 has SRP0 SEC TB BP2 BP1 BP0 WEL BUSY, and status 2 has SUS CMP LB3 LB2 LB1 - QE SRP1. Bit
-2 of status 3 (JV) is WPS.
+From bit 7 to bit 0, status 1 has SRP0 SEC TB BP2 BP1 BP0 WEL BUSY (except that the model leaves out BP3 of W25Q256JV),
+and status 2 has SUS CMP LB3 LB2 LB1 - QE SRP1. Bit 2 of status 3 (JV) is WPS.
 """
 from chips.common import ERASES, BASE, M2, M8, M16, M32, RESET, SFDP, STATUS_2, STATUS_3, UNIQUE, WRITE_2, WRITE_2_CLEARS, \
     sleeps
@@ -32,7 +32,7 @@ def later(size, **modes):
 CHIPS = (
     one("W25Q64FV", "ef4017", M8, FV, build(0, basic(M8, TYPES, Modes(True), at=0x80))),
     # The ID of this chip isn't in the program's table of chips, whose chips can protect a 64th of their size. On this
-    # chip the smallest protected range is a 32nd.
+    # chip the smallest range without SEC is a 32nd.
     one("W25Q16JV", "ef4015", M2, {**JV, **sleeps(0x14)}, later(M2), registers=(0, 0x02, 0x60),
         protected=with_own_locks),
     one("W25Q64JV", "ef4017", M8, {**JV, **sleeps(0x16)}, later(M8), registers=(0, 0x02, 0x60),
