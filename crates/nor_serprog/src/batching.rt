@@ -44,7 +44,8 @@ impl<P: Port + Drop> BatchingBus<P> {
     ghost use Rattle.nor_serprog.specs.Link.{port_of, is_in_step};
     ghost use Rattle.nor_serprog.specs.Programmer.{any_buffer_of, buffer_of};
 
-    /// Returns a bus over a link whose programmer was identified (`Programmer::identify`).
+    /// Returns a bus over a link whose programmer was identified (`Programmer::identify`). The premise and the other
+    /// properties are those of `over`.
     pub fn new(link: Link<P>, programmer: Programmer) -> BatchingBus<P>
         requires settled { IsSettledFor (buffer_of programmer) P.state link }
         ensures link { link_of result ≡ link }
@@ -59,7 +60,12 @@ impl<P: Port + Drop> BatchingBus<P> {
     }
 
     /// Returns a bus over a link whose programmer was identified (`AnyProgrammer::identify`). The bus sends up to 260
-    /// bytes even if the programmer's limit is lower, so wrap it in a `SplittingBus` (nor_buses).
+    /// bytes even if the programmer's limit is lower, so wrap it in a `SplittingBus` (nor_buses). The chip may be of a
+    /// further type (`has_further_types` is true).
+    ///
+    /// If the port is well-behaved and the link in step, the programmer must be idle, and its serial buffer must have
+    /// at least the size that `programmer` reports. If the port is well-behaved and the link out of step, fewer than
+    /// three calls of the port must be left.
     pub fn over(link: Link<P>, programmer: AnyProgrammer) -> BatchingBus<P>
         requires settled { IsSettledFor (any_buffer_of programmer) P.state link }
         ensures link { link_of result ≡ link }
