@@ -18,6 +18,7 @@ sim_state bus = record {
   honest = true;
   history = bus.history.exchanges;
   sent = sent_in bus.history.exchanges;
+  passed = sent_in bus.history.exchanges;
   allowances = bus.history.allowances;
   worn = λ s. slice_index_or bus.worn s false;
   steady = is_none bus.fill && is_none bus.torn;

@@ -3,6 +3,7 @@ pub mod ProtectedAddresses
 pub mod Kept
 pub mod LeastCodes
 pub mod Histories
+pub mod Passed
 pub mod Nature
 pub mod RecordedSent
 pub mod Round

@@ -1,10 +1,10 @@
-use Rattle.std.proofs.Common.{◌≡◌, ◌∙◌, ◌∷◌, ℕ, Bool, true, false, true≢false, List, [], refl, sym, ap, subst, inl, inr, arith}
+use Rattle.std.proofs.Common.{◌≡◌, ◌∙◌, ◌∷◌, ℕ, Bool, true, false, true≢false, List, [], None, refl, sym, ap, subst, inl, inr, arith}
 use Rattle.std.specs.Prelude.{◌==◌, if◌then◌else◌}
 use Rattle.std.proofs.Math.Bool.{or-false}
 use Rattle.std.proofs.lemmas.Bool.{or_cases, cases_Bool, eqb-true}
 use Rattle.std.proofs.lemmas.Bool.Decides.{nat_tests}
 use Rattle.nor_model.specs.Command.{begins_quiet, is_quiet_opcode, is_changing_opcode, is_erase_opcode}
-use Rattle.nor_model.specs.Sent.{Sent, RecordsSent, with_sent, is_stirred, has_unknown, is_targeted, has_written, none_targeted, bare_targeted, addressed_targeted, is_in_targeted, targets, writes_status}
+use Rattle.nor_model.specs.Sent.{Sent, RecordsSent, with_sent, is_stirred, has_unknown, is_targeted, has_written, has_programmed, none_targeted, bare_targeted, addressed_targeted, is_in_targeted, targets, writes_status, programs_at}
 
 quiet_is : (opcode : ℕ) → is_quiet_opcode opcode ≡ true → (P : ℕ → Type 0) → P 0x03 → P 0x04 → P 0x05 → P 0x35 → P 0x4B
     → P 0x5A → P 0x9F → P opcode
@@ -47,6 +47,12 @@ writes_none opcode (x ∷ []) other one two = refl
 writes_none opcode (x ∷ y ∷ []) other one two = rw other refl
 writes_none opcode (x ∷ y ∷ z ∷ rest) other one two = refl
 
+programs_none : (opcode : ℕ) (rest : List ℕ) → (opcode == 0x02) ≡ false → (a : ℕ) → programs_at (opcode ∷ rest) a ≡ None
+programs_none opcode [] other a = refl
+programs_none opcode (x ∷ []) other a = refl
+programs_none opcode (x ∷ y ∷ []) other a = refl
+programs_none opcode (x ∷ y ∷ z ∷ rest) other a = rw other refl
+
 silent : (opcode : ℕ) (rest : List ℕ) (old : Sent) → bare_targeted opcode ≡ none_targeted
     → ((sector : ℕ) → addressed_targeted opcode sector ≡ none_targeted) → is_quiet_opcode opcode ≡ true
     → is_changing_opcode opcode ≡ false → (opcode == 0x01) ≡ false → (opcode == 0x02) ≡ false
@@ -57,6 +63,7 @@ silent opcode rest old bare at quiet change status program erase = record {
   unknown = rw quiet (sym (or-false (has_unknown old)));
   targeted = λ s. rw (targets_none opcode rest bare at s) (sym (or-false (is_targeted old s)));
   written = λ one two. rw (writes_none opcode rest status one two) (sym (or-false (has_written old one two)));
+  programmed = λ a byte. rw (programs_none opcode rest program a) (sym (or-false (has_programmed old a byte)));
   erases = rw erase refl;
   programs = rw program refl;
   status_writes = rw status refl;
@@ -69,6 +76,7 @@ quiet_records_sent [] old quiet = record {
   unknown = sym (or-false (has_unknown old));
   targeted = λ s. rw (in_none s) (sym (or-false (is_targeted old s)));
   written = λ one two. sym (or-false (has_written old one two));
+  programmed = λ a byte. sym (or-false (has_programmed old a byte));
   erases = refl;
   programs = refl;
   status_writes = refl;
@@ -91,6 +99,7 @@ loud_records_sent out old loud = record {
   unknown = refl;
   targeted = λ s. refl;
   written = λ one two. refl;
+  programmed = λ a byte. refl;
   erases = refl;
   programs = refl;
   status_writes = refl;

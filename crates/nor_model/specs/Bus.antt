@@ -1,5 +1,5 @@
 -- The contract of a bus. The contract sees a bus as one value, its state.
-use Rattle.std.specs.Prelude.{◌≡◌, ◌≤◌, ◌+◌, ◌⊎◌, ◌||◌, ℕ, Bool, true, false, List, [], ◌∷◌, length, take, Result, OnOk, OnErr}
+use Rattle.std.specs.Prelude.{◌≡◌, ◌≤◌, ◌+◌, ◌++◌, ◌⊎◌, ◌||◌, ℕ, Bool, true, false, List, [], ◌∷◌, length, take, Result, OnOk, OnErr}
 use Rattle.std.proofs.Common.{refl}
 use Rattle.nor_model.specs.declared.running.Running.TheVariants.{Unknown}
 use Rattle.nor_model.specs.Chip.{Chip}
@@ -7,6 +7,7 @@ use Rattle.nor_model.specs.Power.{PowerLost}
 use Rattle.nor_model.specs.Exchange.{Exchange}
 use Rattle.nor_model.specs.History.{Continues, exchange_of}
 use Rattle.nor_model.specs.Sent.{Sent, sent_in, with_sent}
+use Rattle.nor_model.specs.Passed.{Passes}
 use Rattle.nor_model.specs.PolledReady.{polled_ready_after, polled_ready_in}
 use Rattle.nor_model.specs.declared.bus.Stopped.{Stopped}
 use Rattle.nor_model.specs.Step.{Step, done_of, wears}
@@ -22,6 +23,9 @@ pub record BusState : Type 0 where
   pub history : List Exchange
   -- The bytes of each transaction that the bus was asked to carry out and that may modify a chip, the last one first.
   pub sent : Sent
+  -- The transactions that may modify a chip and that were passed on below all layers, for example to a port, the last
+  -- one first. A bus that wraps another bus has those of that bus. A bus that doesn't say what it passes on has none.
+  pub passed : Sent
   pub allowances : List ℕ
   -- The sectors that the chip of a well-behaved bus has erased so far, over this bus.
   pub worn : ℕ → Bool
@@ -44,6 +48,13 @@ pub record SameNature (old new : BusState) : Type 0 where
   pub further : new.further ≡ old.further
   pub config : old.honest ≡ true → new.chip.config ≡ old.chip.config
 
+-- Holds if `new.history` continues `old.history`, and those of the later transactions that may modify a chip, and no
+-- others, were added to `sent`.
+pub record AddsSent (old new : BusState) : Type 0 where
+  pub later : List Exchange
+  pub is : new.history ≡ later ++ old.history
+  pub sent : new.sent ≡ sent_in later ++ old.sent
+
 -- Holds for the states before and after any sequence of transactions on any bus.
 pub record KeepsNature (old new : BusState) : Type 0 where
   pub honest : new.honest ≡ old.honest
@@ -54,6 +65,7 @@ pub record KeepsNature (old new : BusState) : Type 0 where
   pub further : new.further ≡ old.further
   pub config : old.honest ≡ true → new.chip.config ≡ old.chip.config
   pub history : Continues old.history new.history
+  pub adds_sent : AddsSent old new
   pub allowances : new.allowances ≡ old.allowances
 
 -- Holds if the bus is well-behaved and takes a transaction that sends `out` and reads `replies` bytes.
@@ -65,6 +77,7 @@ pub record IsHonestFor (out : List ℕ) (replies : ℕ) (bus : BusState) : Type 
 pub record Records (out answer : List ℕ) (outcome : Result Unit Stopped) (old new : BusState) : Type 0 where
   pub history : new.history ≡ exchange_of out answer outcome ∷ old.history
   pub sent : new.sent ≡ with_sent out old.sent
+  pub passed : Passes out old.passed new.passed
   pub allowances : new.allowances ≡ old.allowances
   pub returned : OnOk outcome (new.polled_ready ≡ polled_ready_after out answer old.polled_ready)
   pub stopped : OnErr outcome (new.polled_ready ≡ old.polled_ready)
@@ -138,6 +151,7 @@ unknown_bus history = record {
   honest = false;
   history = history;
   sent = sent_in history;
+  passed = [];
   allowances = [];
   worn = λ s. false;
   steady = false;

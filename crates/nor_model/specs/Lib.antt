@@ -8,6 +8,7 @@ pub mod Step
 pub mod Exchange
 pub mod History
 pub mod Sent
+pub mod Passed
 pub mod PolledReady
 pub mod Bus
 pub mod Addresses

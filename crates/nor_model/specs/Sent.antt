@@ -1,5 +1,5 @@
 -- The transactions that may modify a chip: all except empty ones and those with a quiet opcode (`is_quiet_opcode`).
-use Rattle.std.specs.Prelude.{◌≡◌, ◌+◌, ◌*◌, ◌/◌, ◌==◌, ◌&&◌, ◌||◌, not, ℕ, Bool, true, false, List, [], ◌∷◌, nat_le, nat_lt, if◌then◌else◌}
+use Rattle.std.specs.Prelude.{◌≡◌, ◌+◌, ◌-◌, ◌*◌, ◌/◌, ◌==◌, ◌&&◌, ◌||◌, not, ℕ, Bool, true, false, List, [], ◌∷◌, length, slice_index, nat_le, nat_lt, Option, Some, None, if◌then◌else◌}
 use Rattle.nor_model.specs.Exchange.{Exchange}
 use Rattle.nor_model.specs.Command.{begins_change, begins_quiet, is_change, is_erase_opcode}
 
@@ -55,6 +55,21 @@ abbrev pub writes_status : (out : List ℕ) → (one two : ℕ) → Bool
 writes_status (opcode ∷ x ∷ y ∷ []) one two = opcode == 0x01 && x == one && y == two
 writes_status _ one two = false
 
+-- The byte at the address `a` if `bytes` lie from the address `at` on, or `None` if no byte lies there.
+abbrev pub byte_from : (at : ℕ) → (bytes : List ℕ) → (a : ℕ) → Option ℕ
+byte_from at bytes a = if nat_le at a && nat_lt a (at + length bytes) then Some (slice_index bytes (a - at)) else None
+
+-- The byte that the page program `out` programs at the address `a`, or `None` if `out` is no page program or has no
+-- byte for this address. Addresses count on from the program's own, without the wrap at the end of a page.
+abbrev pub programs_at : (out : List ℕ) → (a : ℕ) → Option ℕ
+programs_at (opcode ∷ x ∷ y ∷ z ∷ bytes) a =
+    if opcode == 0x02 then byte_from (65536 * x + 256 * y + z) bytes a else None
+programs_at _ a = None
+
+abbrev pub is_byte : Option ℕ → (byte : ℕ) → Bool
+is_byte (Some is) byte = byte == is
+is_byte None byte = false
+
 -- True if the model doesn't know a transaction that sends `out`. A real chip may carry it out: for example, 60h erases
 -- the chip, and 31h writes status 2.
 abbrev pub is_unknown_to_model : (out : List ℕ) → Bool
@@ -93,6 +108,10 @@ is_targeted sent s = has_sent (λ (out : List ℕ). targets out s) sent
 abbrev pub has_written : Sent → (one two : ℕ) → Bool
 has_written sent one two = has_sent (λ (out : List ℕ). writes_status out one two) sent
 
+-- True if some page program in `sent` programs `byte` at the address `a`.
+abbrev pub has_programmed : Sent → (a byte : ℕ) → Bool
+has_programmed sent a byte = has_sent (λ (out : List ℕ). is_byte (programs_at out a) byte) sent
+
 abbrev pub erases_of : Sent → ℕ
 erases_of sent = times_sent begins_erase sent
 
@@ -108,6 +127,8 @@ pub record RecordsSent (out : List ℕ) (old new : Sent) : Type 0 where
   pub unknown : has_unknown new ≡ (has_unknown old || is_unknown_to_model out)
   pub targeted : (s : ℕ) → is_targeted new s ≡ (is_targeted old s || targets out s)
   pub written : (one two : ℕ) → has_written new one two ≡ (has_written old one two || writes_status out one two)
+  pub programmed : (a byte : ℕ)
+      → has_programmed new a byte ≡ (has_programmed old a byte || is_byte (programs_at out a) byte)
   pub erases : erases_of new ≡ counted_once (begins_erase out) (erases_of old)
   pub programs : programs_of new ≡ counted_once (begins_program out) (programs_of old)
   pub status_writes : status_writes_of new ≡ counted_once (begins_status_write out) (status_writes_of old)
