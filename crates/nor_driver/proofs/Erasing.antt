@@ -1,4 +1,4 @@
-use Rattle.std.proofs.Common.{◌≡◌, ◌<◌, ◌+◌, ◌*◌, ◌/◌, ◌&&◌, ◌∙◌, ℕ, Bool, true, false, not, cond, nat_lt, nat_le, List, [], ◌∷◌, drop, ap, sym, refl, arith}
+use Rattle.std.proofs.Common.{◌≡◌, ◌<◌, ◌+◌, ◌*◌, ◌/◌, ◌&&◌, ◌∙◌, ℕ, Bool, true, false, true≢false, not, cond, nat_lt, nat_le, List, [], ◌∷◌, drop, ap, sym, refl, arith}
 use Rattle.std.specs.Prelude.{if◌then◌else◌}
 use Rattle.std.proofs.lemmas.Bool.{eqb-true}
 use Rattle.std.proofs.lemmas.Bool.Decides.{nat_tests}
@@ -10,7 +10,7 @@ use Rattle.nor_model.specs.Chip.{Chip}
 use Rattle.nor_model.specs.Guard.{is_block_protected}
 use Rattle.nor_model.specs.Command.{address_of, begins_quiet}
 use Rattle.nor_model.specs.Step.{is_idle, is_carried_out}
-use Rattle.nor_model.specs.Sent.{Sent, with_sent, targets, writes_status, begins_erase, begins_program, begins_status_write}
+use Rattle.nor_model.specs.Sent.{Sent, with_sent, targets, programs_at, is_byte, writes_status, begins_erase, begins_program, begins_status_write}
 use Rattle.nor_model.specs.Bus.{BusState}
 use Rattle.nor_model.proofs.Sizes.{sized_bounds}
 use Rattle.nor_driver.specs.declared.units.Erase.{Erase}
@@ -41,6 +41,12 @@ one_erase Units.Block64 x y z = (refl, refl, refl)
 no_status_in : (unit : EraseBlock) (x y z one two : ℕ) → writes_status (erase_bytes unit x y z) one two ≡ false
 no_status_in Units.Chip x y z one two = refl
 no_status_in _ x y z one two = refl
+
+no_byte_in : (unit : EraseBlock) (x y z a byte : ℕ) → is_byte (programs_at (erase_bytes unit x y z) a) byte ≡ false
+no_byte_in Units.Chip x y z a byte = refl
+no_byte_in Units.Sector x y z a byte = refl
+no_byte_in Units.Block32 x y z a byte = refl
+no_byte_in Units.Block64 x y z a byte = refl
 
 pub chip_bytes : (unit : EraseBlock) (opcode x y z : ℕ) → opcode ≡ opcode_of unit → unit ≡ Units.Chip
     → opcode ∷ [] ≡ erase_bytes unit x y z
@@ -133,6 +139,7 @@ module _ (erase : Erase) (x y z : ℕ) (names : 65536 * x + 256 * y + z ≡ 4096
       let one = one_erase erase.unit x y z in
       record {
         sectors = rw sent (named erase.unit erase.sector x y z names below);
+        programmed = λ a byte is. absurd (true≢false (sym (rw sent at is) ∙ no_byte_in erase.unit x y z a byte));
         status = λ a b is. sym (no_status_in erase.unit x y z a b) ∙ rw sent at is;
         numbers = rw (sent, one.0, one.1, one.2) (refl, refl, refl);
         bytes = bare;

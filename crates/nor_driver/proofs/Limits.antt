@@ -11,6 +11,7 @@ use Rattle.nor_driver.specs.Limits.{Limits, limits_of, SendsWithin, SendsExactly
 
 pub record IsPartOf (less more : Limits) : Type 0 where
   pub sectors : (s : ℕ) → less.sectors s ≡ true → more.sectors s ≡ true
+  pub bytes : (a byte : ℕ) → less.bytes a byte ≡ true → more.bytes a byte ≡ true
   pub status : (one two : ℕ) → less.status one two ≡ true → more.status one two ≡ true
   pub erases : less.erases ≤ more.erases
   pub programs : less.programs ≤ more.programs
@@ -19,6 +20,8 @@ pub record IsPartOf (less more : Limits) : Type 0 where
 pub record AreParts (first second all : Limits) : Type 0 where
   pub sectors : (s : ℕ) → first.sectors s ≡ true → all.sectors s ≡ true
   pub sectors' : (s : ℕ) → second.sectors s ≡ true → all.sectors s ≡ true
+  pub bytes : (a byte : ℕ) → first.bytes a byte ≡ true → all.bytes a byte ≡ true
+  pub bytes' : (a byte : ℕ) → second.bytes a byte ≡ true → all.bytes a byte ≡ true
   pub status : (one two : ℕ) → first.status one two ≡ true → all.status one two ≡ true
   pub status' : (one two : ℕ) → second.status one two ≡ true → all.status one two ≡ true
   pub erases : first.erases + second.erases ≤ all.erases
@@ -28,6 +31,8 @@ pub record AreParts (first second all : Limits) : Type 0 where
 pub record IsSum (first second all : Limits) : Type 0 where
   pub sectors : (s : ℕ) → first.sectors s ≡ true → all.sectors s ≡ true
   pub sectors' : (s : ℕ) → second.sectors s ≡ true → all.sectors s ≡ true
+  pub bytes : (a byte : ℕ) → first.bytes a byte ≡ true → all.bytes a byte ≡ true
+  pub bytes' : (a byte : ℕ) → second.bytes a byte ≡ true → all.bytes a byte ≡ true
   pub status : (one two : ℕ) → first.status one two ≡ true → all.status one two ≡ true
   pub status' : (one two : ℕ) → second.status one two ≡ true → all.status one two ≡ true
   pub erases : first.erases + second.erases ≡ all.erases
@@ -42,16 +47,38 @@ sends_none limits old new same = grind arith
 
 pub sends_more : (less more : Limits) (old new : BusState) → IsPartOf less more → SendsWithin less old new
     → SendsWithin more old new
-sends_more less more old new part sends = grind (arith, sends.targeted, sends.written, part.sectors, part.status)
+sends_more less more old new part sends = grind (
+  arith,
+  sends.targeted,
+  sends.programmed,
+  sends.written,
+  part.sectors,
+  part.bytes,
+  part.status,
+)
 
 pub sends_then : (first second all : Limits) (old mid new : BusState) → AreParts first second all
     → SendsWithin first old mid → SendsWithin second mid new → SendsWithin all old new
 sends_then first second all old mid new parts before after =
-    grind (arith, before.targeted, after.targeted, before.written, after.written, parts.sectors, parts.sectors', parts.status, parts.status')
+    grind (
+      arith,
+      before.targeted,
+      after.targeted,
+      before.programmed,
+      after.programmed,
+      before.written,
+      after.written,
+      parts.sectors,
+      parts.sectors',
+      parts.bytes,
+      parts.bytes',
+      parts.status,
+      parts.status',
+    )
 
 pub sends_same : (limits : Limits) (old mid new : BusState) → new.sent ≡ mid.sent → SendsWithin limits old mid
     → SendsWithin limits old new
-sends_same limits old mid new same sends = grind (arith, sends.targeted, sends.written)
+sends_same limits old mid new same sends = grind (arith, sends.targeted, sends.programmed, sends.written)
 
 pub exactly_none : (old new : BusState) → new.sent ≡ old.sent → SendsExactly 0 0 0 old new
 exactly_none old new same =
@@ -102,6 +129,7 @@ pub sends_one : (out : List ℕ) (old new : BusState) → is_unknown_to_model ou
     → SendsWithin (limits_of out) old new
 sends_one out old new known sends = record {
   targeted = grind (arith, sends.sent.targeted, or-false);
+  programmed = grind (arith, sends.sent.programmed, or-false);
   written = grind (arith, sends.sent.written, or-false);
   erases = counts_most (begins_erase out) (erases_of old.sent) (erases_of new.sent) sends.sent.erases;
   programs = counts_most (begins_program out) (programs_of old.sent) (programs_of new.sent) sends.sent.programs;
@@ -143,7 +171,7 @@ pub command_sends : (out : List ℕ) (old ready new : BusState) → is_unknown_t
 command_sends out old ready new known enables sends =
     let enable = enable_part (limits_of out) in
     sends_then (limits_of (6 ∷ [])) (limits_of out) (limits_of out) old ready new
-    (grind (arith, enable.sectors, enable.status)) (sends_one (6 ∷ []) old ready refl enables)
+    (grind (arith, enable.sectors, enable.bytes, enable.status)) (sends_one (6 ∷ []) old ready refl enables)
     (sends_one out ready new known sends)
 
 pub command_exactly : (out : List ℕ) (old ready new : BusState) → Sends (6 ∷ []) old ready → Sends out ready new

@@ -1,4 +1,4 @@
-use Rattle.std.proofs.Common.{◌≡◌, ◌<◌, ◌≤◌, ◌+◌, ◌*◌, ◌%◌, ℕ, true, false, cond, List, [], ◌∷◌, length, refl, arith}
+use Rattle.std.proofs.Common.{◌≡◌, ◌<◌, ◌≤◌, ◌+◌, ◌*◌, ◌%◌, ◌∙◌, ℕ, true, false, cond, List, [], ◌∷◌, length, refl, arith}
 use Rattle.std.proofs.Math.Nat.{mod-eq_of_lt}
 use Rattle.std.proofs.Math.Bool.{or-false, and-true}
 use Rattle.nor_model.specs.declared.config.Config.{Config}
@@ -6,10 +6,11 @@ use Rattle.nor_model.specs.declared.command.Command.TheVariants.{Program, Ignore
 use Rattle.nor_model.specs.Chip.{Chip}
 use Rattle.nor_model.specs.Command.{address_of}
 use Rattle.nor_model.specs.Step.{is_idle}
+use Rattle.nor_model.specs.Sent.{with_sent}
 use Rattle.nor_model.specs.Bus.{BusState}
 use Rattle.nor_model.proofs.PageBytes.{byte_after-program}
 use Rattle.nor_driver.specs.Operations.{operation_of, IsCommandAt, MayOperate, HasOperated, LeavesOperation, Operates, command_operation}
-use Rattle.nor_driver.specs.Programs.{takes_program, MayProgram, HasProgrammed, page_program}
+use Rattle.nor_driver.specs.Programs.{takes_program, MayProgram, HasProgrammed, SendsProgram, page_program}
 use Rattle.nor_driver.proofs.Taken.{IsFor, asked_at, leaves_as, does_as}
 
 pub same_address : (config : Config) (x y z at : ℕ) → 65536 * x + 256 * y + z ≡ at → at < config.size
@@ -44,6 +45,7 @@ module _ (at : ℕ) (sent command : List ℕ) (sends : IsCommandAt 0x02 at sent 
   program_asked : IsFor command sent (Program at) (page_program at sent) old.chip
   program_asked = record {
     sectors = rw (sends.4, sends.3) (λ s targeted. targeted);
+    programmed = rw (sends.4, sends.3) (λ a byte is. is);
     status = rw sends.4 (λ one two is. is);
     numbers = rw sends.4 (refl, refl, refl);
     bytes = rw sends.4 refl;
@@ -57,6 +59,13 @@ module _ (at : ℕ) (sent command : List ℕ) (sends : IsCommandAt 0x02 at sent 
   pub leaves_program : LeavesOperation (command_operation command) old new
       → LeavesOperation (page_program at sent) old new
   leaves_program leaves = leaves_as program_asked (λ may can. may_program at sent fits old new may) leaves
+
+  pub sends_program : new.sent ≡ with_sent command ((0x06 ∷ []) ∷ old.sent) → SendsProgram at sent old new
+  sends_program added = record {
+    out = command;
+    added = added ∙ rw sends.4 refl;
+    programs = sends;
+  }
 
   pub does_program : (count : ℕ) → Operates (command_operation command) old new count
       → Operates (page_program at sent) old new count

@@ -15,7 +15,7 @@ pub record Sends (out : List ℕ) (old new : BusState) : Type 0 where
 pub sends_by : {out answer : List ℕ} {outcome : Result Unit Stopped} {old new : BusState} → SameNature old new
     → Records out answer outcome old new → Sends out old new
 sends_by same records = record {
-  nature = nature_by same records.history records.allowances;
+  nature = nature_by same records;
   sent = records_sent records.sent;
   added = records.sent;
 }

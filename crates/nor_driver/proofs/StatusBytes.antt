@@ -13,9 +13,9 @@ use Rattle.nor_model.specs.Chip.{Chip, kept_in}
 use Rattle.nor_model.specs.Status.{bytes_of, bytes_with_code}
 use Rattle.nor_model.specs.Step.{is_idle}
 use Rattle.nor_model.specs.Bus.{BusState}
-use Rattle.nor_model.specs.Sent.{writes_status}
+use Rattle.nor_model.specs.Sent.{writes_status, with_sent}
 use Rattle.nor_driver.specs.Operations.{operation_of, MayOperate, HasOperated, LeavesOperation, Operates, command_operation}
-use Rattle.nor_driver.specs.StatusWrites.{fixed_of, with_code, is_status_with_code, takes_status, MayWriteStatus, HasWrittenStatus, status_write}
+use Rattle.nor_driver.specs.StatusWrites.{fixed_of, with_code, is_status_with_code, takes_status, MayWriteStatus, HasWrittenStatus, status_write, SendsStatusWrite}
 use Rattle.nor_driver.proofs.Limits.{in_none}
 use Rattle.nor_driver.proofs.Taken.{IsFor, asked_at, leaves_as, does_as}
 
@@ -82,6 +82,7 @@ module _ (status : Status) (code : ℕ) (below : code < 64) where
       status_asked : IsFor out [] (WriteStatus one two) (status_write status code) old.chip
       status_asked = record {
         sectors = λ s is. absurd (in_none s is);
+        programmed = λ a byte is. is;
         status = rw sent (λ a b is. is_code a b is);
         numbers = (refl, refl, refl);
         bytes = refl;
@@ -97,3 +98,6 @@ module _ (status : Status) (code : ℕ) (below : code < 64) where
       pub does_status : (count : ℕ) → Operates (command_operation out) old new count
           → Operates (status_write status code) old new count
       does_status count does = does_as status_asked (λ has can. has_written can.fixed has) count does
+
+      pub sends_status : new.sent ≡ with_sent out ((6 ∷ []) ∷ old.sent) → SendsStatusWrite status code old new
+      sends_status added = rw sent at added

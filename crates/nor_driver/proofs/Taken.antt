@@ -12,6 +12,7 @@ use Rattle.nor_driver.proofs.Limits.{sends_more}
 -- carries out `command` if `operation.can` holds, and nothing if `operation.ignores` holds.
 pub record IsFor (out sent : List ℕ) (command : Command) (operation : ChipOperation) (chip : Chip) : Type 0 where
   pub sectors : (s : ℕ) → (limits_of out).sectors s ≡ true → operation.limits.sectors s ≡ true
+  pub programmed : (a byte : ℕ) → (limits_of out).bytes a byte ≡ true → operation.limits.bytes a byte ≡ true
   pub status : (one two : ℕ) → (limits_of out).status one two ≡ true → operation.limits.status one two ≡ true
   pub numbers : ((limits_of out).erases ≡ operation.limits.erases)
       × ((limits_of out).programs ≡ operation.limits.programs)
@@ -32,7 +33,12 @@ module _ {out sent : List ℕ} {command : Command} {operation : ChipOperation} {
   leaves_as effect leaves = record {
     leaves = record {
       spends = leaves.leaves.spends;
-      sends = sends_more (limits_of out) operation.limits old new (grind (arith, asks.sectors, asks.status))
+      sends = sends_more (limits_of out) operation.limits old new (grind (
+        arith,
+        asks.sectors,
+        asks.programmed,
+        asks.status,
+      ))
           leaves.leaves.sends;
       reached = λ honest can.
           let is = asks.takes can in

@@ -59,6 +59,10 @@ pub record SendsOperation (old new : BusState) (sent : ℕ) : Type 0 where
   pub history : PollsUntilReady (replied command [] ∷ replied (0x06 ∷ []) [] ∷ old.history) new.history waited
   pub count : sent ≡ waited.polls + 2
 
+-- Holds if exactly one modifying command was sent, a write enable.
+abbrev pub SendsEnable : (old new : BusState) → Type 0
+SendsEnable old new = new.sent ≡ (0x06 ∷ []) ∷ old.sent
+
 pub record EndsWaiting (old new : BusState) (sent : ℕ) : Type 0 where
   pub sends : SendsOperation old new sent
   pub least : 3 ≤ sent

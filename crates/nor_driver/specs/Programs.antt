@@ -1,12 +1,12 @@
-use Rattle.std.specs.Prelude.{◌≡◌, ◌≢◌, ◌≤◌, ◌<◌, ◌+◌, ◌-◌, ◌/◌, ◌==◌, ◌&&◌, ℕ, Bool, false, not, nat_le, nat_lt, List, length, slice_index, bit_and, if◌then◌else◌}
+use Rattle.std.specs.Prelude.{◌≡◌, ◌≢◌, ◌≤◌, ◌<◌, ◌+◌, ◌-◌, ◌/◌, ◌==◌, ◌&&◌, ℕ, Bool, false, not, nat_le, nat_lt, List, [], ◌∷◌, length, slice_index, bit_and, if◌then◌else◌}
 use Rattle.nor_model.specs.declared.running.Running.TheVariants as Runs
 use Rattle.nor_model.specs.Chip.{Chip}
 use Rattle.nor_model.specs.Guard.{is_protected}
 use Rattle.nor_model.specs.Step.{is_idle}
-use Rattle.nor_model.specs.Sent.{is_in_targeted, block_targeted}
+use Rattle.nor_model.specs.Sent.{is_in_targeted, block_targeted, byte_from, is_byte}
 use Rattle.nor_model.specs.Bus.{BusState}
 use Rattle.nor_driver.specs.Limits.{programming}
-use Rattle.nor_driver.specs.Operations.{ChangesOnly, HasEnded, ChipOperation}
+use Rattle.nor_driver.specs.Operations.{ChangesOnly, HasEnded, IsCommandAt, ChipOperation}
 
 pub record CanProgram (at len : ℕ) (chip : Chip) : Type 0 where
   pub idle : chip.busy ≡ 0
@@ -41,9 +41,15 @@ HasProgrammed at sent old = HasEnded (programmed at sent old.chip.bytes) old.chi
 
 abbrev pub page_program : (at : ℕ) → (sent : List ℕ) → ChipOperation
 page_program at sent = record {
-  limits = programming (is_sector_of at) 1;
+  limits = programming (is_sector_of at) (λ a byte. is_byte (byte_from at sent a) byte) 1;
   can = CanProgram at (length sent);
   ignores = λ chip. (at < chip.config.size) × (takes_program chip at ≡ false);
   may = MayProgram at sent;
   has = HasProgrammed at sent;
 }
+
+-- Holds if exactly a write enable and then the page program of `bytes` at the address `at` were sent.
+pub record SendsProgram (at : ℕ) (bytes : List ℕ) (old new : BusState) : Type 0 where
+  pub out : List ℕ
+  pub added : new.sent ≡ out ∷ (0x06 ∷ []) ∷ old.sent
+  pub programs : IsCommandAt 0x02 at bytes out

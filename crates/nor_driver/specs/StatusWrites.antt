@@ -1,8 +1,10 @@
-use Rattle.std.specs.Prelude.{◌≡◌, ◌≢◌, ◌+◌, ◌*◌, ◌/◌, ◌%◌, ◌==◌, ◌&&◌, ◌⊎◌, ℕ, Bool, false, not}
+use Rattle.std.specs.Prelude.{◌≡◌, ◌≢◌, ◌+◌, ◌*◌, ◌/◌, ◌%◌, ◌==◌, ◌&&◌, ◌++◌, ◌⊎◌, ℕ, Bool, false, not, List, [], ◌∷◌, Option, None, Some, if◌then◌else◌}
 use Rattle.nor_model.specs.declared.running.Running.TheVariants as Runs
 use Rattle.nor_model.specs.declared.status.Status.{Status}
-use Rattle.nor_model.specs.Status.{bytes_of}
+use Rattle.nor_model.specs.Status.{bytes_of, bytes_with_code}
 use Rattle.nor_model.specs.Chip.{Chip, KeptBits, is_locked, kept_in, lb3_to_srp1, srp0_bit}
+use Rattle.nor_model.specs.Guard.{code_of}
+use Rattle.nor_model.specs.Sent.{Sent, begins_status_write}
 use Rattle.nor_model.specs.Step.{is_idle}
 use Rattle.nor_model.specs.Bus.{BusState}
 use Rattle.nor_driver.specs.Limits.{writing}
@@ -55,3 +57,24 @@ status_write status code = record {
   may = MayWriteStatus code;
   has = HasWrittenStatus code;
 }
+
+-- Holds if, since `old`, exactly a write enable and a status write with the protection bits `code` were sent.
+abbrev pub SendsStatusWrite : Status → (code : ℕ) → (old new : BusState) → Type 0
+SendsStatusWrite status code old new = new.sent ≡ (0x01 ∷ bytes_with_code status code) ∷ (0x06 ∷ []) ∷ old.sent
+
+-- The protection bits that the status write `out` sends, or `None` if `out` doesn't have two bytes after the opcode.
+abbrev pub code_sent : (out : List ℕ) → Option ℕ
+code_sent (opcode ∷ one ∷ two ∷ []) = Some (code_of (kept_in (one ∷ two ∷ [])))
+code_sent _ = None
+
+-- The protection bits of the last status write in `sent`, or `before` if `sent` has no status write.
+abbrev pub last_code : (before : Option ℕ) → Sent → Option ℕ
+last_code before [] = before
+last_code before (out ∷ earlier) = if begins_status_write out then code_sent out else last_code before earlier
+
+-- Holds if `code` has the protection bits that were last written since `old` or, if no status write was sent since
+-- `old`, equals `read`. A status write that doesn't send two bytes counts as one with unknown protection bits.
+pub record EndsWithCode (read code : ℕ) (old new : BusState) : Type 0 where
+  pub later : Sent
+  pub added : new.sent ≡ later ++ old.sent
+  pub last : last_code (Some read) later ≡ Some code

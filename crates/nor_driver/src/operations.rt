@@ -1,13 +1,13 @@
 //! Operations: each sends a write enable and a modifying command, and then waits until the chip is ready.
 
-ghost use Rattle.std.specs.Prelude.{◌≡◌, ◌<◌, ◌≤◌, ◌+◌, ◌*◌, ◌%◌, ◌^◌, true, [], ◌∷◌, length, IfOk, IfErr, OnOk};
+ghost use Rattle.std.specs.Prelude.{◌≡◌, ◌<◌, ◌≤◌, ◌+◌, ◌*◌, ◌%◌, ◌^◌, ◌⊎◌, true, [], ◌∷◌, length, IfOk, IfErr, OnOk};
 ghost use Rattle.nor_model.specs.Sent.{with_sent};
 ghost use Rattle.nor_driver.specs.Waits.{OperationFails, NamesTimeout};
-ghost use Rattle.nor_driver.specs.Operations.{BytesNameAddress, IsCommandAt, AsksForOperation, LeavesOperation, Operates, command_operation, most_operation};
-ghost use Rattle.nor_driver.specs.Programs.{page_program};
+ghost use Rattle.nor_driver.specs.Operations.{BytesNameAddress, IsCommandAt, AsksForOperation, SendsEnable, LeavesOperation, Operates, command_operation, most_operation};
+ghost use Rattle.nor_driver.specs.Programs.{SendsProgram, page_program};
 ghost use Rattle.nor_driver.specs.Units.{is_aligned};
 ghost use Rattle.nor_driver.specs.Erases.{block_erase, SendsErase};
-ghost use Rattle.nor_driver.specs.StatusWrites.{status_write};
+ghost use Rattle.nor_driver.specs.StatusWrites.{status_write, SendsStatusWrite};
 
 use crate::{Erase, EraseBlock, OperationError, wait};
 use arrayvec::ArrayVec;
@@ -17,6 +17,9 @@ use nor_model::{Bus, Status};
 /// Programs `bytes` from `address` on (02h; W25Q64FV datasheet, Page Program), and waits until the chip is ready.
 /// `address` must be below 16 MiB, and `bytes` must not be empty and must lie in one page of 256 bytes. Returns the
 /// number of transactions, even if the program is ignored because the chip is busy or protects `address`.
+///
+/// On every bus, even a faulty one, the only modifying commands sent are one write enable and then one program of
+/// exactly `bytes` at `address`; if the bus stopped at the write enable, no program follows.
 pub fn program_page<B: Bus>(bus: &mut B, address: u32, bytes: &[u8]) -> Result<u32, OperationError>
     requires reachable { address < 2 ^ 24 }
     requires some { 0 < length bytes.now }
@@ -25,6 +28,9 @@ pub fn program_page<B: Bus>(bus: &mut B, address: u32, bytes: &[u8]) -> Result<u
     ensures does { IfOk result (Operates (page_program address bytes.now) (B.state bus.old) (B.state bus.new)) }
     ensures fails { IfErr result (OperationFails most_operation (B.state bus.old) (B.state bus.new)) }
     ensures names { IfErr result (NamesTimeout address) }
+    ensures begins { SendsEnable (B.state bus.old) (B.state bus.new)
+        ⊎ SendsProgram address bytes.now (B.state bus.old) (B.state bus.new) }
+    ensures sends { OnOk result (SendsProgram address bytes.now (B.state bus.old) (B.state bus.new)) }
 {
     let command = program_command(address, bytes);
     operation(bus, &command, address)
@@ -60,6 +66,7 @@ pub fn write_status<B: Bus>(bus: &mut B, status: Status, code: u8) -> Result<u32
     ensures does { IfOk result (Operates (status_write status code) (B.state bus.old) (B.state bus.new)) }
     ensures fails { IfErr result (OperationFails most_operation (B.state bus.old) (B.state bus.new)) }
     ensures names { IfErr result (NamesTimeout 0) }
+    ensures sends { OnOk result (SendsStatusWrite status code (B.state bus.old) (B.state bus.new)) }
 {
     let [one, two] = status.with_code(code).bytes();
     operation(bus, &[WRITE_STATUS, one, two], 0)
@@ -71,6 +78,8 @@ fn operation<B: Bus>(bus: &mut B, command: &[u8], address: u32) -> Result<u32, O
     ensures does { IfOk result (Operates (command_operation command.now) (B.state bus.old) (B.state bus.new)) }
     ensures fails { IfErr result (OperationFails most_operation (B.state bus.old) (B.state bus.new)) }
     ensures names { IfErr result (NamesTimeout address) }
+    ensures begins { SendsEnable (B.state bus.old) (B.state bus.new)
+        ⊎ ((B.state bus.new).sent ≡ with_sent command.now ((0x06 ∷ []) ∷ (B.state bus.old).sent)) }
     ensures sends { OnOk result
         ((B.state bus.new).sent ≡ with_sent command.now ((0x06 ∷ []) ∷ (B.state bus.old).sent)) }
 {

@@ -1,8 +1,8 @@
-use Rattle.std.proofs.Common.{arith}
-use Rattle.std.proofs.lemmas.Result.{IfOk-weaker}
+use Rattle.std.proofs.Common.{arith, inl, inr}
+use Rattle.std.proofs.lemmas.Result.{IfOk-weaker, on_ok_weaker}
 use Rattle.nor_driver.specs.Operations.{IsCommandAt}
 use Rattle.nor_driver.proofs.Asks.{asks_program}
-use Rattle.nor_driver.proofs.Programming.{leaves_program, does_program}
+use Rattle.nor_driver.proofs.Programming.{leaves_program, sends_program, does_program}
 use Rattle.nor_driver.proofs.operations.program_page.Goals as goal
 use Rattle.nor_driver.proofs.operations.program_page.Goals.{After-operation}
 
@@ -23,3 +23,14 @@ pub returns-clause-does : goal.returns-clause-does
 returns-clause-does g c =
     IfOk-weaker c.operation.result _ _
     (does_program _ _ _ (sent g c) c.requires.some c.requires.in_page _ _) c.operation.ensures.does
+
+pub returns-clause-begins : goal.returns-clause-begins
+returns-clause-begins g c = elim c.operation.ensures.begins [
+  | inl enabled ↦ inl enabled
+  | inr added ↦ inr (sends_program _ _ _ (sent g c) c.requires.some c.requires.in_page _ _ added)
+]
+
+pub returns-clause-sends : goal.returns-clause-sends
+returns-clause-sends g c =
+    on_ok_weaker c.operation.result
+    (sends_program _ _ _ (sent g c) c.requires.some c.requires.in_page _ _) c.operation.ensures.sends
