@@ -1,5 +1,5 @@
 -- The exits of `apply` after each of its parts: the unlock, the erases, the programs and the last status write.
-use Rattle.std.proofs.Common.{ℕ, ◌≡◌, ◌<◌, ◌≤◌, ◌+◌, ◌*◌, ◌/◌, ◌∙◌, ◌++◌, Bool, true, false, List, [], ◌∷◌, inl, inr, refl, zero-add, sym, ap, subst, arith, true≢false}
+use Rattle.std.proofs.Common.{ℕ, ◌≡◌, ◌<◌, ◌≤◌, ◌+◌, ◌*◌, ◌/◌, ◌∙◌, ◌++◌, Bool, true, false, List, [], ◌∷◌, inl, inr, refl, sym, ap, subst, arith, true≢false}
 use Rattle.std.specs.Prelude.{◌&&◌, ◌||◌, if◌then◌else◌}
 use Rattle.std.proofs.lemmas.Bool.{or_right, or_cases}
 use Rattle.std.proofs.lemmas.List.{append_assoc}
@@ -7,12 +7,12 @@ use Rattle.std.proofs.Math.Bool.{or-true}
 use Rattle.nor_geometry.specs.Below.{count_below}
 use Rattle.nor_geometry.specs.Counts.{sector_count}
 use Rattle.nor_geometry.proofs.Counting.{count_below-most}
-use Rattle.nor_model.specs.Sent.{Sent, begins_erase, begins_program, counted_once, times_sent, has_sent, erases_of, programs_of}
+use Rattle.nor_model.specs.Sent.{Sent, begins_erase, begins_program, has_sent, erases_of, programs_of}
 use Rattle.nor_model.specs.Bus.{BusState}
 use Rattle.nor_driver.specs.declared.waits.OperationError.{OperationError}
 use Rattle.nor_driver.specs.declared.waits.OperationError.TheVariants.{Stopped, Timeout}
 use Rattle.nor_driver.specs.Waits.{OperationFails, NamesTimeout}
-use Rattle.nor_driver.specs.StatusWrites.{is_status_with_code, status_write}
+use Rattle.nor_driver.specs.StatusWrites.{is_status_with_code, status_write, SendsStatusWrite, EndsWithCode}
 use Rattle.nor_driver.specs.Limits.{writing, no_status, SendsExactly}
 use Rattle.nor_driver.specs.Operations.{LeavesOperation, Operates, most_operation}
 use Rattle.nor_driver.proofs.Limits.{exactly_none, exactly_then}
@@ -21,12 +21,13 @@ use Rattle.nor_plan.specs.SectorSet.{none}
 use Rattle.nor_apply.specs.declared.changes.Changes.{Changes}
 use Rattle.nor_apply.specs.declared.tally.Tally.{Tally}
 use Rattle.nor_apply.specs.Within.{is_writable}
-use Rattle.nor_apply.specs.Spending.{may_target}
+use Rattle.nor_apply.specs.Spending.{may_target, NamesTimeoutIn}
 use Rattle.nor_apply.specs.Change.{MayChange, blank}
 use Rattle.nor_apply.specs.Erasing.{is_erase_of, CanEraseAll, LeavesErases, DoesErases}
 use Rattle.nor_apply.specs.Programming.{CanProgramAll, LeavesPrograms, DoesPrograms, most_sector}
 use Rattle.nor_apply.specs.Applying.{touched_in, raised_in, writes_code, status_writes, is_status_asked, most_applied, CanApply, LeavesApply, ErasesFirst, DoesApply, NamesChange}
 use Rattle.nor_apply.proofs.InTurn.{ran_none, ran_after, ran_leaves, honest_now}
+use Rattle.nor_apply.proofs.LastCode.{none_added, coded_none, coded_then, coded_kept, coded_written}
 use Rattle.nor_apply.proofs.Targeting.{target_here, target_wider}
 use Rattle.nor_apply.proofs.Changing.{change_as, same_change}
 use Rattle.nor_apply.proofs.ApplyingSteps.{code_read, code_once, code_spared, intermediate_first, intermediate_changed, can_erase_all, can_program_all, applied}
@@ -61,6 +62,17 @@ module _ (changes : Changes) (wanted : ℕ → ℕ) (old : BusState) where
   lifted {new} {sent} is leaves does =
       subst (LiftedIf changes wanted old new (0 + sent)) (sym is)
       (code_written nothing leaves (λ can. can.writable (rw is refl)) does (grind arith))
+
+  pub code_lifted : {new : BusState} → changes.unlock ≡ true → SendsStatusWrite changes.status 0 old new
+      → EndsWithCode (code_read changes) (code_once changes) old new
+  code_lifted {new} is sends =
+      subst (λ (unlock : Bool). EndsWithCode (code_read changes) (if unlock then 0 else code_read changes) old new)
+      (sym is) (coded_written changes.status (omega arith) sends)
+
+  pub code_not_lifted : changes.unlock ≡ false → EndsWithCode (code_read changes) (code_once changes) old old
+  code_not_lifted is =
+      subst (λ (unlock : Bool). EndsWithCode (code_read changes) (if unlock then 0 else code_read changes) old old)
+      (sym is) (coded_none (code_read changes) old)
 
 abbrev pub Erased : Changes → (ℕ → ℕ) → (erases : ℕ) → (old now : BusState) → (transactions : ℕ) → Type 0
 Erased changes wanted erases old =
@@ -141,19 +153,6 @@ module _ {changes : Changes} {wanted : ℕ → ℕ} {erases : ℕ} {old mid new 
       let is = so.intermediate honest can in
       intermediate_changed is (does.done (honest_now so.ran honest) (can_program_all can is)))
 
-times_sent-append : (is : List ℕ → Bool) (later earlier : Sent)
-    → times_sent is (later ++ earlier) ≡ times_sent is later + times_sent is earlier
-times_sent-append is [] earlier = sym (zero-add (times_sent is earlier))
-times_sent-append is (out ∷ later) earlier = counted_sum (is out) _ _ _ (times_sent-append is later earlier)
-  where
-    counted_sum : (b : Bool) (sum m n : ℕ) → sum ≡ m + n → counted_once b sum ≡ counted_once b m + n
-    counted_sum true sum m n same = omega arith
-    counted_sum false sum m n same = same
-
-none_added : (is : List ℕ → Bool) (later earlier : Sent)
-    → times_sent is (later ++ earlier) ≡ times_sent is earlier → times_sent is later ≡ 0
-none_added is later earlier same = let sum = times_sent-append is later earlier in omega arith
-
 has_sent-left : (is : List ℕ → Bool) (later earlier : Sent) → has_sent is later ≡ true
     → has_sent is (later ++ earlier) ≡ true
 has_sent-left is [] earlier has = absurd (true≢false (sym has))
@@ -167,9 +166,16 @@ pub last_names : (changes : Changes) → writes_code changes ≡ true → (error
 last_names changes writes Stopped names = tt
 last_names changes writes (Timeout address) names = inl (rw writes (omega arith), names)
 
+pub sector_names : (changes : Changes) (error : OperationError) → NamesTimeoutIn (touched_in changes) error
+    → NamesChange changes error
+sector_names changes Stopped names = tt
+sector_names changes (Timeout address) names = inr names
+
 pub record Parts (changes : Changes) (wanted : ℕ → ℕ) (old free mid made : BusState) (sent : ℕ)
     (erases programs : Tally) : Type 0 where
   pub inside : (s : ℕ) → raised_in changes s ≡ true → touched_in changes s ≡ true
+  pub six_bits : changes.code < 64
+  pub coded : EndsWithCode (code_read changes) (code_once changes) old free
   pub lift : Lifted changes wanted old free sent
   pub erases_leave : LeavesErases (raised_in changes) changes.kinds changes.size free mid
   pub erase : DoesErases (raised_in changes) changes.kinds changes.size free mid erases
@@ -179,6 +185,7 @@ pub record Parts (changes : Changes) (wanted : ℕ → ℕ) (old free mid made :
 pub record Ended (changes : Changes) (wanted : ℕ → ℕ) (erases programs : ℕ) (old made new : BusState)
     (transactions : ℕ) : Type 0 where
   pub exactly : SendsExactly 0 0 (if writes_code changes then 1 else 0) made new
+  pub coded : EndsWithCode (code_once changes) changes.code made new
   pub so : SoFar changes wanted
       (λ a. if touched_in changes (a / 4096) then wanted a else once_erased (raised_in changes) old.chip.bytes a)
       (λ s. (old.worn s || raised_in changes s) || none s) changes.code
@@ -199,6 +206,8 @@ module _ {changes : Changes} {wanted : ℕ → ℕ} {old free mid made : BusStat
       → Ended changes wanted erases.count programs.count old made made all
   not_written spared sum = record {
     exactly = rw spared (exactly_none made made refl);
+    coded = subst (λ (code : ℕ). EndsWithCode (code_once changes) code made made) (code_spared changes spared)
+        (coded_none (code_once changes) made);
     so = record {
       ran = ran_after third.ran {k = 0} (grind arith) (ran_none {limits = writing no_status 0} made (refl, refl, refl))
           (omega arith) (grind arith) (omega arith);
@@ -230,10 +239,12 @@ module _ {changes : Changes} {wanted : ℕ → ℕ} {old free mid made : BusStat
         (grind (arith, last_asked, parts.erase.fewer, parts.program.fewer)) fits fits fails
 
     pub written : {more all : ℕ} → Operates (status_write changes.status changes.code) made new more
-        → all ≡ sent + erases.transactions + programs.transactions + more
+        → SendsStatusWrite changes.status changes.code made new → all ≡ sent + erases.transactions +
+        programs.transactions + more
         → Ended changes wanted erases.count programs.count old made new all
-    written does sum = record {
+    written does sends sum = record {
       exactly = rw writes does.sends;
+      coded = coded_written changes.status parts.six_bits sends;
       so = rw sum (code_written third leaves last_writable does (grind (arith, last_asked)));
     }
 
@@ -273,6 +284,8 @@ module _ {changes : Changes} {wanted : ℕ → ℕ} {old free mid made : BusStat
         fewer_programs = parts.program.fewer;
         exactly = ended.so.ran.exactly;
         in_order = erased_first;
+        protects = coded_then parts.coded
+            (coded_then (coded_kept parts.erase.exactly) (coded_then (coded_kept parts.program.exactly) ended.coded));
         tallies = ended.so.ran.tallies;
         done = λ honest can. applied can (ended.so.intermediate honest can);
         programs = λ honest can.

@@ -41,14 +41,14 @@ pub record Numbers : Type 0 where
 abbrev pub all_of : Numbers → ℕ
 all_of n = n.erases + n.programs + n.status_writes
 
-abbrev pub sending_these : Changes → Numbers → Limits
-sending_these changes n = sending changes n.erases n.programs n.status_writes
+abbrev pub sending_these : Changes → (wanted : ℕ → ℕ) → Numbers → Limits
+sending_these changes wanted n = sending changes wanted n.erases n.programs n.status_writes
 
 -- Holds after some parts of `apply` succeeded. If `CanApply` held on a well-behaved bus, these parts left the bytes
 -- `bytes` and the protection bits `code` on the chip.
 pub record SoFar (changes : Changes) (wanted bytes : ℕ → ℕ) (worn : ℕ → Bool) (code : ℕ) (numbers : Numbers)
     (readings : ℕ) (old now : BusState) (transactions : ℕ) : Type 0 where
-  pub ran : Ran (sending_these changes numbers) readings old now
+  pub ran : Ran (sending_these changes wanted numbers) readings old now
       (record { count = all_of numbers; transactions = transactions })
   pub may : old.honest ≡ true → CanApply changes wanted old.chip
       → MayChange (touched_in changes) (raised_in changes) wanted old now
@@ -71,7 +71,8 @@ module _ {changes : Changes} {wanted bytes : ℕ → ℕ} {worn : ℕ → Bool} 
         let next = follows honest can in
         (next.0, λ may. change_then so.ran.nature.steady (so.may honest can) (next.1 may))
 
-    pub ends_in_error : {last : ℕ} {error : OperationError} → AreParts (sending_these changes numbers) limits (most_sent changes)
+    pub ends_in_error : {last : ℕ} {error : OperationError} → AreParts (sending_these changes wanted numbers) limits
+        (most_sent changes wanted)
         → sent + part ≤ most_applied (sector_count (touched_in changes))
         → sent + last ≤ most_applied (sector_count (touched_in changes)) → OperationFails last mid new error
         → EndsInError changes wanted old new error
@@ -80,8 +81,8 @@ module _ {changes : Changes} {wanted bytes : ℕ → ℕ} {worn : ℕ → Bool} 
 
     pub goes_on : {bytes' : ℕ → ℕ} {worn' : ℕ → Bool} {code' e p w k r : ℕ} {numbers' : Numbers} {more : Tally}
         → SendsExactly e p w mid new → Tallies k mid new more → e + p + w ≡ more.count
-        → IsSum (sending_these changes numbers) (record limits { erases = e; programs = p; status_writes = w })
-        (sending_these changes numbers') → readings + k ≤ r
+        → IsSum (sending_these changes wanted numbers) (record limits { erases = e; programs = p; status_writes = w })
+        (sending_these changes wanted numbers') → readings + k ≤ r
         → (old.honest ≡ true → CanApply changes wanted old.chip → IsIntermediate bytes' worn' code' old new)
         → SoFar changes wanted bytes' worn' code' numbers' r old new (sent + more.transactions)
     goes_on exactly tallies counts sum reads intermediate = record {
@@ -100,8 +101,8 @@ module _ {changes : Changes} {wanted bytes : ℕ → ℕ} {worn : ℕ → Bool} 
         let is = so.intermediate honest can in (can_write can (writable can) is, code_change can (writable can) is)
 
     pub code_written : {more : ℕ} {numbers' : Numbers} → Operates (status_write changes.status code') mid new more
-        → IsSum (sending_these changes numbers) (writing (is_status_with_code changes.status code') 1)
-        (sending_these changes numbers')
+        → IsSum (sending_these changes wanted numbers) (writing (is_status_with_code changes.status code') 1)
+        (sending_these changes wanted numbers')
         → SoFar changes wanted bytes worn code' numbers' readings old new (sent + more)
     code_written does sum =
         goes_on leaves.leaves code_then does.sends (ran_one leaves.leaves does.sends does.ends).tallies refl sum (omega arith)

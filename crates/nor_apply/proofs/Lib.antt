@@ -6,6 +6,7 @@ pub mod Targeting
 pub mod ErasingExits
 pub mod ProgrammingSpans
 pub mod ProgrammingWhole
+pub mod LastCode
 pub mod ApplyingSteps
 pub mod ApplyingInTurn
 pub mod ApplyingExits

@@ -1,4 +1,4 @@
-use Rattle.std.proofs.Common.{◌≡◌, ◌<◌, ◌≤◌, ◌+◌, ◌-◌, ◌*◌, ◌/◌, ◌⊎◌, inl, inr, ◌∙◌, ℕ, Bool, true, List, [], ◌∷◌, ◌++◌, length, take, drop, slice_index, refl, ap, arith, length-take, length-drop, ◌||◌, zero, suc}
+use Rattle.std.proofs.Common.{◌≡◌, ◌<◌, ◌≤◌, ◌+◌, ◌-◌, ◌*◌, ◌/◌, ◌⊎◌, inl, inr, ◌∙◌, ℕ, Bool, true, false, List, [], ◌∷◌, ◌++◌, Some, None, length, take, drop, slice_index, refl, ap, sym, true≢false, arith, length-take, length-drop, ◌||◌, zero, suc}
 use Rattle.std.specs.Prelude.{◌&&◌, ◌||◌, nat_le, nat_lt, bit_and, if◌then◌else◌, ◌==◌, not, min, count_by}
 use Rattle.std.specs.Int.Bits.{and_self}
 use Rattle.std.proofs.lemmas.Nat.{and_comm}
@@ -7,6 +7,7 @@ use Rattle.std.proofs.lemmas.List.Folds.{list_any-append}
 use Rattle.std.proofs.lemmas.Bool.Decides.{nat_tests}
 use Rattle.std.proofs.lemmas.Bool.{cases_Bool, and_parts, leb-true, ltb-true}
 use Rattle.std.proofs.Math.Bool.{or-false, and-or_distrib_right}
+use Rattle.nor_model.specs.Sent.{byte_from, is_byte}
 use Rattle.nor_model.specs.Bus.{BusState}
 use Rattle.nor_driver.specs.Programs.{CanProgram, MayProgram, HasProgrammed, programmed, is_in_page, is_sector_of, page_program}
 use Rattle.nor_driver.specs.Reads.{IsSectorOf}
@@ -14,7 +15,7 @@ use Rattle.nor_driver.specs.StatusWrites.{fixed_of}
 use Rattle.nor_plan.specs.declared.page.PageSpan.{PageSpan}
 use Rattle.nor_plan.specs.SpanFacts.{IsSpan, AreSpans, is_within_span, spanned_by}
 use Rattle.nor_plan.specs.SectorSet.{none}
-use Rattle.nor_apply.specs.Change.{MayChange, HasMade, HasChanged, only, byte_of}
+use Rattle.nor_apply.specs.Change.{MayChange, HasMade, HasChanged, only, byte_of, is_target_byte}
 use Rattle.nor_apply.specs.Programming.{CanProgramSpans, LeavesSector, DoesSector, most_pages}
 use Rattle.nor_apply.proofs.Alone.{only-here, only-is, old_byte}
 use Rattle.nor_apply.proofs.Changing.{can_after, change_then, either_byte, made_may, made_then, changed_may}
@@ -57,6 +58,11 @@ span_change : (sector at : ℕ) (sent : List ℕ) (wanted : ℕ → ℕ) (now ne
 span_change sector at sent wanted now new inside either may =
     grind (arith, inside, either, may.bytes, may.runs, may.worn, ap fixed_of may.kept)
 
+byte_parts : (b : Bool) (is byte : ℕ) → is_byte (if b then Some is else None) byte ≡ true
+    → (b ≡ true) × ((byte == is) ≡ true)
+byte_parts true is byte same = (refl, same)
+byte_parts false is byte same = absurd (true≢false (sym same))
+
 record Spanned (sector : ℕ) (old wanted : List ℕ) (span : PageSpan) : Type 0 where
   pub whole : length old ≡ 4096
   pub wanted_whole : length wanted ≡ 4096
@@ -76,6 +82,27 @@ module _ {sector : ℕ} {old wanted : List ℕ} {span : PageSpan} (spanned : Spa
       let last = below_end in
       rw length-part (grind (arith, nat_tests))
 
+  span_byte : (a : ℕ) → in_spans sector (span ∷ []) a ≡ true
+      → slice_index (part wanted span) (a - (4096 * sector + span.first)) ≡ byte_of sector wanted a
+  span_byte a in_span =
+      let parts = and_parts _ _ (sent_addresses a ∙ in_span) in
+      let low : 4096 * sector + span.first ≤ a = leb-true _ _ parts.0 in
+      let high : a < 4096 * sector + span.first + length (part wanted span) = ltb-true _ _ parts.1 in
+      let last = below_end in
+      let long = length-part in
+      let k : ℕ = a - (4096 * sector + span.first) in
+      let place : span.first + k ≡ a - 4096 * sector = omega arith in
+      get_or-take (span.last + 1 - span.first) (drop span.first wanted) k 0 (omega arith)
+      ∙ get_or-drop span.first wanted k 0 ∙ ap (λ (i : ℕ). slice_index wanted i) place
+
+  span_sends : (a byte : ℕ) → is_byte (byte_from (4096 * sector + span.first) (part wanted span) a) byte ≡ true
+      → is_target_byte (only sector) (byte_of sector wanted) a byte ≡ true
+  span_sends a byte sent =
+      let parts = byte_parts _ _ byte sent in
+      let in_span : in_spans sector (span ∷ []) a ≡ true = sym (sent_addresses a) ∙ parts.0 in
+      let here = and_parts (spanned_by (span ∷ []) (a - 4096 * sector)) (only sector (a / 4096)) in_span in
+      rw (here.1, ← span_byte a in_span) parts.1
+
   module _ (spans : List PageSpan) {first now : BusState} (can : CanProgramSpans sector old wanted first.chip)
       (filled : HasFilled sector wanted spans first now) where
     can_span : CanProgram (4096 * sector + span.first) (length (part wanted span)) now.chip
@@ -91,16 +118,9 @@ module _ {sector : ℕ} {old wanted : List ℕ} {span : PageSpan} (spanned : Spa
         → bit_and (now.chip.bytes a) (slice_index (part wanted span) (a - (4096 * sector + span.first)))
         ≡ byte_of sector wanted a
     span_falls a in_span =
-        let parts = and_parts _ _ (sent_addresses a ∙ in_span) in
-        let low : 4096 * sector + span.first ≤ a = leb-true _ _ parts.0 in
-        let high : a < 4096 * sector + span.first + length (part wanted span) = ltb-true _ _ parts.1 in
-        let last = below_end in
-        let long = length-part in
-        let k : ℕ = a - (4096 * sector + span.first) in
-        let place : span.first + k ≡ a - 4096 * sector = omega arith in
-        let sent : slice_index (part wanted span) k ≡ byte_of sector wanted a =
-        get_or-take (span.last + 1 - span.first) (drop span.first wanted) k 0 (omega arith)
-        ∙ get_or-drop span.first wanted k 0 ∙ ap (λ (i : ℕ). slice_index wanted i) place in
+        let sent = span_byte a in_span in
+        let parts = and_parts (spanned_by (span ∷ []) (a - 4096 * sector)) (only sector (a / 4096)) in_span in
+        let here : a / 4096 ≡ sector = only-is parts.1 in
         let falls : bit_and (byte_of sector wanted a) (first.chip.bytes a) ≡ byte_of sector wanted a =
         rw (old_byte sector old first.chip.bytes a (omega arith) can.shown)
         (can.falls (a - 4096 * sector) (omega arith)) in
@@ -200,7 +220,8 @@ pub record SpansSoFar (sector : ℕ) (old wanted : List ℕ) (spans left : List 
   pub whole : length old ≡ 4096
   pub wanted_whole : length wanted ≡ 4096
   pub are : AreSpans old wanted (spans_of old wanted)
-  pub listed : Listed (spans_of old wanted) spans left (programming (only sector)) first now tally
+  pub listed : Listed (spans_of old wanted) spans left
+      (programming (only sector) (is_target_byte (only sector) (byte_of sector wanted))) first now tally
   pub done : first.honest ≡ true → CanProgramSpans sector old wanted first.chip
       → HasFilled sector wanted spans first now
 
@@ -242,6 +263,10 @@ module _ {sector : ℕ} {old wanted : List ℕ} {spans left : List PageSpan} {fi
         let at = named_in 1 ((4096 * sector + span.first) / 4096) s (omega arith) (omega arith) named in
         only-here (omega arith)
 
+    bytes_next : (a byte : ℕ) → is_byte (byte_from (4096 * sector + span.first) (part wanted span) a) byte ≡ true
+        → is_target_byte (only sector) (byte_of sector wanted) a byte ≡ true
+    bytes_next = span_sends spanned
+
     names_address : (error : OperationError) → NamesTimeout (4096 * sector + span.first) error → NamesTimeoutIn (only sector) error
     names_address error returned =
         let last = below_end spanned in
@@ -258,7 +283,7 @@ module _ {sector : ℕ} {old wanted : List ℕ} {spans left : List PageSpan} {fi
           let few = pages_most old wanted so.whole in
           let most : most_operation * length (spans_of old wanted) ≤ most_pages = omega (arith, so.are.count, few) in (
             listed_after so.listed next leaves.leaves
-                (grind (arith, targets_next, few_spans.0)) most
+                (grind (arith, targets_next, bytes_next, few_spans.0)) most
                 (λ honest can.
                 let filled = so.done honest can in
                 (can_span spanned spans can filled, span_may spanned spans can filled so.listed.ran.nature.steady)),
@@ -274,7 +299,8 @@ module _ {sector : ℕ} {old wanted : List ℕ} {spans left : List PageSpan} {fi
         whole = so.whole;
         wanted_whole = so.wanted_whole;
         are = so.are;
-        listed = listed_more so.listed next leaves.leaves (grind (arith, targets_next, count)) programs.sends
+        listed = listed_more so.listed next leaves.leaves (grind (arith, targets_next, bytes_next, count))
+            programs.sends
             programs.ends count transactions;
         done = λ honest can.
             let filled = so.done honest can in

@@ -18,7 +18,7 @@ use Rattle.nor_plan.specs.Content.{is_other, is_page_other, is_programmed}
 use Rattle.nor_plan.specs.SectorSet.{none}
 use Rattle.nor_apply.specs.declared.tally.Tally.{Tally}
 use Rattle.nor_apply.specs.Within.{addresses_of}
-use Rattle.nor_apply.specs.Change.{HasMade, only, byte_of}
+use Rattle.nor_apply.specs.Change.{HasMade, only, byte_of, is_target_byte}
 use Rattle.nor_apply.specs.Spending.{NamesTimeoutIn}
 use Rattle.nor_apply.specs.Programming.{CanProgramSpans, CanProgramSector, LoadsOk, LeavesSector, DoesSector, CanProgramAll, LeavesPrograms, DoesPrograms, most_pages, most_sector}
 use Rattle.nor_apply.proofs.InTurn.{Ran, ran_part, ran_after, ran_none, ran_leaves, honest_now, leaves_after, fails_after}
@@ -27,13 +27,14 @@ use Rattle.nor_apply.proofs.Changing.{can_after, change_then, change_as, made_ma
 
 module _ {sector : ℕ} {erased : Bool} {bytes bytes' : List ℕ} {reads : ℕ} {first mid : BusState}
     (loads : LoadsOk sector erased bytes bytes' first mid reads) where
-  loads_ran : Ran (programming (only sector) 0) 1 first mid (record { count = 0; transactions = reads })
-  loads_ran =
+  loads_ran : (target : (a byte : ℕ) → Bool)
+      → Ran (programming (only sector) target 0) 1 first mid (record { count = 0; transactions = reads })
+  loads_ran target =
       let read = loads.honest_reads in
       let few : reads ≤ 1 = grind (arith, loads.reads_once) in
       record {
         nature = read.nature;
-        sends = sends_none (programming (only sector) 0) first mid read.same_sent;
+        sends = sends_none (programming (only sector) target 0) first mid read.same_sent;
         exactly = exactly_none first mid read.same_sent;
         tallies = record {
           least = omega arith;
@@ -73,10 +74,13 @@ module _ {sector : ℕ} {erased : Bool} {bytes bytes' : List ℕ} {reads : ℕ} 
 
   module _ {wanted : List ℕ} {new : BusState} (blank : (i : ℕ) → i < 4096 → slice_index bytes i ≡ 255)
       (leaves : LeavesSector most_pages (CanProgramSpans sector bytes' wanted) sector wanted mid new) where
+    abbrev target : (a byte : ℕ) → Bool
+    target = is_target_byte (only sector) (byte_of sector wanted)
+
     pub sector_leaves : LeavesSector most_sector (CanProgramSector sector wanted erased) sector wanted first new
     sector_leaves =
-        leaves_after loads_ran leaves (grind arith)
-        (omega (arith, loads_ran.tallies.few)) (λ honest can. (
+        leaves_after (loads_ran target) leaves (grind arith)
+        (omega (arith, (loads_ran target).tallies.few)) (λ honest can. (
           can_spans blank honest can,
           change_then loads.honest_reads.nature.steady
               (made_may (λ a no. absurd (true≢false (sym no))) (λ s no. no) (has_loaded blank honest can).0),
@@ -86,8 +90,8 @@ module _ {sector : ℕ} {erased : Bool} {bytes bytes' : List ℕ} {reads : ℕ} 
         → all.count ≡ tally.count → all.transactions ≡ tally.transactions + reads
         → DoesSector 1 (CanProgramSector sector wanted erased) sector wanted first new all
     sector_does {tally} {all} does count transactions =
-        let ran : Ran (programming (only sector) tally.count) 1 first new all =
-        ran_after loads_ran (grind arith) (ran_part leaves does.exactly does.tallies)
+        let ran : Ran (programming (only sector) target tally.count) 1 first new all =
+        ran_after (loads_ran target) (grind arith) (ran_part leaves does.exactly does.tallies)
         (omega arith) (omega arith) (omega arith) in
         record {
           fewer = omega (arith, does.fewer);
@@ -95,11 +99,11 @@ module _ {sector : ℕ} {erased : Bool} {bytes bytes' : List ℕ} {reads : ℕ} 
           tallies = ran.tallies;
           done = λ honest can.
               made_then (λ a. refl) (λ s. refl) (λ a is. refl) (has_loaded blank honest can).0
-              (does.done (honest_now loads_ran honest) (can_spans blank honest can));
+              (does.done (honest_now (loads_ran target) honest) (can_spans blank honest can));
           counted = λ honest can.
               let bytes : mid.chip.bytes ≡ first.chip.bytes = λ i a. (has_loaded blank honest can).0.bytes a i in
               let pages = λ (x : ℕ → ℕ) (page : ℕ). is_page_other x (byte_of sector wanted) (16 * sector + page) in
-              count ∙ does.counted (honest_now loads_ran honest) (can_spans blank honest can)
+              count ∙ does.counted (honest_now (loads_ran target) honest) (can_spans blank honest can)
               ∙ ap (λ (x : ℕ → ℕ). count_below 16 (pages x)) bytes;
         }
 
@@ -115,7 +119,8 @@ before_skip touched n free s = grind (arith, nat_tests)
 
 pub record SectorsSoFar (touched raised : ℕ → Bool) (wanted : ℕ → ℕ) (n : ℕ) (first now : BusState)
     (tally : Tally) : Type 0 where
-  pub ran : Ran (programming touched tally.count) (count_below n touched) first now tally
+  pub ran : Ran (programming touched (is_target_byte touched wanted) tally.count) (count_below n touched) first now
+      tally
   pub fewer : tally.count ≤ 16 * count_below n touched
   pub done : first.honest ≡ true → CanProgramAll touched raised wanted first.chip
       → HasMade (addresses_of (before touched n)) wanted none first now
@@ -185,6 +190,11 @@ module _ {touched raised : ℕ → Bool} {wanted : ℕ → ℕ} {n : ℕ} {first
     wanted_byte : (a : ℕ) → only n (a / 4096) ≡ true → byte_of n bytes a ≡ wanted a
     wanted_byte a here = shown_byte n a bytes wanted (only-is here) is.shows
 
+    target_byte : (a byte : ℕ) → is_target_byte (only n) (byte_of n bytes) a byte ≡ true
+        → is_target_byte touched wanted a byte ≡ true
+    target_byte a byte is =
+        let parts = and_parts _ _ is in rw (only_touched (a / 4096) parts.0, ← wanted_byte a parts.0) parts.1
+
     names_member : (error : OperationError) → NamesTimeoutIn (only n) error → NamesTimeoutIn touched error
     names_member error returned = grind (arith, only_touched)
 
@@ -209,7 +219,7 @@ module _ {touched raised : ℕ → Bool} {wanted : ℕ → ℕ} {n : ℕ} {first
           let fits : tally.transactions + most_sector ≤ most_sector * sector_count touched =
           omega (arith, so.fewer, room touched n is.below is.is) in (
             leaves_after so.ran leaves
-                (grind (arith, only_touched, so.fewer, room touched n is.below is.is)) fits
+                (grind (arith, only_touched, target_byte, so.fewer, room touched n is.below is.is)) fits
                 (λ honest can. (
                   can_sector honest can,
                   λ may.
@@ -228,7 +238,7 @@ module _ {touched raised : ℕ → Bool} {wanted : ℕ → ℕ} {n : ℕ} {first
       sectors_more {more} does count transactions =
           let one = count_below-with n touched is.is in
           record {
-            ran = ran_after so.ran (grind (arith, only_touched, count))
+            ran = ran_after so.ran (grind (arith, only_touched, target_byte, count))
                 (ran_part leaves does.exactly does.tallies) (omega arith) count transactions;
             fewer = omega (arith, so.fewer, does.fewer);
             done = λ honest can.

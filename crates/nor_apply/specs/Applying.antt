@@ -7,7 +7,7 @@ use Rattle.nor_model.specs.Sent.{Sent, has_sent, erases_of, programs_of}
 use Rattle.nor_model.specs.Bus.{BusState}
 use Rattle.nor_driver.specs.declared.waits.OperationError.{OperationError}
 use Rattle.nor_driver.specs.declared.waits.OperationError.TheVariants.{Stopped, Timeout}
-use Rattle.nor_driver.specs.StatusWrites.{is_status_with_code, with_code}
+use Rattle.nor_driver.specs.StatusWrites.{is_status_with_code, with_code, EndsWithCode}
 use Rattle.nor_driver.specs.Limits.{Limits, SendsExactly, Leaves}
 use Rattle.nor_driver.specs.Operations.{most_operation}
 use Rattle.nor_plan.specs.Planned.{planned}
@@ -18,7 +18,7 @@ use Rattle.nor_geometry.specs.Below.{count_below}
 use Rattle.nor_geometry.specs.Counts.{sector_count}
 use Rattle.nor_plan.specs.Content.{once_erased, is_programmed}
 use Rattle.nor_apply.specs.Within.{is_writable}
-use Rattle.nor_apply.specs.Change.{IsSized, MayChange}
+use Rattle.nor_apply.specs.Change.{IsSized, MayChange, is_target_byte}
 use Rattle.nor_apply.specs.Erasing.{is_erase_of}
 use Rattle.nor_apply.specs.Spending.{Tallies, may_target}
 
@@ -40,18 +40,20 @@ is_status_asked changes one two =
     (changes.unlock && is_status_with_code changes.status 0 one two)
     || (writes_code changes && is_status_with_code changes.status changes.code one two)
 
-abbrev pub sending : Changes → (erases programs status_writes : ℕ) → Limits
-sending changes erases programs status_writes = record {
+abbrev pub sending : Changes → (wanted : ℕ → ℕ) → (erases programs status_writes : ℕ) → Limits
+sending changes wanted erases programs status_writes = record {
   sectors = may_target (touched_in changes) changes.size;
+  bytes = is_target_byte (touched_in changes) wanted;
   status = is_status_asked changes;
   erases = erases;
   programs = programs;
   status_writes = status_writes;
 }
 
-abbrev pub most_sent : Changes → Limits
-most_sent changes =
-    sending changes (sector_count (raised_in changes)) (16 * sector_count (touched_in changes)) (status_writes changes)
+abbrev pub most_sent : Changes → (wanted : ℕ → ℕ) → Limits
+most_sent changes wanted =
+    sending changes wanted (sector_count (raised_in changes)) (16 * sector_count (touched_in changes))
+    (status_writes changes)
 
 pub record AreConsistent (changes : Changes) : Type 0 where
   pub inside : LiesBelow changes.touched (changes.size / 4096)
@@ -85,7 +87,7 @@ most_applied touched = touched + most_operation * (17 * touched + 2)
 
 abbrev pub LeavesApply : Changes → (wanted : ℕ → ℕ) → (old new : BusState) → Type 0
 LeavesApply changes wanted =
-    Leaves (most_applied (sector_count (touched_in changes))) (most_sent changes) (CanApply changes wanted)
+    Leaves (most_applied (sector_count (touched_in changes))) (most_sent changes wanted) (CanApply changes wanted)
     (MayChange (touched_in changes) (raised_in changes) wanted)
 
 -- Holds if the erases since `old` target each of `sectors`, and all these erases were sent before any page program.
@@ -103,6 +105,7 @@ pub record DoesApply (changes : Changes) (wanted : ℕ → ℕ) (old new : BusSt
   pub fewer_programs : work.programs ≤ 16 * sector_count (touched_in changes)
   pub exactly : SendsExactly work.erases work.programs (status_writes changes) old new
   pub in_order : ErasesFirst (raised_in changes) old new
+  pub protects : EndsWithCode (code_of (kept_in (bytes_of changes.status))) changes.code old new
   pub tallies : Tallies (sector_count (touched_in changes)) old new
       (record { count = work.erases + work.programs + status_writes changes; transactions = work.transactions })
   pub done : old.honest ≡ true → CanApply changes wanted old.chip → HasApplied changes wanted old new

@@ -1,5 +1,5 @@
 -- The effect of a change of some sectors, after success (`HasMade`) and at every exit (`MayChange`).
-use Rattle.std.specs.Prelude.{◌≡◌, ◌≤◌, ◌+◌, ◌-◌, ◌*◌, ◌/◌, ◌==◌, ◌||◌, ◌⊎◌, ℕ, Bool, true, false, List, slice_index, bit_and, if◌then◌else◌}
+use Rattle.std.specs.Prelude.{◌≡◌, ◌≤◌, ◌+◌, ◌-◌, ◌*◌, ◌/◌, ◌==◌, ◌&&◌, ◌||◌, ◌⊎◌, ℕ, Bool, true, false, List, slice_index, bit_and, if◌then◌else◌}
 use Rattle.nor_model.specs.Chip.{Chip}
 use Rattle.nor_model.specs.Guard.{is_protected}
 use Rattle.nor_model.specs.Bus.{BusState}
@@ -36,6 +36,10 @@ pub record HasMade (addresses : ℕ → Bool) (wanted : ℕ → ℕ) (erased : �
 
 abbrev pub HasChanged : (sectors : ℕ → Bool) → (wanted : ℕ → ℕ) → (erased : ℕ → Bool) → (old new : BusState) → Type 0
 HasChanged sectors = HasMade (addresses_of sectors)
+
+-- True if `a` is in one of `sectors`, and `byte` is the target byte at `a`.
+abbrev pub is_target_byte : (sectors : ℕ → Bool) → (wanted : ℕ → ℕ) → (a byte : ℕ) → Bool
+is_target_byte sectors wanted a byte = sectors (a / 4096) && byte == wanted a
 
 abbrev pub blank : ℕ → ℕ
 blank a = 255

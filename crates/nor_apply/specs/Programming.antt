@@ -11,7 +11,7 @@ use Rattle.nor_apply.specs.declared.tally.Tally.{Tally}
 use Rattle.nor_geometry.specs.Below.{count_below}
 use Rattle.nor_geometry.specs.Counts.{sector_count}
 use Rattle.nor_plan.specs.Content.{is_page_other, is_programmed}
-use Rattle.nor_apply.specs.Change.{CanChange, OnlyFalls, MayChange, HasChanged, only, byte_of}
+use Rattle.nor_apply.specs.Change.{CanChange, OnlyFalls, MayChange, HasChanged, only, byte_of, is_target_byte}
 use Rattle.nor_plan.specs.SectorSet.{none}
 use Rattle.nor_apply.specs.Spending.{Tallies}
 
@@ -34,7 +34,8 @@ pub record CanProgramSector (sector : ℕ) (wanted : List ℕ) (erased : Bool) (
 abbrev pub LeavesSector : (most : ℕ) → (Can : Chip → Type 0) → (sector : ℕ) → (wanted : List ℕ) → (old new : BusState)
     → Type 0
 LeavesSector most Can sector wanted =
-    Leaves most (programming (only sector) 16) Can (MayChange (only sector) none (byte_of sector wanted))
+    Leaves most (programming (only sector) (is_target_byte (only sector) (byte_of sector wanted)) 16) Can
+    (MayChange (only sector) none (byte_of sector wanted))
 
 pub record DoesSector (readings : ℕ) (Can : Chip → Type 0) (sector : ℕ) (wanted : List ℕ) (old new : BusState)
     (tally : Tally) : Type 0 where
@@ -61,7 +62,8 @@ pub record CanProgramAll (touched raised : ℕ → Bool) (wanted : ℕ → ℕ) 
 
 abbrev pub LeavesPrograms : (touched raised : ℕ → Bool) → (wanted : ℕ → ℕ) → (old new : BusState) → Type 0
 LeavesPrograms touched raised wanted =
-    Leaves (most_sector * sector_count touched) (programming touched (16 * sector_count touched))
+    Leaves (most_sector * sector_count touched)
+    (programming touched (is_target_byte touched wanted) (16 * sector_count touched))
     (CanProgramAll touched raised wanted) (MayChange touched none wanted)
 
 pub record DoesPrograms (touched raised : ℕ → Bool) (wanted : ℕ → ℕ) (old new : BusState) (tally : Tally) : Type 0 where

@@ -53,7 +53,11 @@ pub struct Work {
 /// that still differ from `source`, and writes the protection bits if they still differ.
 ///
 /// The changes must be consistent (`AreConsistent`), and `source` must have every touched sector. On a well-behaved
-/// bus, after success all changes are made if `CanApply` held at the start.
+/// bus, after success all changes are made if `CanApply` held at the start. On every bus, after success the last status
+/// write, if any was sent, had the protection bits `changes.code`. If none was sent, `changes.status` has these bits
+/// (`protects`).
+///
+/// On every bus, even a faulty one, page programs send only target bytes of touched sectors, each for its own address.
 ///
 /// Returns `Stopped` if the bus stopped, and `Timeout` if the chip stayed busy for 65,536 polls, which doesn't occur on
 /// a well-behaved bus. The address of the timeout is in a touched sector or, after a status write, 0.
