@@ -17,6 +17,7 @@ use Rattle.nor_plan.proofs.Fewest.{fewest_least}
 use Rattle.nor_apply.specs.declared.changes.Changes.{Changes}
 use Rattle.nor_apply.specs.declared.changes.Work.{Work}
 use Rattle.nor_session.specs.Checking.{CanCheck}
+use Rattle.nor_session.proofs.Protected.{coded_later}
 use Rattle.nor_apply.specs.Applying.{touched_in, raised_in, status_writes, writes_code, most_applied, HasApplied, LeavesApply, DoesApply}
 use Rattle.nor_apply.proofs.ApplyingInTurn.{raised_few}
 use Rattle.nor_session.specs.Changing.{touched_count, HasBytes, DoesCheck, DoesChange}
@@ -91,6 +92,7 @@ checked changes wanted verify old mid new written work inside leaves does checki
         unprogrammed = first.unprogrammed;
         unerased = first.unerased;
       };
+      protects = coded_later does.protects checking.unsent;
       polled_ready = grind (arith, tallies.polled_ready);
       sent = grind (arith, same_honest, leaves.spends.nature.punctual, tallies.sent);
       unsent = grind (arith, tallies.unsent);

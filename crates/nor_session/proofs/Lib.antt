@@ -1,5 +1,6 @@
 pub mod CheckingSteps
 pub mod ReadBack
+pub mod Protected
 pub mod Changed
 pub mod JudgedAgain
 pub mod OneRestoreVerdict

@@ -3,6 +3,7 @@ use mathlib.Core.Path.{fun_ext}
 use Rattle.nor_model.specs.Exchange.{Exchange}
 use Rattle.nor_model.specs.History.{Continues}
 use Rattle.nor_model.proofs.Histories.{continues_refl, continues_then}
+use Rattle.nor_driver.specs.OnlyReads.{OnlyReads}
 use Rattle.nor_driver.specs.declared.waits.OperationError.{OperationError}
 use Rattle.nor_driver.specs.declared.waits.OperationError.TheVariants as Operations
 use Rattle.nor_driver.specs.ReadBack.{bytes_read, HaveBeenRead, ReadsBack, ReadsOther, EndsReadBack, EndsReadOther}
@@ -29,6 +30,7 @@ use Rattle.nor_scan.specs.declared.identity.Identity.{Identity}
 use Rattle.nor_scan.specs.SavedScan.{SaveErrors}
 use Rattle.nor_scan.specs.Judging.{IsIdentityRefusal}
 use Rattle.nor_request.specs.Errors.{IdentificationErrors}
+use Rattle.nor_session.specs.Bounds.{most_reads}
 use Rattle.nor_session.specs.Session.{touched_for, SessionReadsBack}
 use Rattle.nor_session.specs.Restore.{Choice, IsLeft, RestoreReadsBack}
 use Rattle.nor_session.specs.PrepareRestore.{PrepareErrors}
@@ -77,50 +79,57 @@ other_target addresses one two address same other = record {
       let was = other.before a below hit in record { whole = was.whole; same = was.same ∙ same a hit };
 }
 
-pub restore_read_back : (choice : Choice) (journal : Content) (changes : Changes) (old mid new : List Exchange)
-    → HaveBeenRead (IsLeft choice journal (bytes_read mid)) old mid
-    → ((s : ℕ) → has changes.touched s ≡ choice.touched journal (bytes_read mid) s) → (work : Work) (report : Report)
-    → FitsReadBack changes (saved_byte journal) true mid new (Ok work)
+pub restore_read_back : (choice : Choice) (journal : Content) (changes : Changes) (old mid new : BusState)
+    → OnlyReads (most_reads 4096) old mid
+    → HaveBeenRead (IsLeft choice journal (bytes_read mid.history)) old.history mid.history
+    → ((s : ℕ) → has changes.touched s ≡ choice.touched journal (bytes_read mid.history) s)
+    → (work : Work) (report : Report)
+    → FitsReadBack changes (saved_byte journal) true mid.history new.history (Ok work)
     → RestoreReadsBack choice journal old new (Ok report)
-restore_read_back choice journal changes old mid new since touched work report fits = (
+restore_read_back choice journal changes old mid new only_reads since touched work report fits = (
   mid,
+  only_reads,
   since,
-  subst (λ (sectors : ℕ → Bool). EndsReadBack (addresses_of sectors) (saved_byte journal) mid new) (fun_ext touched)
+  subst (λ (sectors : ℕ → Bool).
+      EndsReadBack (addresses_of sectors) (saved_byte journal) mid.history new.history) (fun_ext touched)
       (fits refl),
 )
 
-pub restore_read_other : (choice : Choice) (journal : Content) (changes : Changes) (old mid new : List Exchange)
-    → Continues old mid → ((s : ℕ) → has changes.touched s ≡ choice.touched journal (bytes_read mid) s)
-    → (refusal : Refusal) → FitsReadBack changes (saved_byte journal) true mid new (Err refusal)
+pub restore_read_other : (choice : Choice) (journal : Content) (changes : Changes) (old mid new : BusState)
+    → OnlyReads (most_reads 4096) old mid
+    → ((s : ℕ) → has changes.touched s ≡ choice.touched journal (bytes_read mid.history) s)
+    → (refusal : Refusal)
+    → FitsReadBack changes (saved_byte journal) true mid.history new.history (Err refusal)
     → RestoreReadsBack choice journal old new (Err refusal)
-restore_read_other choice journal changes old mid new since touched (Mismatch address) fits = (
+restore_read_other choice journal changes old mid new only_reads touched (Mismatch address) fits = (
   mid,
-  since,
-  subst (λ (sectors : ℕ → Bool). EndsReadOther (addresses_of sectors) (saved_byte journal) address mid new)
+  only_reads,
+  subst (λ (sectors : ℕ → Bool).
+      EndsReadOther (addresses_of sectors) (saved_byte journal) address mid.history new.history)
       (fun_ext touched) fits,
 )
-restore_read_other choice journal changes old mid new since touched _ fits = tt
+restore_read_other choice journal changes old mid new only_reads touched _ fits = tt
 
 pub prepare_read_back : (choice : Choice) (journal : Content) (most : ℕ) (old new : BusState) (refusal : Refusal)
     → PrepareErrors choice journal most old new refusal
-    → RestoreReadsBack choice journal old.history new.history (Err refusal)
+    → RestoreReadsBack choice journal old new (Err refusal)
 prepare_read_back choice journal most old new (Mismatch address) errors = absurd (true≢false (sym errors.judged))
 prepare_read_back choice journal most old new _ errors = tt
 
 module _ (request : Request) (image : List ℕ) where
   pub session_read_other : (kept : Scanned) (size : ℕ) (image' : List ℕ) (changes : Changes)
-      (old opened mid new : BusState) → Continues old.history opened.history → Continues opened.history mid.history
+      (old opened mid new : BusState) → OnlyReads (most_reads 4096) old mid
       → Scans request size image image' opened mid kept → ((s : ℕ) → has changes.touched s ≡ has kept.touched s)
       → (refusal : Refusal)
       → FitsReadBack changes (λ a. slice_index image' a) request.verify mid.history new.history (Err refusal)
-      → SessionReadsBack request image old.history new.history (Err refusal)
-  session_read_other kept size image' changes old opened mid new first second scans same (Mismatch address) fits =
+      → SessionReadsBack request image old new (Err refusal)
+  session_read_other kept size image' changes old opened mid new only_reads scans same (Mismatch address) fits =
       let read = bytes_read mid.history in
       let touched : (s : ℕ) → has changes.touched s ≡ touched_for request image size read s = λ s.
       same s ∙ scans.replied.touched s in (
         size,
-        mid.history,
-        continues_then first second,
+        mid,
+        only_reads,
         (
           fits.0,
           fits.1,
@@ -130,21 +139,22 @@ module _ (request : Request) (image : List ℕ) where
               (other_target _ _ _ address (λ a hit. scans.filled a (sym (same (a / 4096)) ∙ hit)) fits.2),
         ),
       )
-  session_read_other kept size image' changes old opened mid new first second scans same _ fits = tt
+  session_read_other kept size image' changes old opened mid new only_reads scans same _ fits = tt
 
   pub session_read_back : (kept : Scanned) (size : ℕ) (image' : List ℕ) (changes : Changes)
-      (old opened mid new : BusState) → Continues old.history opened.history → Continues opened.history mid.history
+      (old opened mid new : BusState) → Continues old.history opened.history → OnlyReads (most_reads 4096) old mid
       → Scans request size image image' opened mid kept → ((s : ℕ) → has changes.touched s ≡ has kept.touched s)
       → (work : Work) (report : Report) → report.found.size ≡ size
       → FitsReadBack changes (λ a. slice_index image' a) request.verify mid.history new.history (Ok work)
-      → SessionReadsBack request image old.history new.history (Ok report)
-  session_read_back kept size image' changes old opened mid new first second scans same work report sized fits =
+      → SessionReadsBack request image old new (Ok report)
+  session_read_back kept size image' changes old opened mid new first only_reads scans same work report sized fits =
       λ verifies.
       let read = bytes_read mid.history in
       let ends = fits verifies in
       let touched : (s : ℕ) → has changes.touched s ≡ touched_for request image size read s = λ s.
       same s ∙ scans.replied.touched s in (
-        mid.history,
+        mid,
+        only_reads,
         subst (λ (n : ℕ). HaveBeenRead (IsScanned request n) old.history mid.history) (sym sized)
             (read_since first scans.read),
         (
@@ -159,19 +169,19 @@ module _ (request : Request) (image : List ℕ) where
         ),
       )
 
-  pub save_read_back : (identity : Identity) (code : ℕ) (bytes : List ℕ) (old new : BusState) (one two : List Exchange)
+  pub save_read_back : (identity : Identity) (code : ℕ) (bytes : List ℕ) (old new first last : BusState)
       (refusal : Refusal) → SaveErrors request identity code bytes old new refusal
-      → SessionReadsBack request image one two (Err refusal)
-  save_read_back identity code bytes old new one two (Mismatch address) errors = absurd errors
-  save_read_back identity code bytes old new one two _ errors = tt
+      → SessionReadsBack request image first last (Err refusal)
+  save_read_back identity code bytes old new first last (Mismatch address) errors = absurd errors
+  save_read_back identity code bytes old new first last _ errors = tt
 
-  pub judged_read_back : (old new : List Exchange) (refusal : Refusal) → IsIdentityRefusal refusal
+  pub judged_read_back : (old new : BusState) (refusal : Refusal) → IsIdentityRefusal refusal
       → SessionReadsBack request image old new (Err refusal)
   judged_read_back old new (Mismatch address) is = absurd is
   judged_read_back old new _ is = tt
 
   pub open_read_back : (most : ℕ) (old new : BusState) (refusal : Refusal)
       → IdentificationErrors most request.named old new refusal
-      → SessionReadsBack request image old.history new.history (Err refusal)
+      → SessionReadsBack request image old new (Err refusal)
   open_read_back most old new (Mismatch address) errors = absurd errors
   open_read_back most old new _ errors = tt

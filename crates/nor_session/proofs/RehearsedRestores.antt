@@ -19,13 +19,13 @@ use Rattle.nor_request.specs.declared.refusal.Refusal.TheVariants.{Stopped, Time
 use Rattle.nor_scan.specs.Saving.{header_of}
 use Rattle.nor_session.specs.Bounds.{most_of}
 use Rattle.nor_session.specs.Headline.{CanRestore, RestoresOriginal}
-use Rattle.nor_session.specs.Restore.{RestoreAlways, RestoreHonest, RestoreModelled}
+use Rattle.nor_session.specs.Restore.{IsSavedByte, RestoreAlways, RestoreHonest, RestoreModelled}
 use Rattle.nor_session.specs.Session.{HonestErrors}
 use Rattle.nor_session.specs.Rehearsal.{IsNoBusError, AllowsStops, first_allowance, allowances_of}
-use Rattle.nor_session.specs.Rehearsing.{CanUndo, RunsSession, LeavesRestores, RunsRestore, RunsRestores, StopsRestores, Undoes, WearsSaved, SendsFromJournal, RefusesUndo}
+use Rattle.nor_session.specs.Rehearsing.{CanUndo, RunsSession, LeavesRestores, RunsRestore, RunsRestores, StopsRestores, Undoes, WearsSaved, SendsFromJournal, ProgramsFromJournal, RefusesUndo}
 use Rattle.nor_session.proofs.Rescanned.{unraised_other}
 use Rattle.nor_session.specs.Session.{IsSavedCode}
-use Rattle.nor_session.proofs.Targeting.{none_sent, sends_then, sends_most, none_written}
+use Rattle.nor_session.proofs.Targeting.{none_sent, none_programmed, programs_then, sends_then, sends_most, none_written}
 use Rattle.nor_session.proofs.RestoresOriginal.{can_restore_read}
 use Rattle.nor_session.proofs.Naming.{saved_names}
 use Rattle.nor_session.proofs.SavedBytes.{saved_room, saved_count}
@@ -96,12 +96,13 @@ modelled_at old new honest further config modelled =
 
 allow_leaves : {n : ℕ} (journal : Content) (old new : BusState) → Allows n old new → LeavesRestores journal 0 old new
 allow_leaves journal old new allows =
-    search (arith, modelled_at, none_sent, none_written, allows.chip, allows.nature.steady)
+    search (arith, modelled_at, none_sent, none_programmed, none_written, allows.chip, allows.nature.steady)
 
 pub restores_then : (journal : Content) (m n most : ℕ) (old mid new : BusState) → m + n ≤ most → LeavesRestores journal m old mid → LeavesRestores journal n mid new → LeavesRestores journal most old new
 restores_then journal m n most old mid new fits before after =
     let both = sends_then (IsSavedCode journal) m n journal old mid new before.sends after.sends in
     let sends = sends_most (IsSavedCode journal) (m + n) most journal old new fits both in
+    let programs = programs_then (IsSavedByte journal) old mid new before.programs after.programs in
     search (arith, same_nature_then)
 
 pub not_bus_error : (most : ℕ) (IsEarly : Refusal → Type 0) (old new : BusState) (refusal : Refusal) → (refusal ≡ Stopped → ⊥)
@@ -228,6 +229,10 @@ module _ {bytes : List ℕ} {journal : Content} (is : IsContent journal) (same :
     pub undo_sends : SendsFromJournal bytes n old new
     undo_sends other =
         rw (is_read bytes (Ok journal) other.content (is, same) tt other.is other.same) at leaves.sends
+
+    pub undo_programs : ProgramsFromJournal bytes old new
+    undo_programs other =
+        rw (is_read bytes (Ok journal) other.content (is, same) tt other.is other.same) at leaves.programs
 
   pub undo_refuses : (new : BusState) (refusal : Refusal) → StopsRestores journal old new refusal
       → RefusesUndo bytes old new refusal

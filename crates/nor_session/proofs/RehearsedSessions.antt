@@ -18,8 +18,8 @@ use Rattle.nor_session.specs.Bounds.{most_of}
 use Rattle.nor_session.specs.Made.{AreFewestErases}
 use Rattle.nor_scan.specs.Verdict.{IsAccepted}
 use Rattle.nor_session.specs.Headline.{KeepsOriginal}
-use Rattle.nor_session.specs.Session.{SessionAlways, SessionHonest, SessionModelled, SessionErrors, HonestErrors, IsDone, NamesAddress, IsSavedCode, IsWrittenCode, most_status_writes, SendsSaved, WritesStatusAtMost}
-use Rattle.nor_session.specs.Rehearsal.{IsRehearsedCode, CanEnd, IsRehearsalRefusal, RehearsalErrors, first_allowance, least_needed, allowances_of, AllowsStops}
+use Rattle.nor_session.specs.Session.{SessionAlways, SessionHonest, SessionModelled, SessionErrors, HonestErrors, IsDone, NamesAddress, IsSavedCode, IsWrittenCode, most_status_writes, SendsSaved, ProgramsTargets, WritesStatusAtMost}
+use Rattle.nor_session.specs.Rehearsal.{IsRehearsedCode, ProgramsRehearsed, CanEnd, IsRehearsalRefusal, RehearsalErrors, first_allowance, least_needed, allowances_of, AllowsStops}
 use Rattle.nor_session.specs.Rehearsing.{HasWantedBits, CanUndo, LeavesSession, RunsSession, RefusesSession, LeavesUndo, RefusesUndo}
 use Rattle.nor_session.proofs.RestoredBytes.{untouched_unraised}
 use Rattle.nor_session.proofs.RestoresOriginal.{restorable}
@@ -49,6 +49,20 @@ wanted_bits request image mid new report done = record { code = done.code; is_wa
 module _ {n : ℕ} {old mid : BusState} (allows : Allows n old mid) where
   modelled_mid : IsModelled old → IsModelled mid
   modelled_mid = modelled_at old mid allows.nature.honest allows.nature.further (ap (λ (chip : Chip). chip.config) allows.chip)
+
+  targets_allowed : (request : Request) (image : List ℕ) (new : BusState) {vault : VaultState}
+      → ProgramsTargets request image mid new vault → ProgramsTargets request image old new vault
+  targets_allowed request image new targets = record {
+    at_seal = targets.at_seal;
+    before = rw allows.history at targets.before;
+    after = targets.after;
+    unsent = rw allows.history at targets.unsent;
+    identity = targets.identity;
+    part = rw allows.nature.further at targets.part;
+    replied = rw allows.nature.further at targets.replied;
+    saves = targets.saves;
+    programs = rw allows.sent at targets.programs;
+  }
 
   module _ (request : Request) (image : List ℕ) (new : BusState) {before after : VaultState} where
     pub session_leaves : {result : Result Report Refusal} → after.telling ≡ true → (mid.honest ≡ true → IsChip mid.chip)
@@ -80,6 +94,7 @@ module _ {n : ℕ} {old mid : BusState} (allows : Allows n old mid) where
             sends_then IsCode 0 1 journal.content old mid new
                 (none_sent IsCode 0 journal.content old mid allows.sent) sent,
           );
+      programs = λ sealed. targets_allowed request image new (always.programs sealed);
       writes = search arith;
     }
 
@@ -142,6 +157,12 @@ session_sends {request = request} {old = old} {new = new} stops leaves sealed =
           (sends_wider (IsWrittenCode request.what c) (IsRehearsedCode request.what c) 1 c old new (λ code is. inl is) sent),
     )
 
+pub session_programs : {request : Request} {image : List ℕ} {old new : BusState} {vault : VaultState}
+    → LeavesSession request image old new vault → vault.sealed ≡ true
+    → ProgramsRehearsed request image old new vault
+session_programs {new = new} leaves sealed =
+    record { before = new; session = leaves.programs sealed; restores = λ journal a byte. inl refl }
+
 pub session_tried : (stops : List ℕ) (old new : BusState) → new.allowances ≡ first_allowance stops ∷ old.allowances
     → AllowsStops stops 1 (1 + max 1 (length stops)) old new
 session_tried stops old new first = record { calls = 1; some = omega arith; few = omega arith; is = allowed_first stops first }
@@ -172,6 +193,13 @@ module _ {request : Request} {image text later : List ℕ} {old mid new : BusSta
         sends_then (IsRehearsedCode request.what c) 1 (max 1 (length stops)) c old mid new first
             (rw count at then),
       )
+
+  pub both_program : ProgramsRehearsed request image old new vault
+  both_program = record {
+    before = mid;
+    session = session.programs sealed;
+    restores = rw is at undone.programs;
+  }
 
   pub both_write : (stops : List ℕ) → later ≡ drop 1 stops
       → WritesStatusAtMost (most_status_writes request.what request.unlock + 2 * max 1 (length stops)) old new

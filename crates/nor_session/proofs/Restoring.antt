@@ -106,6 +106,11 @@ changed_can_restore choice journal first prepared old mid new are modelled can =
     assumption (change_within journal first _ _ (saved_byte journal) old mid new can before.within are.is.saved free may)
 
 module _ (choice : Choice) (journal : Content) (prepared : PreparedRestore) (old mid new : BusState) where
+  pub changed_reads : AreChanged choice journal prepared old mid new → OnlyReads (most_reads 4096) old mid
+  changed_reads are = let few = are.sound.few (length journal.saved) in let room = are.is.room in
+      only_reads_most (most_reads (choice.reads (length journal.saved))) (most_reads 4096) old mid (omega arith)
+      are.only_reads
+
   pub changed_spends : AreChanged choice journal prepared old mid new → Spends (most_of (length journal.saved)) old new
   changed_spends are =
       let few = are.sound.few (length journal.saved) in let before = are.only_reads.nature in record {

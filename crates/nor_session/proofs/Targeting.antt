@@ -1,12 +1,13 @@
-use Rattle.std.proofs.Common.{◌≡◌, ◌≤◌, ◌<◌, ◌+◌, ◌-◌, ◌*◌, ◌/◌, ◌%◌, ◌∙◌, ◌⊎◌, ℕ, Bool, true, [], ◌∷◌, inl, inr, ap, arith}
-use Rattle.std.specs.Prelude.{◌&&◌, ◌||◌}
+use Rattle.std.proofs.Common.{◌≡◌, ◌≤◌, ◌<◌, ◌+◌, ◌-◌, ◌*◌, ◌/◌, ◌%◌, ◌∙◌, ◌⊎◌, ℕ, Bool, true, [], ◌∷◌, inl, inr, ap, sym, subst, arith}
+use Rattle.std.specs.Prelude.{◌&&◌, ◌||◌, ◌==◌}
+use Rattle.std.proofs.lemmas.Bool.{and_parts, eqb-true}
 use Rattle.std.proofs.Math.Nat.{add-mul}
 use Rattle.std.proofs.lemmas.Bool.Decides.{nat_tests}
 use Rattle.nor_model.specs.declared.status.Status.{Status}
 use Rattle.nor_model.specs.Chip.{kept_in}
 use Rattle.nor_model.specs.Guard.{code_of}
 use Rattle.nor_model.specs.Status.{bytes_of}
-use Rattle.nor_model.specs.Sent.{Sent, is_targeted, has_written, has_unknown, erases_of, programs_of, status_writes_of}
+use Rattle.nor_model.specs.Sent.{Sent, is_targeted, has_written, has_programmed, has_unknown, erases_of, programs_of, status_writes_of}
 use Rattle.nor_model.specs.Bus.{BusState}
 use Rattle.nor_driver.specs.StatusWrites.{fixed_of, is_status_with_code}
 use Rattle.nor_geometry.specs.Counts.{sector_count}
@@ -18,7 +19,7 @@ use Rattle.nor_apply.specs.Applying.{touched_in, raised_in, status_writes, is_st
 use Rattle.nor_apply.proofs.Targeting.{target_split}
 use Rattle.nor_apply.proofs.ApplyingInTurn.{count_below-fewer}
 use Rattle.nor_session.specs.Changing.{LeavesChange}
-use Rattle.nor_session.specs.Session.{SendsSaved, SendsFew, WritesOnly, WritesStatusAtMost}
+use Rattle.nor_session.specs.Session.{SendsSaved, ProgramsOnly, SendsFew, WritesOnly, WritesStatusAtMost}
 
 pub none_written : (most : ℕ) (old new : BusState) → new.sent ≡ old.sent → WritesStatusAtMost most old new
 none_written most old new same = let count = ap status_writes_of same in omega (arith, count)
@@ -26,6 +27,17 @@ none_written most old new same = let count = ap status_writes_of same in omega (
 pub none_sent : (IsCode : ℕ → Type 0) (calls : ℕ) (journal : Content) (old new : BusState) → new.sent ≡ old.sent
     → SendsSaved IsCode calls journal old new
 none_sent IsCode calls journal old new same = grind arith
+
+pub none_programmed : (IsByte : (a byte : ℕ) → Type 0) (old new : BusState) → new.sent ≡ old.sent
+    → ProgramsOnly IsByte old new
+none_programmed IsByte old new same = λ a byte. inl (ap (λ (sent : Sent). has_programmed sent a byte) same)
+
+pub programs_then : (IsByte : (a byte : ℕ) → Type 0) (old mid new : BusState) → ProgramsOnly IsByte old mid
+    → ProgramsOnly IsByte mid new → ProgramsOnly IsByte old new
+programs_then IsByte old mid new before after a byte = elim (after a byte) [
+  | inl same ↦ elim (before a byte) [ inl was ↦ inl (same ∙ was) | inr is ↦ inr is ]
+  | inr is ↦ inr is
+]
 
 pub few_none : (old new : BusState) → new.sent ≡ old.sent → SendsFew old new
 few_none old new same = grind arith
@@ -93,6 +105,15 @@ asked_parts changes one two asked = or_parts changes.unlock (is_status_with_code
 
 module _ {changes : Changes} {wanted : ℕ → ℕ} (old : BusState) {mid new : BusState} (unsent : mid.sent ≡ old.sent)
     (leaves : LeavesChange changes wanted mid new) where
+  pub change_programs : (IsByte : (a byte : ℕ) → Type 0)
+      → ((a : ℕ) → touched_in changes (a / 4096) ≡ true → IsByte a (wanted a)) → ProgramsOnly IsByte old new
+  change_programs IsByte target a byte = elim (leaves.sends.programmed a byte) [
+    | inl same ↦ inl (same ∙ ap (λ (sent : Sent). has_programmed sent a byte) unsent)
+    | inr is ↦
+        let parts = and_parts (touched_in changes (a / 4096)) (byte == wanted a) is in
+        inr (subst (λ (b : ℕ). IsByte a b) (sym (eqb-true byte (wanted a) parts.1)) (target a parts.0))
+  ]
+
   pub change_writes : {most : ℕ} → status_writes changes ≤ most → WritesStatusAtMost most old new
   change_writes few =
       let same = ap status_writes_of unsent in let most = leaves.sends.status_writes in omega (arith, same, few, most)

@@ -1,6 +1,8 @@
 -- The effect of the changes of a session or restore, and of the check of their result.
 use Rattle.std.specs.Prelude.{◌≡◌, ◌≤◌, ◌+◌, ◌*◌, ◌/◌, ◌⊎◌, ℕ, Bool, true, List, Result, Ok, Err, if◌then◌else◌, ⊤}
-use Rattle.nor_model.specs.Chip.{Chip}
+use Rattle.nor_model.specs.Chip.{Chip, kept_in}
+use Rattle.nor_model.specs.Guard.{code_of}
+use Rattle.nor_model.specs.Status.{bytes_of}
 use Rattle.nor_model.specs.Exchange.{Exchange}
 use Rattle.nor_model.specs.History.{EndsBusy, EndsReading}
 use Rattle.nor_model.specs.Bus.{BusState}
@@ -9,6 +11,7 @@ use Rattle.nor_driver.specs.ReadBack.{EndsReadBack, EndsReadOther}
 use Rattle.nor_driver.specs.OnlyReads.{Rested, Spent, HasStopped}
 use Rattle.nor_driver.specs.Limits.{SendsExactly, Leaves}
 use Rattle.nor_driver.specs.Operations.{most_operation}
+use Rattle.nor_driver.specs.StatusWrites.{EndsWithCode}
 use Rattle.nor_driver.specs.Polls.{AddsTransactions}
 use Rattle.nor_geometry.specs.Below.{count_below}
 use Rattle.nor_plan.specs.Planned.{fewest_erases}
@@ -63,7 +66,7 @@ HasBytes sectors wanted chip = (a : ℕ) → sectors (a / 4096) ≡ true → chi
 -- `CanApply` held on a well-behaved bus, the chip changed only as `MayChange` allows.
 abbrev pub LeavesChange : Changes → (wanted : ℕ → ℕ) → (old new : BusState) → Type 0
 LeavesChange changes wanted =
-    Leaves (most_changed changes) (most_sent changes) (CanApply changes wanted)
+    Leaves (most_changed changes) (most_sent changes wanted) (CanApply changes wanted)
     (MayChange (touched_in changes) (raised_in changes) wanted)
 
 -- Holds after the changes and their check succeeded, with the counts of `work`. If `verify` is set and `CanCheck` held
@@ -82,6 +85,7 @@ pub record DoesChange (changes : Changes) (wanted : ℕ → ℕ) (verify : Bool)
   pub least : 3 * (work.erases + work.programs + status_writes changes) + read_back changes verify ≤ work.transactions
   pub exactly : SendsExactly work.erases work.programs (status_writes changes) old new
   pub in_order : ErasesFirst (raised_in changes) old new
+  pub protects : EndsWithCode (code_of (kept_in (bytes_of changes.status))) changes.code old new
   pub polled_ready : StaysReady old new
   pub sent : old.honest ≡ true → Spent work.transactions old new
   pub unsent : touched_count changes + status_writes changes ≡ 0 → new.sent ≡ old.sent

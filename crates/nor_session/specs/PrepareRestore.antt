@@ -3,7 +3,7 @@ use Rattle.std.specs.Prelude.{◌≡◌, ◌≢◌, ◌<◌, ◌≤◌, ◌+◌,
 use Rattle.nor_model.specs.Guard.{code_of}
 use Rattle.nor_model.specs.Chip.{Chip, IsSame, is_locked, status1_of, kept_in}
 use Rattle.nor_model.specs.Status.{bytes_of}
-use Rattle.nor_model.specs.History.{EndsBusy}
+use Rattle.nor_model.specs.History.{Continues, EndsBusy}
 use Rattle.nor_model.specs.Bus.{BusState}
 use Rattle.nor_driver.specs.OnlyReads.{OnlyReads, Rested, Spent, HasStopped, IsOpen}
 use Rattle.nor_driver.specs.ReadsInTurn.{HasOnlyRead}
@@ -25,6 +25,8 @@ use Rattle.nor_scan.specs.declared.identity.Identity.{Identity}
 use Rattle.nor_scan.specs.declared.scanning.Scanned.{Scanned}
 use Rattle.nor_request.specs.declared.refusal.Refusal.{Refusal}
 use Rattle.nor_request.specs.declared.refusal.Refusal.TheVariants.{NoChip, UnknownChip, StatusLocked, Stopped, Timeout, OtherChip, OtherUnit, StatusDiffers}
+use Rattle.nor_scan.specs.Identity.{most_identity, status_read}
+use Rattle.nor_scan.specs.Replied.{IsIdentifiedBy}
 use Rattle.nor_scan.specs.Scanning.{AreMarks}
 use Rattle.nor_scan.specs.Saving.{IsIdentityOf, NoneProtected, SomeProtected}
 use Rattle.nor_session.specs.declared.prepare_restore.PreparedRestore.{PreparedRestore}
@@ -222,12 +224,23 @@ pub record IsSoundChoice (choice : Choice) : Type 0 where
       → choice.touched journal content s ≡ true
   pub few : (saved : ℕ) → choice.reads saved ≤ saved
 
+-- Holds if the status of the changes is what the bus replied to the identification, before any modifying command.
+pub record HasStatusRead (old new : BusState) (prepared : PreparedRestore) : Type 0 where
+  pub identified : BusState
+  pub only_reads : OnlyReads most_identity old identified
+  pub after : Continues identified.history new.history
+  pub identity : Identity
+  pub same : identity.found ≡ prepared.found
+  pub replied : IsIdentifiedBy old.further identified.history identity
+  pub status : bytes_of prepared.changes.status ≡ status_read identity
+
 pub record HasPrepared (choice : Choice) (journal : Content) (old new : BusState)
     (prepared : PreparedRestore) : Type 0 where
   pub sound : IsSoundChoice choice
   pub only_reads : OnlyReads (most_reads (choice.reads (length journal.saved))) old new
   pub is : IsPreparedRestore choice journal old new prepared
   pub replies : FitsReplies journal old new
+  pub has_read : HasStatusRead old new prepared
 
 pub record KeepsPromises (choice : Choice) (journal : Content) (old new : BusState)
     (result : Result Report Refusal) : Type 0 where

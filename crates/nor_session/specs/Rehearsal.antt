@@ -22,8 +22,8 @@ use Rattle.nor_scan.specs.Identity.{needed_to_identify}
 use Rattle.nor_session.specs.Bounds.{most_of}
 use Rattle.nor_session.specs.Made.{AreFewestErases, pages_of}
 use Rattle.nor_scan.specs.Verdict.{IsVerdict, IsAccepted}
-use Rattle.nor_session.specs.Session.{SessionReturns, NamesAddress, IsSavedCode, IsWrittenCode, most_status_writes, SendsSaved, WritesStatusAtMost}
-use Rattle.nor_session.specs.Restore.{IsRestoreRefusal}
+use Rattle.nor_session.specs.Session.{SessionReturns, NamesAddress, IsSavedCode, IsWrittenCode, most_status_writes, SendsSaved, ProgramsOnly, ProgramsTargets, WritesStatusAtMost}
+use Rattle.nor_session.specs.Restore.{IsRestoreRefusal, IsSavedByte}
 
 abbrev pub first_allowance : List ℕ → ℕ
 first_allowance [] = most_of 4096
@@ -101,8 +101,16 @@ RehearsalErrors further request image chip old new refusal = IsVerdict further r
 abbrev pub IsRehearsedCode : What → Content → (code : ℕ) → Type 0
 IsRehearsedCode what journal code = IsWrittenCode what journal code ⊎ IsSavedCode journal code
 
+-- Holds if up to the state `before` only target bytes were programmed, as by a session, and after it only bytes that
+-- the journal in the vault saves.
+pub record ProgramsRehearsed (request : Request) (image : List ℕ) (old new : BusState)
+    (vault : VaultState) : Type 0 where
+  pub before : BusState
+  pub session : ProgramsTargets request image old before vault
+  pub restores : (journal : IsJournal vault.bytes) → ProgramsOnly (IsSavedByte journal.content) before new
+
 -- The promises of a rehearsal on every bus.
-pub record RehearsalAlways (request : Request) (stops : List ℕ) (old new : BusState) (vault vault' : VaultState)
+pub record RehearsalAlways (request : Request) (image stops : List ℕ) (old new : BusState) (vault vault' : VaultState)
     (result : Result Rehearsal Refusal) : Type 0 where
   pub nature : SameNature old new
   pub allowed : IfOk result (λ r. new.allowances ≡ allowances_of stops (1 + r.restores) ++ old.allowances)
@@ -115,6 +123,7 @@ pub record RehearsalAlways (request : Request) (stops : List ℕ) (old new : Bus
   pub unsent : vault'.sealed ≡ false → new.sent ≡ old.sent
   pub sends : vault'.sealed ≡ true → (journal : IsJournal vault'.bytes)
       × SendsSaved (IsRehearsedCode request.what journal.content) (1 + max 1 (length stops)) journal.content old new
+  pub programs : vault'.sealed ≡ true → ProgramsRehearsed request image old new vault'
   pub writes : WritesStatusAtMost (most_status_writes request.what request.unlock + 2 * max 1 (length stops)) old new
 
 -- The promises of a rehearsal on a modelled bus that is punctual.

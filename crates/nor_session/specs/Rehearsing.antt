@@ -21,9 +21,9 @@ use Rattle.nor_scan.specs.Saving.{header_of, NoneProtected}
 use Rattle.nor_scan.specs.SavedScan.{IsJournal}
 use Rattle.nor_session.specs.Bounds.{most_of}
 use Rattle.nor_scan.specs.Verdict.{IsAccepted}
-use Rattle.nor_session.specs.Session.{SessionReturns, SavesSector, NamesSector, NamesAddress, IsSavedCode, IsWrittenCode, most_status_writes, SendsSaved, WritesStatusAtMost}
+use Rattle.nor_session.specs.Session.{SessionReturns, SavesSector, NamesSector, NamesAddress, IsSavedCode, IsWrittenCode, most_status_writes, SendsSaved, ProgramsOnly, ProgramsTargets, WritesStatusAtMost}
 use Rattle.nor_session.specs.Headline.{CanRestore}
-use Rattle.nor_session.specs.Restore.{IsRestoreRefusal}
+use Rattle.nor_session.specs.Restore.{IsRestoreRefusal, IsSavedByte}
 use Rattle.nor_session.specs.Rehearsal.{CanEnd, SealFits, AreRestores, FitsLastStop, LeavesRefused, IsNoBusError, RehearsalErrors, allowances_of, AllowsStops}
 
 -- Holds if the bytes `text` can restore the known chip `first` on this bus. These bytes are a journal of `first` that
@@ -51,6 +51,7 @@ pub record LeavesSession (request : Request) (image : List ℕ) (old new : BusSt
   pub unsent : vault.sealed ≡ false → new.sent ≡ old.sent
   pub sends : vault.sealed ≡ true → (journal : IsJournal vault.bytes)
       × SendsSaved (IsWrittenCode request.what journal.content) 1 journal.content old new
+  pub programs : vault.sealed ≡ true → ProgramsTargets request image old new vault
   pub writes : WritesStatusAtMost (most_status_writes request.what request.unlock) old new
 
 pub record HasWantedBits (what : What) (old new : Chip) : Type 0 where
@@ -90,6 +91,7 @@ pub record LeavesRestores (journal : Content) (restores : ℕ) (old new : BusSta
   pub can : IsModelled old → (first : Chip) → CanRestore journal first old → CanRestore journal first new
   pub worn : IsModelled old → (s : ℕ) → is_saved journal s ≡ false → new.worn s ≡ old.worn s
   pub sends : SendsSaved (IsSavedCode journal) restores journal old new
+  pub programs : ProgramsOnly (IsSavedByte journal) old new
   pub writes : WritesStatusAtMost (2 * restores) old new
 
 -- Holds if a restore with an allowance of `allowance` transactions succeeded or, if `ended` is false, was stopped.
@@ -145,6 +147,9 @@ abbrev pub SendsFromJournal : List ℕ → (restores : ℕ) → (old new : BusSt
 SendsFromJournal text restores old new =
     (journal : IsJournal text) → SendsSaved (IsSavedCode journal.content) restores journal.content old new
 
+abbrev pub ProgramsFromJournal : List ℕ → (old new : BusState) → Type 0
+ProgramsFromJournal text old new = (journal : IsJournal text) → ProgramsOnly (IsSavedByte journal.content) old new
+
 -- Holds if restores from the bytes `text` may end the rehearsal with this error. No such error is possible on a
 -- modelled, punctual bus if the bytes can restore a chip.
 pub record RefusesUndo (text : List ℕ) (old new : BusState) (refusal : Refusal) : Type 0 where
@@ -159,6 +164,7 @@ pub record LeavesUndo (text stops : List ℕ) (old new : BusState) (result : Res
   pub nature : SameNature old new
   pub wears : WearsSaved text old new
   pub sends : SendsFromJournal text (length stops + 1) old new
+  pub programs : ProgramsFromJournal text old new
   pub writes : WritesStatusAtMost (2 * (length stops + 1)) old new
   pub undoes : IfOk result (Undoes text stops old new)
   pub polled_ready : OnOk result (new.polled_ready ≡ true)

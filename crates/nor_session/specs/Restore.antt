@@ -6,6 +6,7 @@ use Rattle.nor_model.specs.Chip.{Chip, is_locked, kept_in}
 use Rattle.nor_model.specs.Guard.{code_of}
 use Rattle.nor_model.specs.Exchange.{Exchange}
 use Rattle.nor_model.specs.History.{Continues}
+use Rattle.nor_model.specs.Sent.{sent_in}
 use Rattle.nor_model.specs.Bus.{BusState}
 use Rattle.nor_driver.specs.OnlyReads.{IsSteadyOrIdle, OnlyReads, Spent, RanOut}
 use Rattle.nor_driver.specs.Reads.{unique_of}
@@ -33,7 +34,7 @@ use Rattle.nor_session.specs.Bounds.{most_reads, most_of}
 use Rattle.nor_session.specs.Made.{IsTargetChip, IsReportedFor}
 use Rattle.nor_session.specs.Changing.{HasBytes}
 use Rattle.nor_session.specs.Headline.{IsOfType}
-use Rattle.nor_session.specs.Session.{NamesSector, IsWithinCounts, CountsChanges, IsSavedCode, SendsSaved, SendsCounted, WritesStatusAtMost, HonestErrors}
+use Rattle.nor_session.specs.Session.{NamesSector, IsWithinCounts, CountsChanges, IsSavedCode, SendsSaved, ProgramsOnly, SendsCounted, WritesStatusAtMost, HonestErrors, EndsProtected}
 
 abbrev pub restored : Content → (old : ℕ → ℕ) → (a : ℕ) → ℕ
 restored journal old a = if is_saved journal (a / 4096) then saved_byte journal a else old a
@@ -121,10 +122,12 @@ HasFixedRead journal identity = fixed_of (kept_in (status_read identity)) ≡ fi
 abbrev pub HasUniqueRead : Content → Identity → Type 0
 HasUniqueRead journal identity = (journal.unique ≡ None) ⊎ (journal.unique ≡ Some identity.unique)
 
--- Holds if the journal fits what the bus replied to the identification, up to some point (`read`) of the restore.
+-- Holds if the journal fits what the bus replied to the identification, up to some point (`read`) of the restore before
+-- any modifying command.
 pub record FitsReplies (journal : Content) (old new : BusState) : Type 0 where
   pub read : List Exchange
   pub before : Continues old.history read
+  pub unsent : sent_in read ≡ sent_in old.history
   pub after : Continues read new.history
   pub identity : Identity
   pub part : IsPart old.further identity.found
@@ -137,16 +140,19 @@ abbrev pub IsLeft : Choice → Content → (read : ℕ → ℕ) → (a : ℕ) �
 IsLeft choice journal read a =
     (is_saved journal (a / 4096) ≡ true) × (choice.touched journal read (a / 4096) ≡ false)
 
--- Holds if the result fits what was read back. `scanned` is the history at which the touched sectors were chosen. After
--- success, the other saved sectors had been read by then, and the last transactions read the touched sectors with their
--- saved bytes. A mismatch names the first address in these sectors at which another byte was read.
-abbrev pub RestoreReadsBack : Choice → Content → (old new : List Exchange) → Result Report Refusal → Type 0
-RestoreReadsBack choice journal old new (Ok report) = (scanned : List Exchange)
-    × HaveBeenRead (IsLeft choice journal (bytes_read scanned)) old scanned
-    × EndsReadBack (addresses_of (choice.touched journal (bytes_read scanned))) (saved_byte journal) scanned new
-RestoreReadsBack choice journal old new (Err (Mismatch address)) = (scanned : List Exchange) × Continues old scanned
-    × EndsReadOther (addresses_of (choice.touched journal (bytes_read scanned))) (saved_byte journal) address
-    scanned new
+-- Holds if the result fits what was read back. `scanned` is the state at which the touched sectors were chosen, before
+-- any modifying command. After success, the other saved sectors had been read by then, and the last transactions, after
+-- all modifying commands, read the touched sectors with their saved bytes. A mismatch names the first address in these
+-- sectors at which another byte was read.
+abbrev pub RestoreReadsBack : Choice → Content → (old new : BusState) → Result Report Refusal → Type 0
+RestoreReadsBack choice journal old new (Ok report) = (scanned : BusState) × OnlyReads (most_reads 4096) old scanned
+    × HaveBeenRead (IsLeft choice journal (bytes_read scanned.history)) old.history scanned.history
+    × EndsReadBack (addresses_of (choice.touched journal (bytes_read scanned.history))) (saved_byte journal)
+    scanned.history new.history
+RestoreReadsBack choice journal old new (Err (Mismatch address)) =
+    (scanned : BusState) × OnlyReads (most_reads 4096) old scanned
+    × EndsReadOther (addresses_of (choice.touched journal (bytes_read scanned.history))) (saved_byte journal) address
+    scanned.history new.history
 RestoreReadsBack choice journal old new (Err _) = ⊤
 
 abbrev pub IsRestoreRefusal : Refusal → Type 0
@@ -175,11 +181,16 @@ pub record IsRestoredBy (choice : Choice) (journal : Content) (old new : BusStat
       (restored journal old.chip.bytes) old new report
   pub unsent : report.touched ≡ 0 → (¬ NeedsStatusBy choice journal old.chip) → new.sent ≡ old.sent
 
+-- Holds if `byte` is the byte that the journal saves for the address `a`.
+abbrev pub IsSavedByte : Content → (a byte : ℕ) → Type 0
+IsSavedByte journal a byte = (is_saved journal (a / 4096) ≡ true) × (byte ≡ saved_byte journal a)
+
 -- The promises of a restore on every bus.
 pub record AlwaysBy (choice : Choice) (journal : Content) (old new : BusState)
     (result : Result Report Refusal) : Type 0 where
   pub spends : Spends (most_of (length journal.saved)) old new
   pub sends : SendsSaved (IsSavedCode journal) 1 journal old new
+  pub programs : ProgramsOnly (IsSavedByte journal) old new
   -- At every exit, no modifying command was sent, or the journal fits what the bus replied to the identification.
   pub fits : (new.sent ≡ old.sent) ⊎ FitsReplies journal old new
   pub writes : WritesStatusAtMost 2 old new
@@ -189,7 +200,9 @@ pub record AlwaysBy (choice : Choice) (journal : Content) (old new : BusState)
   pub bounded : IfOk result (IsWithinCounts (choice.reads (length journal.saved)) (length journal.saved) 2 true)
   pub reported : IfOk result (λ report. SendsCounted report.erases report.programs old new)
   pub changing : IfOk result (CountsChanges (choice.reads (length journal.saved)) 2 true old new)
-  pub read_back : RestoreReadsBack choice journal old.history new.history result
+  pub read_back : RestoreReadsBack choice journal old new result
+  pub protects : IfOk result (λ report.
+      EndsProtected (λ identity code. code ≡ code_of (kept_in journal.status)) old new report.found)
   pub polled_ready : OnOk result (new.polled_ready ≡ true)
   pub last_transaction : IfErr result (λ refusal. EndsAtError refusal new.history)
 

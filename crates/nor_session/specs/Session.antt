@@ -3,12 +3,12 @@ use Rattle.std.specs.Prelude.{◌≡◌, ◌∷◌, ◌%◌, ◌≢◌, ◌≤�
 use Rattle.nor_model.specs.Chip.{Chip, IsSame, kept_in}
 use Rattle.nor_model.specs.Guard.{code_of}
 use Rattle.nor_model.specs.Offer.{IsLeastCode}
-use Rattle.nor_model.specs.Sent.{is_targeted, has_written, has_unknown, erases_of, programs_of, status_writes_of}
+use Rattle.nor_model.specs.Sent.{sent_in, is_targeted, has_written, has_programmed, has_unknown, erases_of, programs_of, status_writes_of}
 use Rattle.nor_model.specs.Exchange.{Exchange}
 use Rattle.nor_model.specs.History.{Continues}
 use Rattle.nor_model.specs.Bus.{BusState}
 use Rattle.nor_driver.specs.OnlyReads.{OnlyReads, Spent, Falls, RanOut}
-use Rattle.nor_driver.specs.StatusWrites.{fixed_of, with_code}
+use Rattle.nor_driver.specs.StatusWrites.{fixed_of, with_code, EndsWithCode}
 use Rattle.nor_geometry.specs.Counts.{sector_count}
 use Rattle.nor_driver.specs.Operations.{most_operation}
 use Rattle.nor_driver.specs.Polls.{AddsTransactions}
@@ -29,7 +29,9 @@ use Rattle.nor_request.specs.Refusal.{refusal_number}
 use Rattle.nor_request.specs.Request.{wanted, scanned_sectors, IsWantedCode}
 use Rattle.nor_request.specs.Errors.{EndsAtError}
 use Rattle.nor_scan.specs.declared.identity.Identity.{Identity}
-use Rattle.nor_scan.specs.Identity.{needed_to_identify}
+use Rattle.nor_scan.specs.Identity.{most_identity, needed_to_identify, status_read}
+use Rattle.nor_scan.specs.Judging.{IsFoundCode}
+use Rattle.nor_probe.specs.declared.probes.Found.{Found}
 use Rattle.nor_probe.specs.Found.{IsPart}
 use Rattle.nor_driver.specs.ReadBack.{bytes_read, HaveBeenRead, EndsReadBack, EndsReadOther}
 use Rattle.nor_apply.specs.Within.{addresses_of}
@@ -106,6 +108,12 @@ pub record SendsSaved (IsCode : ℕ → Type 0) (calls : ℕ) (journal : Content
   pub erases : erases_of new.sent ≤ erases_of old.sent + calls * sector_count (is_saved journal)
   pub programs : programs_of new.sent ≤ programs_of old.sent + calls * (16 * sector_count (is_saved journal))
   pub unknown : has_unknown new.sent ≡ has_unknown old.sent
+
+-- Holds if each byte that page programs since `old` programmed satisfies `IsByte` for its address. A byte that a page
+-- program before `old` had programmed at the same address may be programmed again.
+abbrev pub ProgramsOnly : (IsByte : (a byte : ℕ) → Type 0) → (old new : BusState) → Type 0
+ProgramsOnly IsByte old new =
+    (a byte : ℕ) → (has_programmed new.sent a byte ≡ has_programmed old.sent a byte) ⊎ IsByte a byte
 
 -- Holds if at most 4,096 erases, 65,536 page programs and no unknown transaction were sent.
 pub record SendsFew (old new : BusState) : Type 0 where
@@ -201,10 +209,12 @@ HoldsBegun further request image chip bytes = (bytes ≡ [])
     ⊎ (IsNamed further request.named chip.config
     × IsJournalPrefix (header_of chip) chip.bytes (is_touched chip.bytes (wanted request image chip)) bytes)
 
--- Holds if the bytes are a journal of what the bus had last replied at some point of the session (history `at_seal`).
+-- Holds if the bytes are a journal of what the bus had last replied at some point of the session (history `at_seal`),
+-- before any modifying command.
 pub record IsJournalOfReplies (old new : BusState) (bytes : List ℕ) : Type 0 where
   pub at_seal : List Exchange
   pub before : Continues old.history at_seal
+  pub unsent : sent_in at_seal ≡ sent_in old.history
   pub after : Continues at_seal new.history
   pub identity : Identity
   pub part : IsPart old.further identity.found
@@ -216,19 +226,57 @@ abbrev pub touched_for : Request → (image : List ℕ) → (size : ℕ) → (re
 touched_for request image size read s =
     sectors_below (size / 4096) s && is_touched read (wanted_at request image size read) s
 
--- Holds if the result fits what was read back. `scanned` is the history at the end of the scan. After success with
--- `verify` set, each scanned sector had been read by then, and the last transactions read the touched sectors with
--- their target bytes. A mismatch names the first address in these sectors at which another byte was read.
-abbrev pub SessionReadsBack : Request → (image : List ℕ) → (old new : List Exchange) → Result Report Refusal → Type 0
+-- Holds if `byte` is the target byte of the request at the address `a`, which is in a touched sector. Both follow from
+-- `read`, the bytes that were read from a chip of `size` bytes.
+abbrev pub IsTargetRead : Request → (image : List ℕ) → (size : ℕ) → (read : ℕ → ℕ) → (a byte : ℕ) → Type 0
+IsTargetRead request image size read a byte =
+    (touched_for request image size read (a / 4096) ≡ true) × (byte ≡ wanted_at request image size read a)
+
+-- Holds if the session programmed only target bytes of touched sectors, as they follow from what the bus had last
+-- replied at some point of the session (history `at_seal`) before the first modifying command. A faithful vault holds
+-- a journal of the same replies.
+pub record ProgramsTargets (request : Request) (image : List ℕ) (old new : BusState) (vault : VaultState) : Type 0 where
+  pub at_seal : List Exchange
+  pub before : Continues old.history at_seal
+  pub after : Continues at_seal new.history
+  pub unsent : sent_in at_seal ≡ sent_in old.history
+  pub identity : Identity
+  pub part : IsPart old.further identity.found
+  pub replied : IsIdentifiedBy old.further at_seal identity
+  pub saves : vault.telling ≡ true → JournalSaves (header_found identity) (bytes_read at_seal)
+      (touched_for request image identity.found.size (bytes_read at_seal)) vault.bytes
+  pub programs : ProgramsOnly (IsTargetRead request image identity.found.size (bytes_read at_seal)) old new
+
+-- Holds if the result fits what was read back. `scanned` is the state at the end of the scan, before any modifying
+-- command. After success with `verify` set, each scanned sector had been read by then, and the last transactions, after
+-- all modifying commands, read the touched sectors with their target bytes. A mismatch names the first address in these
+-- sectors at which another byte was read.
+abbrev pub SessionReadsBack : Request → (image : List ℕ) → (old new : BusState) → Result Report Refusal → Type 0
 SessionReadsBack request image old new (Ok report) = request.verify ≡ true
-    → (scanned : List Exchange) × HaveBeenRead (IsScanned request report.found.size) old scanned
-    × EndsReadBack (addresses_of (touched_for request image report.found.size (bytes_read scanned)))
-    (wanted_at request image report.found.size (bytes_read scanned)) scanned new
+    → (scanned : BusState) × OnlyReads (most_reads 4096) old scanned
+    × HaveBeenRead (IsScanned request report.found.size) old.history scanned.history
+    × EndsReadBack (addresses_of (touched_for request image report.found.size (bytes_read scanned.history)))
+    (wanted_at request image report.found.size (bytes_read scanned.history)) scanned.history new.history
 SessionReadsBack request image old new (Err (Mismatch address)) =
-    (size : ℕ) × (scanned : List Exchange) × Continues old scanned
-    × EndsReadOther (addresses_of (touched_for request image size (bytes_read scanned)))
-    (wanted_at request image size (bytes_read scanned)) address scanned new
+    (size : ℕ) × (scanned : BusState) × OnlyReads (most_reads 4096) old scanned
+    × EndsReadOther (addresses_of (touched_for request image size (bytes_read scanned.history)))
+    (wanted_at request image size (bytes_read scanned.history)) address scanned.history new.history
 SessionReadsBack request image old new (Err _) = ⊤
+
+-- Holds if `code`, for which `IsTarget` holds, has the protection bits that were last written since `old` or, if no
+-- status write was sent since, those that the identification read, before any modifying command. The identification
+-- found the chip `found`.
+pub record EndsProtected (IsTarget : Identity → (code : ℕ) → Type 0) (old new : BusState)
+    (found : Found) : Type 0 where
+  pub identified : BusState
+  pub only_reads : OnlyReads most_identity old identified
+  pub after : Continues identified.history new.history
+  pub identity : Identity
+  pub same : identity.found ≡ found
+  pub replied : IsIdentifiedBy old.further identified.history identity
+  pub code : ℕ
+  pub is_target : IsTarget identity code
+  pub ends : EndsWithCode (code_of (kept_in (status_read identity))) code old new
 
 -- The promises of a session on every bus and with every vault.
 pub record SessionAlways (request : Request) (image : List ℕ) (old new : BusState) (vault vault' : VaultState)
@@ -243,10 +291,13 @@ pub record SessionAlways (request : Request) (image : List ℕ) (old new : BusSt
   pub holds : HoldsJournal vault'
   -- If a faithful vault is sealed, its journal contains what the bus replied, even if the bus isn't well-behaved.
   pub replied : vault'.sealed ≡ true → vault'.telling ≡ true → IsJournalOfReplies old new vault'.bytes
+  -- If the vault is sealed, faithful or not, only target bytes were programmed, even if the bus isn't well-behaved.
+  pub programs : vault'.sealed ≡ true → ProgramsTargets request image old new vault'
   pub answers : IfErr result (SessionReturns vault vault')
   pub names : IfErr result (NamesAddress vault')
   pub ends : IfOk result (EndsSealed request old new vault vault')
-  pub read_back : SessionReadsBack request image old.history new.history result
+  pub read_back : SessionReadsBack request image old new result
+  pub protects : IfOk result (λ report. EndsProtected (IsFoundCode request.what) old new report.found)
   pub polled_ready : OnOk result (new.polled_ready ≡ true)
   pub last_transaction : IfErr result (λ refusal. EndsAtError refusal new.history)
 

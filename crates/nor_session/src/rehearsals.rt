@@ -36,6 +36,9 @@ pub struct Rehearsal {
 /// On a modelled, punctual bus that is steady, or whose chip was idle at the start, the chip's contents and
 /// non-volatile status bits are at every exit as they were before the call.
 ///
+/// On every bus the session programs only target bytes (see `session`), and each restore only bytes that the journal in
+/// `vault` saves.
+///
 /// Returns an error of the session or, if the vault was sealed, of a restore. On a well-behaved, punctual bus errors 12
 /// and 13 do not occur.
 pub fn rehearse<B: Meter>(
@@ -50,8 +53,8 @@ pub fn rehearse<B: Meter>(
     ensures restores_original { IsModelled (B.state bus.old) → (B.state bus.old).punctual ≡ true
         → IsSteadyOrIdle (B.state bus.old)
         → IsSame (B.state bus.old).chip (B.state bus.new).chip }
-    ensures always { RehearsalAlways request.now stops.now (B.state bus.old) (B.state bus.new) (held_by vault.old)
-        (held_by vault.new) result }
+    ensures always { RehearsalAlways request.now image.old stops.now (B.state bus.old) (B.state bus.new)
+        (held_by vault.old) (held_by vault.new) result }
     ensures honest { (B.state bus.old).honest ≡ true → (B.state bus.old).punctual ≡ true → IfErr result IsNoBusError }
     ensures modelled { IsModelled (B.state bus.old) → (B.state bus.old).punctual ≡ true
         → RehearsalModelled request.now image.old stops.now

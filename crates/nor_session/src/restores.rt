@@ -22,7 +22,9 @@ use nor_request::{Refusal, Report};
 
 /// Restores the saved sectors and the protection bits of `journal`, and verifies the changed sectors. A sector that is
 /// read with its saved bytes is not written. After success on any bus, each saved sector was read with its saved bytes
-/// (`read_back`).
+/// (`read_back`): a changed sector after all writes, any other sector before the first. Page programs send only saved
+/// bytes, each for its own address (`programs`). The last status write, if any was sent, had the saved protection bits.
+/// If none was sent, the identification read them (`protects`).
 ///
 /// On a modelled bus a restore that is stopped can be run again: if the journal could restore a chip at the start, it
 /// can restore that chip at every exit. In this case success leaves that chip, and the only possible error is 12.

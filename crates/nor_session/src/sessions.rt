@@ -28,8 +28,15 @@ use nor_scan::{identify, judge_identity};
 /// contains what the bus replied. On a modelled bus that journal can restore the original chip at every exit, even if
 /// the bus stopped inside a transaction, and success leaves the target bytes and protection bits.
 ///
+/// On every bus, even a faulty one, page programs send only target bytes of touched sectors, each for its own address.
+/// Targets and touched sectors follow from what the bus replied before the first modifying command (`programs`).
+///
 /// If the request asks for verification, success on any bus means that every scanned sector was read with its target
-/// bytes (`read_back`). For a touched sector, that read followed all writes.
+/// bytes (`read_back`). For a touched sector, that read followed all writes. Which bytes are the target, and which
+/// sectors are touched, depends on what was read before the first modifying command.
+///
+/// Success on any bus also means that the last status write, if any was sent, had the target protection bits. If none
+/// was sent, the identification read them (`protects`).
 ///
 /// Returns an error from 1 to 8 before the vault is used, and one from 9 to 11 before the vault is sealed (`Refusal`
 /// has their meanings). On a modelled bus an error from 1 to 10 is the verdict on the request (`IsVerdict`). Returns 12

@@ -1,9 +1,10 @@
-use Rattle.std.proofs.Common.{◌≡◌, ◌+◌, length, true, rules, arith}
+use Rattle.std.proofs.Common.{◌≡◌, ◌+◌, length, true, refl, rules, arith}
 use Rattle.std.proofs.lemmas.Grind.{common_steps}
 use Rattle.nor_scan.specs.Identity.{most_identity}
 use Rattle.nor_driver.proofs.ReadsInTurn.{only_reads_then, only_reads_more}
 use Rattle.nor_session.specs.Restore.{differing}
 use Rattle.nor_session.proofs.Reopened.{errors_more}
+use Rattle.nor_session.proofs.RepliedJournal.{unsent_history}
 use Rattle.nor_session.proofs.RestoredBytes.{differing_sound}
 use Rattle.nor_session.proofs.Changeable.{AreRead, shut_errors, prepared_all}
 use Rattle.nor_session.proofs.prepare_restore.prepare_restore.Goals as goal
@@ -32,6 +33,7 @@ returns-clause-prepares g c =
       replies = record {
         read = (g.B.Bus.state c.identify_saved.new.bus).history;
         before = c.identify_saved.ensures.leaves.nature.history;
+        unsent = unsent_history c.identify_saved.ensures.leaves;
         after = c.scan_saved.ensures.leaves.nature.history;
         identity = c.in_ok-identity.identity;
         part = c.in_ok-identity.ensures.identifies.part;
@@ -39,6 +41,15 @@ returns-clause-prepares g c =
         kind = c.in_ok-identity.ensures.kind;
         device = c.in_ok-identity.ensures.device;
         fixed = c.in_ok-identity.ensures.fixed;
+      };
+      has_read = record {
+        identified = g.B.Bus.state c.identify_saved.new.bus;
+        only_reads = c.identify_saved.ensures.leaves;
+        after = c.scan_saved.ensures.leaves.nature.history;
+        identity = c.in_ok-identity.identity;
+        same = refl;
+        replied = c.in_ok-identity.ensures.identifies.replied;
+        status = rw (c.in_ok-changes.ensures.changes.one, c.in_ok-changes.ensures.changes.two) refl;
       };
     }
 

@@ -1,10 +1,11 @@
-use Rattle.std.proofs.Common.{◌≡◌, ◌∙◌, ap, true, rules, arith}
+use Rattle.std.proofs.Common.{◌≡◌, ◌∙◌, ap, true, refl, rules, arith}
 use Rattle.std.proofs.lemmas.Grind.{common_steps}
 use Rattle.nor_model.proofs.Histories.{continues_refl}
 use Rattle.nor_scan.specs.Identity.{most_identity}
 use Rattle.nor_plan.specs.SectorSet.{has}
 use Rattle.nor_plan.specs.declared.set.SectorSet.{SectorSet}
 use Rattle.nor_session.specs.Restore.{every_saved}
+use Rattle.nor_session.proofs.RepliedJournal.{unsent_history}
 use Rattle.nor_session.proofs.RestoredBytes.{every_saved_sound}
 use Rattle.nor_session.proofs.Changeable.{AreRead, shut_errors, prepared_all}
 use Rattle.nor_session.proofs.prepare_restore.prepare_rewrite.Goals as goal
@@ -40,6 +41,7 @@ returns-clause-prepares g c =
       replies = record {
         read = state.history;
         before = c.identify_saved.ensures.leaves.nature.history;
+        unsent = unsent_history c.identify_saved.ensures.leaves;
         after = continues_refl state.history;
         identity = c.in_ok-identity.identity;
         part = c.in_ok-identity.ensures.identifies.part;
@@ -47,6 +49,15 @@ returns-clause-prepares g c =
         kind = c.in_ok-identity.ensures.kind;
         device = c.in_ok-identity.ensures.device;
         fixed = c.in_ok-identity.ensures.fixed;
+      };
+      has_read = record {
+        identified = state;
+        only_reads = c.identify_saved.ensures.leaves;
+        after = continues_refl state.history;
+        identity = c.in_ok-identity.identity;
+        same = refl;
+        replied = c.in_ok-identity.ensures.identifies.replied;
+        status = rw (c.in_ok-changes.ensures.changes.one, c.in_ok-changes.ensures.changes.two) refl;
       };
     }
 

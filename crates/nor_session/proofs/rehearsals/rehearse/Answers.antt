@@ -4,12 +4,13 @@ use Rattle.std.proofs.lemmas.Result.{err_from_is_err_and}
 use Rattle.nor_journal.specs.MemVault.{held_by}
 use Rattle.nor_probe.specs.Known.{IsModelled}
 use Rattle.nor_session.proofs.RehearsedRestores.{same_nature_then, latch_alone}
-use Rattle.nor_session.proofs.RehearsedSessions.{session_sends, session_tried, undo_premises, both_wear, both_send, both_write, both_allowed, both_tried, undo_refused}
+use Rattle.nor_session.proofs.RehearsedSessions.{session_sends, session_programs, session_tried, undo_premises, both_wear, both_send, both_program, both_write, both_allowed, both_tried, undo_refused}
 use Rattle.nor_session.proofs.rehearsals.rehearse.Goals as goal
 
 pub returns-in_err-ended-clause-always : goal.returns-in_err-ended-clause-always
 returns-in_err-ended-clause-always g c =
     let sends = session_sends c.args.stops.now c.stopped_session.ensures.leaves in
+    let programs = session_programs c.stopped_session.ensures.leaves in
     let tried = session_tried c.args.stops.now (g.B.Bus.state c.args.bus.now) (g.B.Bus.state c.stopped_session.new.bus)
     c.stopped_session.ensures.allowed in
     let last_transaction = c.in_err-ended.ensures.refuses.last_transaction in
@@ -31,6 +32,7 @@ returns-in_err-restores g c =
     c.in_err-restores.ensures.tried in
     let last_transaction = refuses.last_transaction in
     let sends = both_send session sealed is undone c.args.stops.now c.later.ensures in
+    let programs = both_program session sealed is undone in
     let writes = both_write session sealed is undone c.args.stops.now c.later.ensures in
     let p = err_from_is_err_and c.from_residual-in_err-restores.result c.from_residual-in_err-restores.ensures.1 in
     rw (p.1, p.2) (record {
@@ -68,6 +70,7 @@ returns g c =
         polled_ready = search rules;
         unsent = λ unsealed. absurd (true≢false (sym sealed ∙ unsealed));
         sends = λ again. both_send session sealed is undone c.args.stops.now c.later.ensures;
+        programs = λ again. both_program session sealed is undone;
         writes = both_write session sealed is undone c.args.stops.now c.later.ensures;
       };
       honest = search rules;
@@ -77,6 +80,19 @@ returns g c =
           let wears = both_wear session sealed is undone modelled in
           let are = rw c.later.ensures at (undoes.are then_modelled still _ _ can_undo) in
           let last = rw c.later.ensures at (undoes.last then_modelled still _ _ can_undo) in
-          let latch = latch_alone _ c.in_ok-ended.ensures.shows undoes modelled then_modelled in
-          search rules;
+          let shows = c.in_ok-ended.ensures.shows in
+          let latch = latch_alone _ shows undoes modelled then_modelled in
+          record {
+            wears = wears;
+            refuses = tt;
+            errors = tt;
+            accepts = λ again. session.accepted modelled sealed;
+            saves = λ again. (session.back modelled sealed).journal;
+            ended = search (rules, shows.below modelled punctual);
+            stopped = λ ended. shows.can modelled punctual ended;
+            seal = rw sealed at (shows.seal modelled punctual);
+            restores = λ again. are;
+            latch = latch;
+            last = λ again. last;
+          };
     }

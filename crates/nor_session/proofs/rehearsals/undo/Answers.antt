@@ -1,6 +1,6 @@
 use Rattle.std.proofs.Common.{rules}
 use Rattle.std.proofs.lemmas.Result.{IfOk-weaker, IfErr-weaker, on_err_weaker}
-use Rattle.nor_session.proofs.RehearsedRestores.{undoes, undo_wears, undo_sends, undo_refuses, tried_less, unread}
+use Rattle.nor_session.proofs.RehearsedRestores.{undoes, undo_wears, undo_sends, undo_programs, undo_refuses, tried_less, unread}
 use Rattle.nor_session.proofs.rehearsals.undo.Goals as goal
 
 pub returns-in-Ok : goal.returns-in-Ok
@@ -10,6 +10,7 @@ returns-in-Ok g c =
       nature = search rules;
       wears = undo_wears is same kept _ _ ends.leaves;
       sends = undo_sends is same kept _ _ ends.leaves;
+      programs = undo_programs is same kept _ _ ends.leaves;
       writes = search rules;
       undoes = IfOk-weaker c.restore_in_turn.result _ _ (undoes is same kept _) ends.shows;
       polled_ready = search rules;

@@ -1,13 +1,14 @@
-use Rattle.std.proofs.Common.{◌≡◌, ◌⊎◌, ◌+◌, inl, inr, refl, rules, arith}
+use Rattle.std.proofs.Common.{◌≡◌, ◌⊎◌, ◌+◌, ◌/◌, inl, inr, refl, rules, arith}
 use Rattle.std.proofs.lemmas.Result.{err_from_is_err_and}
 use Rattle.nor_driver.specs.OnlyReads.{OnlyReads}
-use Rattle.nor_session.specs.Restore.{IsCheckedFirst, FitsReplies}
+use Rattle.nor_session.specs.Restore.{IsCheckedFirst, IsSavedByte, FitsReplies}
 use Rattle.nor_session.specs.Bounds.{most_reads}
-use Rattle.nor_session.proofs.Restoring.{AreChanged, change_last, changed_spends, changed_fits, changed_leaves, changed_can_restore, change_answers, change_not_judged, change_fails, change_errors, change_stops, work_fits, restored_bounded, restored_changing, restored_counted, restored_checked, restored_sparing, restored_done, restored_original}
+use Rattle.nor_session.proofs.Restoring.{AreChanged, change_last, changed_spends, changed_reads, changed_fits, changed_leaves, changed_can_restore, change_answers, change_not_judged, change_fails, change_errors, change_stops, work_fits, restored_bounded, restored_changing, restored_counted, restored_checked, restored_sparing, restored_done, restored_original}
 use Rattle.nor_session.proofs.Changed.{two_writes, no_write}
 use Rattle.nor_session.proofs.Naming.{change_names}
 use Rattle.nor_session.proofs.ReadBack.{restore_read_back, restore_read_other}
-use Rattle.nor_session.proofs.Targeting.{change_sends, change_writes}
+use Rattle.nor_session.proofs.Targeting.{change_programs, change_sends, change_writes}
+use Rattle.nor_session.proofs.Protected.{restore_protects}
 use Rattle.nor_session.proofs.OfJournal.{restore_of_journal, counted}
 use Rattle.nor_session.proofs.restores.change_chip.Goals as goal
 
@@ -31,12 +32,15 @@ returns-in_err-work g c =
                 let fits : (new.sent ≡ old.sent) ⊎ FitsReplies journal old new =
                 inr (changed_fits before.replies are.leaves.spends.nature) in
                 let sends = change_sends old are.only_reads.sent are.leaves _ journal (restore_of_journal are.is) in
+                let programs = change_programs old are.only_reads.sent are.leaves (IsSavedByte journal)
+                (λ a hit. (are.is.saved (a / 4096) hit, refl)) in
                 let writes = change_writes old are.only_reads.sent are.leaves (two_writes prepared.changes) in
                 let answers = change_answers prepared.changes _ mid new refusal errors in
                 let names = change_names prepared.changes refusal are.is.saved c.in_err-work.ensures.names in
                 let last = change_last prepared.changes _ mid new refusal errors in
-                let read_back = restore_read_other choice journal prepared.changes old.history mid.history new.history
-                are.only_reads.nature.history are.is.replied refusal c.in_err-work.ensures.read_back in
+                let read_back = restore_read_other choice journal prepared.changes old mid new
+                (changed_reads choice journal prepared old mid new are) are.is.replied refusal
+                c.in_err-work.ensures.read_back in
                 let spends = changed_spends choice journal prepared old mid new are in
                 let only_reads : IsCheckedFirst refusal → OnlyReads (most_reads 4096) old new =
                 λ first. absurd (change_not_judged prepared.changes _ mid new refusal errors first) in
@@ -82,13 +86,18 @@ returns g c =
                 let fits : (new.sent ≡ old.sent) ⊎ FitsReplies journal old new =
                 inr (changed_fits before.replies are.leaves.spends.nature) in
                 let sends = change_sends old are.only_reads.sent are.leaves _ journal (restore_of_journal are.is) in
+                let programs = change_programs old are.only_reads.sent are.leaves (IsSavedByte journal)
+                (λ a hit. (are.is.saved (a / 4096) hit, refl)) in
                 let writes = change_writes old are.only_reads.sent are.leaves (two_writes prepared.changes) in
                 let bounded = restored_bounded choice journal prepared old mid new work sent are does (omega arith) in
                 let changing = restored_changing choice journal prepared old mid new work sent are does refl in
                 let polled_ready = does.polled_ready are.is.polled_ready in
                 let counts = counted old are.only_reads.sent does in
-                let read_back = restore_read_back choice journal prepared.changes old.history mid.history new.history
-                are.is.read are.is.replied work (record {
+                let protects = restore_protects journal prepared before.has_read are.only_reads.sent
+                are.leaves.spends.nature
+                are.is.code does.protects in
+                let read_back = restore_read_back choice journal prepared.changes old mid new
+                (changed_reads choice journal prepared old mid new are) are.is.read are.is.replied work (record {
                   found = prepared.found;
                   touched = prepared.touched;
                   erases = work.erases;

@@ -7,7 +7,7 @@ use Rattle.nor_session.proofs.Restoring.{announces_since, only_reads_most, only_
 use Rattle.nor_session.proofs.RestoredOriginal.{only_stopped}
 use Rattle.nor_session.proofs.Naming.{prepare_names}
 use Rattle.nor_session.proofs.ReadBack.{prepare_read_back}
-use Rattle.nor_session.proofs.Targeting.{none_written, none_sent}
+use Rattle.nor_session.proofs.Targeting.{none_written, none_programmed, none_sent}
 use Rattle.nor_session.proofs.restores.restore_announced.Goals as goal
 
 pub returns-in_err-prepared : goal.returns-in_err-prepared
@@ -30,7 +30,7 @@ returns-in_err-prepared g c =
           let answers = prepare_answers differing journal most old new refusal errors in
           let names = prepare_names differing journal most old new refusal errors in
           let read_back = prepare_read_back differing journal most old new refusal errors in
-          search (rules, arith, none_sent, none_written);
+          search (rules, arith, none_sent, none_programmed, none_written);
       honest = λ honest.
           let honest_errors = prepare_fails differing journal most old new refusal (omega arith) honest errors in search rules;
       modelled = λ modelled.

@@ -7,7 +7,7 @@ use Rattle.nor_session.proofs.Restoring.{announces_since, rewrites, thorough_sin
 use Rattle.nor_session.proofs.RestoredOriginal.{only_stopped_rewriting}
 use Rattle.nor_session.proofs.Naming.{prepare_names}
 use Rattle.nor_session.proofs.ReadBack.{prepare_read_back}
-use Rattle.nor_session.proofs.Targeting.{none_written, none_sent}
+use Rattle.nor_session.proofs.Targeting.{none_written, none_programmed, none_sent}
 use Rattle.nor_session.proofs.restores.rewrite_announced.Goals as goal
 
 pub returns-in_err-prepared : goal.returns-in_err-prepared
@@ -30,7 +30,7 @@ returns-in_err-prepared g c =
           let answers = prepare_answers every_saved journal most old new refusal errors in
           let names = prepare_names every_saved journal most old new refusal errors in
           let read_back = prepare_read_back every_saved journal most old new refusal errors in
-          search (rules, arith, none_sent, none_written);
+          search (rules, arith, none_sent, none_programmed, none_written);
       honest = λ honest.
           let honest_errors = prepare_fails every_saved journal most old new refusal (omega arith) honest errors in search rules;
       modelled = λ modelled.

@@ -19,8 +19,8 @@ returns-clause-keeps g c =
 pub returns-in_err-code-clause-always : goal.returns-in_err-code-clause-always
 returns-in_err-code-clause-always g c =
     let names = judged_names c.in_err-code.field-0.0 c.in_err-code.ensures.faults in
-    let read_back = judged_read_back c.args.request.now c.args.image.now (g.B.Bus.state c.args.bus.now).history
-    (g.B.Bus.state c.identify.new.bus).history c.in_err-code.field-0.0 c.in_err-code.ensures.faults in
+    let read_back = judged_read_back c.args.request.now c.args.image.now (g.B.Bus.state c.args.bus.now)
+    (g.B.Bus.state c.identify.new.bus) c.in_err-code.field-0.0 c.in_err-code.ensures.faults in
     let p = err_from_is_err_and c.from_residual-in_err-code.result c.from_residual-in_err-code.ensures.1 in
     rw (p.1, p.2) (search (rules, none_written, few_none))
 

@@ -13,7 +13,9 @@ use Rattle.nor_session.proofs.ReadyChip.{small_first, opening_of, shows, named, 
 use Rattle.nor_session.proofs.SessionChanges.{never_written, change_fails, change_errors}
 use Rattle.nor_session.proofs.SessionEnds.{ready_chip, can_be_undone, done, session_checked, spared}
 use Rattle.nor_session.proofs.Restoring.{change_last}
-use Rattle.nor_session.proofs.RepliedJournal.{replied_saved}
+use Rattle.nor_scan.specs.Judging.{IsFoundCode}
+use Rattle.nor_session.proofs.Protected.{session_protects}
+use Rattle.nor_session.proofs.RepliedJournal.{replied_saved, programs_targets}
 use Rattle.nor_session.proofs.ReadBack.{session_read_back, session_read_other, save_read_back}
 use Rattle.nor_session.proofs.Naming.{save_names, save_number, work_names}
 use Rattle.nor_request.specs.declared.refusal.Refusal.TheVariants.{Stopped}
@@ -61,6 +63,7 @@ returns-in_err-saved-clause-keeps g c = λ first only_reads opens.
             sends = λ on telling. absurd (never on);
             holds = λ on telling. absurd (never on);
             replied = λ on telling. absurd (never on);
+            programs = λ on. absurd (never on);
             answers = record {
               own = omega (arith, number.1);
               vault = search rules;
@@ -69,7 +72,8 @@ returns-in_err-saved-clause-keeps g c = λ first only_reads opens.
             };
             names = record { early = λ off. names; late = λ on telling. absurd (never on) };
             ends = tt;
-            read_back = save_read_back request c.args.self.image.now _ _ _ _ _ first.history new.history refusal returned.errors;
+            read_back = save_read_back request c.args.self.image.now _ _ _ _ _ first new refusal returned.errors;
+            protects = tt;
             polled_ready = tt;
             last_transaction = save_last _ _ _ _ _ _ refusal returned.errors;
           };
@@ -111,13 +115,19 @@ returns-in_err-work-clause-keeps g c = λ first only_reads opens.
           let replied = λ (telling : vault'.telling ≡ true).
           replied_saved only_reads opens c.save.ensures.leaves c.in_ok-saved.ensures.replies
           (c.in_ok-saved.ensures.replied telling) leaves.spends.nature in
+          let puts = c.in_ok-saved.ensures.puts in
+          let programs = λ (sealed : vault'.sealed ≡ true).
+          programs_targets {request = request} {image = image} {vault = vault'} only_reads opens c.save.ensures.leaves
+          c.in_ok-saved.ensures.replies keeps.scans (λ s. refl) c.in_ok-saved.ensures.replied leaves in
           let last = change_last _ _ _ _ refusal returned.errors in
+          let most = opens.most in
+          let reads_all : OnlyReads (most_reads 4096) first (g.B.Bus.state c.save.new.bus)
+          = only_reads_after _ _ _ _ _ _ (omega arith) (has_opened only_reads opens) c.save.ensures.leaves in
           let read_back = session_read_other request image c.in_ok-saved.saved.scanned
           c.args.self.identity.found.size c.save.new.image
           (changes_of c.args.self.identity c.in_ok-saved.saved c.status.result c.args.self.code) first
           (g.B.Bus.state c.args.self.bus.now) (g.B.Bus.state c.save.new.bus) (g.B.Bus.state c.finish.new.self.0)
-          only_reads.nature.history
-          c.save.ensures.leaves.nature.history keeps.scans (λ s. refl) refusal c.in_err-work.ensures.read_back in
+          reads_all keeps.scans (λ s. refl) refusal c.in_err-work.ensures.read_back in
           let names = work_names (changes_of c.args.self.identity c.in_ok-saved.saved c.status.result c.args.self.code)
           (header_found c.args.self.identity) vault' refusal (search rules) c.in_ok-saved.ensures.saves returned.names in
           search rules;
@@ -155,16 +165,25 @@ returns-clause-keeps g c = λ first only_reads opens.
           let replied = λ (telling : vault'.telling ≡ true).
           replied_saved only_reads opens c.save.ensures.leaves c.in_ok-saved.ensures.replies
           (c.in_ok-saved.ensures.replied telling) leaves.spends.nature in
+          let puts = c.in_ok-saved.ensures.puts in
+          let programs = λ (sealed : vault'.sealed ≡ true).
+          programs_targets {request = request} {image = image} {vault = vault'} only_reads opens c.save.ensures.leaves
+          c.in_ok-saved.ensures.replies keeps.scans (λ s. refl) c.in_ok-saved.ensures.replied leaves in
           let bounded = bounded_by _ _ _ _ _ _ _ _ _ _ _ c.from.result _ c.from.ensures is (writes_few is) does in
           let changing = counts_changes _ _ _ _ _ _ _ _ _ _ _ c.from.result _ c.from.ensures is (writes_few is) does in
           let polled_ready = does.polled_ready (keeps.scans.polled_ready opens.polled_ready) in
           let counts = counted first is.honest_reads.same_sent does in
+          let protects = session_protects (IsFoundCode request.what) c.args.self.identity c.args.self.code only_reads
+          c.save.ensures.leaves leaves.spends.nature opens.replied c.status.ensures c.requires.judged.found_code
+          does.protects in
+          let most = opens.most in
+          let reads_all : OnlyReads (most_reads 4096) first (g.B.Bus.state c.save.new.bus)
+          = only_reads_after _ _ _ _ _ _ (omega arith) (has_opened only_reads opens) c.save.ensures.leaves in
           let read_back = session_read_back request image c.in_ok-saved.saved.scanned
           c.args.self.identity.found.size c.save.new.image
           (changes_of c.args.self.identity c.in_ok-saved.saved c.status.result c.args.self.code) first
           (g.B.Bus.state c.args.self.bus.now) (g.B.Bus.state c.save.new.bus) (g.B.Bus.state c.finish.new.self.0)
-          only_reads.nature.history
-          c.save.ensures.leaves.nature.history keeps.scans (λ s. refl) c.in_ok-work.work (record {
+          only_reads.nature.history reads_all keeps.scans (λ s. refl) c.in_ok-work.work (record {
             found = c.args.self.identity.found;
             touched = c.in_ok-saved.saved.scanned.count;
             erases = c.in_ok-work.work.erases;
