@@ -10,6 +10,7 @@ use Rattle.nor_layout.specs.Sectors.{includes, FitsInto, ReachesPast}
 use Rattle.nor_probe.specs.declared.table.ChipName.{ChipName}
 use Rattle.nor_probe.specs.declared.probes.Probed.{Probed}
 use Rattle.nor_probe.specs.Found.{most_probe}
+use Rattle.nor_probe.specs.Replied.{IsFoundBy}
 use Rattle.nor_request.specs.declared.refusal.Refusal.{Refusal}
 use Rattle.nor_request.specs.declared.refusal.Refusal.TheVariants.{ImageSize, RegionOutside, Stopped, Timeout, Mismatch}
 use Rattle.nor_request.specs.declared.report.Report.{Report}
@@ -20,7 +21,7 @@ use Rattle.nor_read.specs.Verifying.{VerifyAlways, VerifyHonest, VerifyModelled,
 use Rattle.nor_driver.specs.ReadBack.{bytes_read, IsReadAs, ReadsBack, ReadsOther}
 use Rattle.nor_read.specs.Verifying.{FindsFirst, AgreeIn, IsFirstOther, ComparesBelow, VerifyEnds, HasReadBack, included_below}
 use Rattle.nor_driver.proofs.RestsInTurn.{same_bytes}
-use Rattle.nor_read.proofs.Onward.{read_after}
+use Rattle.nor_read.proofs.Onward.{read_after, found_still}
 use Rattle.nor_read.proofs.Whole.{Sends, find_errors, sends_probe, sends_on, fails, report_of, reported}
 use Rattle.nor_read.proofs.Whole.{rested_on, size_of, open_after, has_name, is_taken, is_passed}
 
@@ -142,6 +143,8 @@ module _ (named : Option ChipName) (included : Option (List Span)) (image : List
             let sends = sends_on found only_reads after in
             let reports = reported found only_reads all.honest_reads all.counted in
             let first = first_before None none in
+            let identified : IsFoundBy old.further new.history probed.found =
+            found_still all.reads_all found.replied in
             let back : HasReadBack included image old.history new.history (Ok (report_of probed compared.reads)) =
             (mid.history, only_reads.nature.history, read_back none) in
             search (sends.own, reports.reads, reports.config)

@@ -1,4 +1,5 @@
 pub mod Onward
+pub mod Copying
 pub mod Pieces
 pub mod Copied
 pub mod Differing

@@ -13,6 +13,7 @@ use Rattle.nor_probe.specs.declared.probes.ProbeFault.TheVariants as Probes
 pub use Rattle.nor_probe.specs.Known.{IsModelled}
 use Rattle.nor_probe.specs.Known.{shown_as}
 pub use Rattle.nor_probe.specs.Found.{IsNamed}
+use Rattle.nor_probe.specs.Replied.{IsFoundBy}
 use Rattle.nor_probe.specs.Found.{needed, part_in, IsPart, IsWanted, IsConfigOf, ProbeErrors, most_probe}
 use Rattle.nor_request.specs.declared.refusal.Refusal.{Refusal}
 use Rattle.nor_request.specs.declared.refusal.Refusal.TheVariants.{NoChip, UnknownChip, OtherName, Stopped, Timeout}
@@ -30,6 +31,7 @@ pub record IsFound (named : Option ChipName) (old : BusState) (found : Found) : 
 
 pub record HasFound (named : Option ChipName) (old new : BusState) (probed : Probed) : Type 0 where
   pub is : IsFound named old probed.found
+  pub replied : IsFoundBy old.further new.history probed.found
   pub most : probed.transactions ≤ most_probe
   pub polled_ready : new.polled_ready ≡ true
   pub rested : old.honest ≡ true → Rested old new

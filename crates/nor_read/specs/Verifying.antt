@@ -14,6 +14,7 @@ use Rattle.nor_geometry.specs.Below.{count_below}
 use Rattle.nor_layout.specs.Sectors.{includes, has_in_sector, sectors_included, FitsInto}
 use Rattle.nor_probe.specs.declared.table.ChipName.{ChipName}
 use Rattle.nor_probe.specs.Found.{IsConfigOf}
+use Rattle.nor_probe.specs.Replied.{IsFoundBy}
 use Rattle.nor_request.specs.declared.refusal.Refusal.{Refusal}
 use Rattle.nor_request.specs.declared.refusal.Refusal.TheVariants.{ImageSize, RegionOutside, Stopped, Mismatch}
 use Rattle.nor_request.specs.declared.report.Report.{Report}
@@ -85,6 +86,7 @@ pub record VerifyAlways (named : Option ChipName) (included : Option (List Span)
   pub only_reads : OnlyReads (most_read 16777216) old new
   pub reports : IfOk result (ReportsPart named old.further)
   pub fits : IfOk result (λ report. FitsInto included report.found.size)
+  pub identified : IfOk result (λ report. IsFoundBy old.further new.history report.found)
   pub whole : IfOk result (λ report. length image ≡ report.found.size)
   pub refuses : IfErr result IsVerifyRefusal
   pub last_transaction : IfErr result (VerifyEnds old.history new.history)

@@ -21,7 +21,8 @@ pub struct Protection {
 }
 
 /// Reads the chip's protected range, and whether its status is locked. If `named` is given, the chip must have that
-/// name. On a modelled bus the returned values are proved to be the chip's own.
+/// name. On any bus the returned values are proved to be those that the replies mean, and on a modelled bus they are
+/// proved to be the chip's own.
 ///
 /// Returns error 1 (no chip), 2 (unknown chip), 3 (other name), 6 (the chip has no block protection), 12 (the bus
 /// stopped) or 13 (the chip stayed busy; not on a well-behaved bus).

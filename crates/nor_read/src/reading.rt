@@ -22,8 +22,9 @@ const PIECE_LEN: usize = 65_536;
 /// is `None`), and FFh at all others. Reads each sector that has an included address once. The vault must be unsealed,
 /// and the call does not seal it.
 ///
-/// If the bus is modelled and `out` is faithful (`telling`), success leaves this copy in `out`, after the bytes that
-/// `out` held before.
+/// On any bus, the bytes that a faithful `out` (`telling`) accepts at included addresses are those of the bus's replies
+/// during this call. If the bus is modelled, success leaves the copy of the chip in a faithful `out`, after the bytes
+/// that `out` held before.
 ///
 /// Returns error 1 (no chip), 2 (unknown chip), 3 (other name), 5 (an included address isn't on the chip), 12 (the bus
 /// stopped), 13 (the chip stayed busy; not on a well-behaved bus) or 19 (the vault failed, with the number of bytes

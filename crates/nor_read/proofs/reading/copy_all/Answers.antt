@@ -1,6 +1,6 @@
 use Rattle.std.proofs.Common.{◌≡◌, ◌/◌, arith, rules}
 use Rattle.nor_driver.proofs.RestsInTurn.{only_reads_after}
-use Rattle.nor_read.proofs.Copied.{copied_none, copied_more, copy_fails}
+use Rattle.nor_read.proofs.Copied.{copied_none, copied_more, copy_fails, copy_stops}
 use Rattle.nor_read.proofs.reading.copy_all.Goals as goal
 
 pub loop-piece-init : goal.loop-piece-init
@@ -22,6 +22,12 @@ pub returns-in_err-put_piece-clause-errors : goal.returns-in_err-put_piece-claus
 returns-in_err-put_piece-clause-errors g c =
     let before = copy_fails (omega arith) (omega arith) c.loop-piece.invariant
     c.in_ok-reads.ensures.reads _ c.in_err-put_piece.field-0.0 c.in_err-put_piece.ensures.errors in
+    search (rules, before)
+
+pub returns-in_err-reads-clause-errors : goal.returns-in_err-reads-clause-errors
+returns-in_err-reads-clause-errors g c =
+    let before = copy_stops (omega arith) c.loop-piece.invariant c.read_piece.ensures.leaves
+    c.in_err-reads.ensures.stops in
     search (rules, before)
 
 pub returns-clause-reads : goal.returns-clause-reads
