@@ -1,5 +1,5 @@
 //! `Disk`: the files of the operating system, as an implementation of the trait `Store`.
-ghost use Rattle.std.specs.Prelude.{◌≡◌, IfOk, IfSome, None, take};
+ghost use Rattle.std.specs.Prelude.{◌≡◌, true, IfOk, IfSome, None, Some, take};
 ghost use Rattle.std.proofs.lemmas.Bool.{false≢true};
 
 use crate::folder::sync_folder;
@@ -91,6 +91,9 @@ where
     R::File: LockFile,
 {
     ghost use Rattle.nor_files.specs.Disk.{unknown};
+    ghost use Rattle.nor_files.specs.Calls.{TakesBack};
+    ghost use Rattle.nor_files.specs.Files.{Name, is_lawful};
+    ghost use Rattle.nor_journal.specs.FileVault.{file_of, filed_by};
 
     ghost state = { λ _. unknown };
 
@@ -244,7 +247,14 @@ where
         Ok(FileVault::new(VaultedFile::new(self.files, file, None)))
     }
 
-    fn return_vault(&mut self, vault: FileVault<VaultedFile<'a, R>>) -> bool {
+    // Keeps the file as the vault left it.
+    fn return_vault(&mut self, vault: FileVault<VaultedFile<'a, R>>) -> bool
+        ensures nature { unknown.view.nature ≡ unknown.view.nature }
+        ensures sealed { result ≡ (filed_by vault.entry).sealed }
+        ensures takes { is_lawful unknown.view ≡ true → (name : Name) → unknown.borrowed ≡ Some name
+            → TakesBack name (filed_by vault.entry) unknown unknown }
+        ensures kept { self.new.vaulted ≡ Some (file_of vault.entry) }
+    {
         let sealed = vault.is_sealed();
         self.vaulted = Some(vault.into_inner());
         self.sealed = sealed;

@@ -3,13 +3,18 @@
 //!
 //! ```rust
 //! use nor_files::{Loss, Memory, Store};
+//! use nor_journal::Vault;
 //!
 //! let mut files = Memory::new(rt.alloc(), u64::MAX);
 //! files.put("image", b"abcd")?;
 //! files.write_over("image", b"wxyz")?;
 //! files.sync("image")?;
-//! let left = files.lose(Loss::Unsynced, 0);
+//! let mut journal = files.vault_in_new("journal")?;
+//! journal.put(b"efgh")?;
+//! journal.seal()?;
+//! let left = files.lose_lent(journal, Loss::Unsynced, 0);
 //! assert!(rt; left.bytes_of("image") == Some(b"wxyz".as_slice()));
+//! assert!(rt; left.bytes_of("journal") == Some(b"efgh".as_slice()));
 //! ```
 #![tactic(auto)]
 

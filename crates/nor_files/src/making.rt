@@ -1,5 +1,6 @@
 //! Creating and truncating the system's files, and the files that a log and a vault write to.
 ghost use Rattle.std.specs.Io.{WritesAtMost};
+ghost use Rattle.std.specs.Io.KnownBytes.{WriteAppends};
 
 use crate::identity::is_same;
 use crate::locks::LockFile;
@@ -239,7 +240,8 @@ impl<'a, R: Files> VaultedFile<'a, R> {
 }
 
 fn write_again<F: Write>(file: &mut F, bytes: &[u8]) -> io::Result<usize>
-    ensures { WritesAtMost result bytes.now }
+    ensures bound { WritesAtMost result bytes.now }
+    ensures bytes { WriteAppends (F.contents file.old) (F.contents file.new) result bytes.now }
 {
     for _ in 0..u64::MAX {
         match file.write(bytes) {
@@ -251,6 +253,10 @@ fn write_again<F: Write>(file: &mut F, bytes: &[u8]) -> io::Result<usize>
 }
 
 impl<R: Files> Write for VaultedFile<'_, R> {
+    // The contents of the file inside: known bytes of this file grow by exactly the bytes that a write returned as
+    // taken.
+    ghost contents = { λ vaulted. R.File.contents vaulted.file };
+
     // Retries a write that a signal interrupted, because a vault treats each error as a refusal.
     fn write(&mut self, bytes: &[u8]) -> io::Result<usize> {
         match write_again(&mut self.file, bytes) {

@@ -1,5 +1,6 @@
 //! Files in memory that obey the contract of `Store`, for tests.
-ghost use Rattle.std.specs.Prelude.{◌≡◌, ◌+◌, true, None, OnErr, OnOk, IfOk, Some, option_map, position};
+ghost use Rattle.std.specs.Prelude.{◌≡◌, ◌+◌, true, None, OnErr, OnOk, IfOk, IfSome, Some, option_map, position};
+ghost use Rattle.nor_journal.specs.MemVault.{synced_by};
 ghost use Rattle.nor_files.specs.Files.{AllStay, AreAtRest, IsDurable, Name, OthersStay, KeepsFile};
 ghost use Rattle.nor_files.specs.Calls.{Counts};
 ghost use Rattle.nor_files.specs.Named.{file_named, is_borrowed_there, is_named, is_there};
@@ -66,6 +67,7 @@ impl Memory {
 
     /// Interrupts the run now, and returns the files that are left, on which at most `left` counted calls succeed. Each
     /// file is left as a host crash might have left it. Until a call changes the files, a host crash can't change them.
+    /// If a sealed vault is borrowed, call `lose_lent` instead, because `lose` doesn't see the bytes of the vault.
     pub fn lose(self, loss: Loss, left: u64) -> Memory
         ensures left { (memory_state result).left ≡ left }
         ensures at_rest { AreAtRest (memory_state result) }
@@ -87,6 +89,22 @@ impl Memory {
             left,
             torn: false,
         }
+    }
+
+    /// Interrupts the run as `lose` does, but while `vault`, which was lent last, is still borrowed. If the vault is
+    /// sealed, its file is left with exactly its bytes. Otherwise its file is left as `lose` leaves it.
+    pub fn lose_lent(mut self, vault: MemVault, loss: Loss, left: u64) -> Memory
+        ensures left { (memory_state result).left ≡ left }
+        ensures at_rest { AreAtRest (memory_state result) }
+        ensures durable { (name : Name) → IsDurable name ((memory_state result).view.seen name) (memory_state result) }
+        ensures synced { (name : Name) → (memory_state self).borrowed ≡ Some name
+            → IfSome (synced_by vault) (λ bytes. (memory_state result).view.seen name ≡ Some bytes) }
+    {
+        if vault.is_sealed() {
+            self.return_vault(vault);
+            return self.lose(loss, left);
+        }
+        self.lose(loss, left)
     }
 
     /// Returns the bytes of the named file, or `None` if it is missing.

@@ -1,6 +1,6 @@
 //! The trait `Store`, the contract of files: what each call on files does, and how the call may fail.
 
-use nor_journal::Vault;
+use nor_journal::DurableVault;
 use std::alloc::{AllocError, Global};
 use std::error::Error;
 use std::io::{ErrorKind, Write};
@@ -120,8 +120,9 @@ pub trait Store: AllocGlobal {
 
     ghost state: { Self → FilesState };
 
-    /// A vault whose bytes are in a file.
-    type Filed: Vault + Drop;
+    /// A vault whose bytes are in a file. On lawful files the vault is faithful (`telling`), so as soon as it is sealed,
+    /// before `return_vault` takes it back, `synced` is exactly the accepted bytes (`DurableVault`).
+    type Filed: DurableVault + Drop;
 
     /// A file to which a run writes piece by piece.
     type Log: Write + Drop;
@@ -258,6 +259,8 @@ pub trait Store: AllocGlobal {
     fn vault_in_new(&mut self, name: &str) -> Result<Self::Filed, CreateFault>
         ensures nature { (state self.new).view.nature ≡ (state self.old).view.nature }
         ensures fresh { IfOk result (λ vault. IsFresh (Self.Filed.state vault)) }
+        ensures telling { is_lawful (state self.old).view ≡ true
+            → IfOk result (λ vault. (Self.Filed.state vault).telling ≡ true) }
         ensures borrows { is_lawful (state self.old).view ≡ true
             → OnOk result (Borrows name.now (state self.old) (state self.new)) }
         ensures missing { IsKnownFile name.now (state self.old).view
@@ -275,6 +278,8 @@ pub trait Store: AllocGlobal {
     fn vault_in(&mut self, name: &str) -> Result<Self::Filed, CreateFault>
         ensures nature { (state self.new).view.nature ≡ (state self.old).view.nature }
         ensures fresh { IfOk result (λ vault. IsFresh (Self.Filed.state vault)) }
+        ensures telling { is_lawful (state self.old).view ≡ true
+            → IfOk result (λ vault. (Self.Filed.state vault).telling ≡ true) }
         ensures borrows { is_lawful (state self.old).view ≡ true
             → OnOk result (Borrows name.now (state self.old) (state self.new)) }
         ensures fails { is_lawful (state self.old).view ≡ true

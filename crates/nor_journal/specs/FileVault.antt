@@ -24,7 +24,7 @@ abbrev pub FileTakes : {T : Type 0} → (old new : Option (List ℕ)) → List �
 FileTakes old new piece (Ok _) = Appends old new piece
 FileTakes old new piece (Err fault) = Appends old new (take fault.kept piece)
 
--- Holds if known contents didn't change and, if the sync succeeded, are now durable (`synced`).
+-- Holds if known contents didn't change and, if the sync succeeded, the contents known after it are durable (`synced`).
 abbrev pub SyncsFile : {T E : Type 0} → (old new synced : Option (List ℕ)) → Result T E → Type 0
-SyncsFile old new synced (Ok _) = Keeps old new × Keeps old synced
+SyncsFile old new synced (Ok _) = Keeps old new × Keeps new synced
 SyncsFile old new synced (Err _) = Keeps old new

@@ -1,5 +1,6 @@
 -- The state of a vault in contracts, and the effects of its two calls.
-use Rattle.std.specs.Prelude.{◌≡◌, ◌≢◌, ℕ, ◌+◌, ◌%◌, ◌^◌, ◌≤◌, Bool, true, false, List, [], ◌++◌, length, take, Result, Ok, Err}
+use Rattle.std.specs.Prelude.{◌≡◌, ◌≢◌, ℕ, ◌+◌, ◌%◌, ◌^◌, ◌≤◌, Bool, true, false, List, [], ◌++◌, length, take, Option, None, Some, Result, Ok, Err, if◌then◌else◌}
+use Rattle.std.proofs.lemmas.Bool.{false≢true}
 use Rattle.std.specs.Io.{StartsWith}
 use Rattle.nor_journal.specs.declared.vault.VaultFault.{VaultFault}
 
@@ -56,6 +57,21 @@ Puts old piece (Err fault) new = PutRefused old piece fault.kept new
 abbrev pub Seals : {T : Type 0} → (old : VaultState) → Result T VaultFault → (new : VaultState) → Type 0
 Seals old (Ok _) new = Sealed old new
 Seals old (Err fault) new = PutRefused old [] fault.kept new
+
+-- Holds if a host crash would leave exactly the contents of a sealed vault's file, if these are known. `synced` is what
+-- a host crash would leave of the file.
+abbrev pub IsSyncedIfSealed : (sealed : Bool) → (contents synced : Option (List ℕ)) → Type 0
+IsSyncedIfSealed sealed contents synced =
+    sealed ≡ true → (bytes : List ℕ) → contents ≡ Some bytes → synced ≡ Some bytes
+
+-- The contents of a file that the seal syncs, or `None` before the seal.
+abbrev pub synced_from_seal : (sealed : Bool) → (contents : Option (List ℕ)) → Option (List ℕ)
+synced_from_seal sealed contents = if sealed then contents else None
+
+pub synced_if_sealed : (sealed : Bool) (contents : Option (List ℕ))
+    → IsSyncedIfSealed sealed contents (synced_from_seal sealed contents)
+synced_if_sealed true contents is bytes same = same
+synced_if_sealed false contents is bytes same = absurd (false≢true is)
 
 -- Holds if the vault isn't faithful, or its bytes are a prefix of `whole`.
 abbrev pub HoldsPrefix : VaultState → (whole : List ℕ) → Type 0

@@ -4,7 +4,7 @@ ghost use Rattle.nor_journal.specs.Vault.{new_vault, one_more_failure, Puts, Sea
 ghost use Rattle.nor_journal.specs.FileVault.{file_of, filed_by, FileTakes, SyncsFile};
 
 use crate::file::VaultFile;
-use crate::vault::{Vault, VaultFault};
+use crate::vault::{DurableVault, Vault, VaultFault};
 
 /// A vault that appends its bytes to a file opened for writing, and syncs the file when it is sealed. `put` fails if a
 /// write fails or writes no bytes, and `seal` fails if the sync fails.
@@ -91,4 +91,18 @@ impl<F: VaultFile> Vault for FileVault<F> {
         self.sealed = true;
         Ok(())
     }
+}
+
+impl<F: VaultFile> DurableVault for FileVault<F> {
+    ghost use Rattle.std.proofs.lemmas.Bool.{false≢true};
+    ghost use Rattle.nor_journal.specs.Vault.{synced_from_seal, synced_if_sealed};
+
+    ghost contents = { λ vault. F.contents vault.file };
+
+    // From the seal on, the contents: `seal` has synced the file (`file`), and no call writes to it afterwards.
+    ghost synced = { λ vault. synced_from_seal vault.sealed (F.contents vault.file) };
+
+    ghost holds = { λ _ telling. absurd (false≢true telling) };
+
+    ghost is_synced = { λ vault. synced_if_sealed vault.sealed (F.contents vault.file) };
 }

@@ -35,5 +35,5 @@ pub use file_vault::FileVault;
 pub use head::{FIRST_MAGIC, MAGIC};
 pub use journal::{Journal, journal_len, one_fault, one_record, one_text};
 pub use mem_vault::MemVault;
-pub use vault::{Vault, VaultFault};
+pub use vault::{DurableVault, Vault, VaultFault};
 pub use writer::Writer;

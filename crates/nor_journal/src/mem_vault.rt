@@ -1,9 +1,9 @@
 //! A vault in memory.
-ghost use Rattle.std.specs.Prelude.{◌≡◌, ◌<◌, ◌+◌, true, false, length, IsOk, OnErr};
+ghost use Rattle.std.specs.Prelude.{◌≡◌, ◌<◌, ◌+◌, Some, refl, true, false, length, IsOk, OnErr};
 ghost use Rattle.nor_journal.specs.Vault.{new_vault, Puts, Seals};
 ghost use Rattle.nor_journal.specs.MemVault.{held_by, room_of};
 
-use crate::vault::{Vault, VaultFault};
+use crate::vault::{DurableVault, Vault, VaultFault};
 use std::alloc::Global;
 
 /// A faithful vault in memory. `put` fails only if an allocation fails, and the vault then accepts no byte of the
@@ -63,4 +63,18 @@ impl Vault for MemVault {
         self.sealed = true;
         Ok(())
     }
+}
+
+/// A model of a file that `seal` syncs. Contracts don't know what a host crash would leave of an unsealed vault.
+impl DurableVault for MemVault {
+    ghost use Rattle.nor_journal.specs.MemVault.{held_by, synced_by};
+    ghost use Rattle.nor_journal.specs.Vault.{synced_if_sealed};
+
+    ghost contents = { λ vault. Some (held_by vault).bytes };
+
+    ghost synced = { synced_by };
+
+    ghost holds = { λ vault telling. refl };
+
+    ghost is_synced = { λ vault. synced_if_sealed vault.sealed (Some vault.bytes.items) };
 }

@@ -37,8 +37,32 @@ pub trait Vault {
         ensures { Puts (state self.old) piece.now result (state self.new) };
 
     /// Seals the vault, which must be unsealed. If the call fails, the vault stays unsealed. A vault that stores
-    /// journals permanently must first make its bytes durable, although no clause requires that.
+    /// journals permanently must first make its bytes durable, as `DurableVault` requires.
     fn seal(&mut self) -> Result<(), VaultFault>
         requires { (state self.old).sealed ≡ false }
         ensures { Seals (state self.old) result (state self.new) };
+}
+
+/// A vault in a file that is durable as soon as the vault is sealed. `synced` is what a host crash would leave of the
+/// file.
+///
+/// The laws hold for each value of the vault, so at each moment between two calls: once a faithful (`telling`) vault is
+/// sealed, `synced` is exactly the accepted bytes. No law says that the system keeps these bytes: that `seal` of a
+/// `FileVault` syncs its file, and that nothing is written to the file afterwards, are clauses of `FileVault`.
+pub trait DurableVault: Vault {
+    ghost use Rattle.std.specs.Prelude.{◌≡◌, ℕ, List, Option, Some, true};
+    ghost use Rattle.nor_journal.specs.Vault.{IsSyncedIfSealed};
+
+    // The contents of the file, or `None` if contracts don't know them.
+    ghost contents: { Self → Option (List ℕ) };
+
+    // The contents that a host crash at this moment would leave of the file, or `None` if contracts don't know them.
+    ghost synced: { Self → Option (List ℕ) };
+
+    // A law: the file of a faithful vault has exactly the accepted bytes.
+    ghost holds: { (vault : Self) → (Self.state vault).telling ≡ true
+        → contents vault ≡ Some (Self.state vault).bytes };
+
+    // A law: if the vault is sealed, known contents are durable.
+    ghost is_synced: { (vault : Self) → IsSyncedIfSealed (Self.state vault).sealed (contents vault) (synced vault) };
 }
