@@ -1,8 +1,8 @@
 -- On lawful files, a file whose vault was borrowed and taken back has the vault's bytes. Files apart from it stay.
 use Rattle.std.proofs.Common.{◌≡◌, ◌∙◌, Some, ap, refl, subst, sym, true}
 use Rattle.nor_files.specs.Calls.{Borrows, TakesBack}
-use Rattle.nor_files.specs.Files.{AreApart, FilesState, Name, Nature, KeepsFile, is_lawful}
-use Rattle.nor_journal.specs.Vault.{VaultState}
+use Rattle.nor_files.specs.Files.{AreApart, FilesState, Found, Name, Nature, KeepsFile, is_lawful}
+use Rattle.nor_journal.specs.Vault.{IsSyncedIfSealed, VaultState}
 use Rattle.nor_console.specs.Stored.{IsKeptFile}
 
 pub stays_same : (name : Name) (files : FilesState) → KeepsFile name files files
@@ -35,3 +35,11 @@ module _ (name : Name) (old mid new : FilesState) (vault : VaultState)
 
   pub others_stay : is_lawful old.view ≡ true → (any : Name) → AreApart old.view.nature name any → KeepsFile any old new
   others_stay is any other = stays_on ((borrows is).others any other) ((taken is).others any (apart_after made other))
+
+-- If the laws of a vault in a file hold (`DurableVault`), a faithful sealed vault's bytes are durable.
+pub sealed_durable : {V : Type 0} (state : V → VaultState) (contents synced : V → Found)
+    → ((vault : V) → (state vault).telling ≡ true → contents vault ≡ Some (state vault).bytes)
+    → ((vault : V) → IsSyncedIfSealed (state vault).sealed (contents vault) (synced vault))
+    → (vault : V) → (state vault).telling ≡ true → (state vault).sealed ≡ true → synced vault ≡ Some (state vault).bytes
+sealed_durable state contents synced holds is_synced vault telling sealed =
+    is_synced vault sealed (state vault).bytes (holds vault telling)

@@ -1,7 +1,7 @@
 -- Sessions and backups with their journal in a file: the result of the call, and the file.
-use Rattle.std.specs.Prelude.{◌≡◌, ℕ, true, List, Option, None, Result}
+use Rattle.std.specs.Prelude.{◌≡◌, ℕ, true, List, Option, None, Some, Result}
 use Rattle.nor_model.specs.Bus.{BusState}
-use Rattle.nor_files.specs.Files.{FilesState, IsKnownFile, View, is_lawful}
+use Rattle.nor_files.specs.Files.{FilesState, Found, IsKnownFile, View, is_lawful}
 use Rattle.nor_journal.specs.Vault.{IsFresh, VaultState}
 use Rattle.nor_probe.specs.declared.table.ChipName.{ChipName}
 use Rattle.nor_probe.specs.Known.{IsModelled}
@@ -51,6 +51,21 @@ pub record HasRunInFile (request : Request) (image : List ℕ) (file : Text) (be
   pub fresh : IsFresh vault
   pub kept_in : is_lawful after.view ≡ true → IsKeptFile file vault' after
   pub ran : HasRunSession request image old new vault vault' outcome
+
+-- Holds if a call (`Ran`) used a vault that a store lent in `file` and then took back. At each moment of the call, once
+-- the vault is sealed, a host crash would leave exactly the vault's bytes in the file.
+pub record SealsDurably {V : Type 0} (state : V → VaultState) (synced : V → Found)
+    (Ran : (vault vault' : VaultState) → Type 0) (file : Text) (after : FilesState) : Type 0 where
+  pub lent : V
+  -- the vault directly after the call, before the store took it back
+  pub ended : V
+  pub fresh : IsFresh (state lent)
+  pub telling : (state lent).telling ≡ true
+  pub ran : Ran (state lent) (state ended)
+  -- For each value that the vault may have during the call: `synced` is what a host crash would leave of its file.
+  pub durable : (vault : V) → (state vault).telling ≡ true → (state vault).sealed ≡ true
+      → synced vault ≡ Some (state vault).bytes
+  pub kept_in : IsKeptFile file (state ended) after
 
 pub record HasBackedUp (named : Option ChipName) (old new : BusState) (vault vault' : VaultState)
     (outcome : Result Answer Refusal) : Type 0 where

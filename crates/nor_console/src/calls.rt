@@ -7,6 +7,7 @@ ghost use Rattle.nor_journal.specs.Vault.{IsFresh};
 ghost use Rattle.nor_console.specs.Files.{IsMaking};
 ghost use Rattle.nor_console.specs.Readings.{HasReadInto, HasReadOut, HasReported, HasVerified, ListsRanges, ReportsProtection};
 ghost use Rattle.nor_console.specs.Sessions.{HasAnnounced, HasBackedUp, HasBackedUpInFile, HasRunInFile, HasRunSession};
+ghost use Rattle.nor_console.specs.Sessions.{SealsDurably};
 
 use crate::answers::{Answer, Outcome};
 use crate::files::{create_journal, create_output};
@@ -97,6 +98,9 @@ pub fn erased(alloc: Global, size: u32) -> Result<Vec<u8>, AllocError>
 /// Runs the session that `request` asks for, with its journal in `file`, which `create_journal` creates before the
 /// first transaction. `announce` must accept every announcement. The outer error is a fault of `create_journal`, and
 /// the inner error is an error of `session_announced`.
+///
+/// On lawful files, from the seal on, a host crash leaves exactly the journal in the file (`synced`). The seal comes
+/// before the first modifying command: any vault may refuse the seal, and then no such command was sent (`keeps`).
 pub fn session_in_file<'a, R: Store, B: Bus, F: FnOnce(Announcement) + Drop>(
     rt: &mut R,
     bus: &mut B,
@@ -111,6 +115,10 @@ pub fn session_in_file<'a, R: Store, B: Bus, F: FnOnce(Announcement) + Drop>(
         → OthersStay file.now (R.state rt.old) (R.state rt.new) }
     ensures ok { IfOk result (HasRunInFile request.now image.old file.now (R.state rt.old).view (R.state rt.new)
         (B.state bus.old) (B.state bus.new)) }
+    ensures synced { is_lawful (R.state rt.old).view ≡ true
+        → IfOk result (λ outcome. SealsDurably R.Filed.state R.Filed.synced
+        (λ vault vault'. HasRunSession request.now image.old (B.state bus.old) (B.state bus.new) vault vault' outcome)
+        file.now (R.state rt.new)) }
     ensures unmade { is_lawful (R.state rt.old).view ≡ true
         → OnErr result (BorrowsNone file.now (R.state rt.old) (R.state rt.new)) }
     ensures unsent { OnErr result (B.state bus.new ≡ B.state bus.old) }
@@ -156,6 +164,10 @@ pub fn backup_in_file<'a, R: Store, B: Bus>(
         → OthersStay file.now (R.state rt.old) (R.state rt.new) }
     ensures ok { IfOk result (HasBackedUpInFile named file.now (R.state rt.old).view (R.state rt.new)
         (B.state bus.old) (B.state bus.new)) }
+    ensures synced { is_lawful (R.state rt.old).view ≡ true
+        → IfOk result (λ outcome. SealsDurably R.Filed.state R.Filed.synced
+        (λ vault vault'. HasBackedUp named (B.state bus.old) (B.state bus.new) vault vault' outcome)
+        file.now (R.state rt.new)) }
     ensures unmade { is_lawful (R.state rt.old).view ≡ true
         → OnErr result (BorrowsNone file.now (R.state rt.old) (R.state rt.new)) }
     ensures unsent { OnErr result (B.state bus.new ≡ B.state bus.old) }

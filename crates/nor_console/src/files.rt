@@ -71,6 +71,8 @@ pub fn unread_by(name: &str, cause: Cause) -> Fault<'_>
 pub fn create_output<'a, R: Store>(rt: &mut R, name: &'a str) -> Result<R::Filed, Fault<'a>>
     ensures nature { (R.state rt.new).view.nature ≡ (R.state rt.old).view.nature }
     ensures fresh { IfOk result (λ vault. IsFresh (R.Filed.state vault)) }
+    ensures telling { is_lawful (R.state rt.old).view ≡ true
+        → IfOk result (λ vault. (R.Filed.state vault).telling ≡ true) }
     ensures borrows { is_lawful (R.state rt.old).view ≡ true
         → OnOk result (Borrows name.now (R.state rt.old) (R.state rt.new)) }
     ensures others { is_lawful (R.state rt.old).view ≡ true
@@ -87,6 +89,8 @@ pub fn create_output<'a, R: Store>(rt: &mut R, name: &'a str) -> Result<R::Filed
 pub fn create_journal<'a, R: Store>(rt: &mut R, name: &'a str) -> Result<R::Filed, Fault<'a>>
     ensures nature { (R.state rt.new).view.nature ≡ (R.state rt.old).view.nature }
     ensures fresh { IfOk result (λ vault. IsFresh (R.Filed.state vault)) }
+    ensures telling { is_lawful (R.state rt.old).view ≡ true
+        → IfOk result (λ vault. (R.Filed.state vault).telling ≡ true) }
     ensures borrows { is_lawful (R.state rt.old).view ≡ true
         → OnOk result (Borrows name.now (R.state rt.old) (R.state rt.new)) }
     ensures missing { IsKnownFile name.now (R.state rt.old).view
