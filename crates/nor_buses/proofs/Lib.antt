@@ -15,3 +15,4 @@ pub mod Judged
 pub mod Plain
 pub mod Adapted
 pub mod Fitting
+pub mod PassedLater

@@ -21,3 +21,4 @@ pub mod Adapted
 pub mod OtherMakers
 pub mod KeptQuad
 pub mod Layers
+pub mod Accounted

@@ -26,6 +26,7 @@ around inside history = record inside { history = history; punctual = false }
 abbrev pub beside : (inside : BusState) → (history : List Exchange) → BusState
 beside inside history = record (unknown_bus history) {
   chip = inside.chip;
+  passed = inside.passed;
   honest = inside.honest;
   worn = inside.worn;
   steady = inside.steady;

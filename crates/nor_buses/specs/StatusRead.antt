@@ -17,6 +17,11 @@ abbrev pub begins_confirmed : (out : List ℕ) → Bool
 begins_confirmed [] = false
 begins_confirmed (opcode ∷ rest) = opcode == 0x03 || opcode == 0x5A || opcode == 0x4B
 
+-- True for a read of status 1 (05h) or status 2 (35h) with one reply byte, which a `CheckedStatus` checks.
+abbrev pub is_checked_read : (out : List ℕ) → (replies : ℕ) → Bool
+is_checked_read (opcode ∷ []) replies = (opcode == 0x05 || opcode == 0x35) && replies == 1
+is_checked_read _ replies = false
+
 abbrev pub is_known : Option (List ℕ) → Bool
 is_known None = false
 is_known (Some id) = true

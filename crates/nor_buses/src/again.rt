@@ -28,6 +28,7 @@ pub(crate) fn is_repeated<B: Bus>(
     requires { length reply.now ≤ length again.old }
     ensures nature { SameNature (B.state bus.old) (B.state bus.new) }
     ensures record { begins_read out.now ≡ true → KeepsRecord (B.state bus.old) (B.state bus.new) }
+    ensures passed { begins_read out.now ≡ true → (B.state bus.new).passed ≡ (B.state bus.old).passed }
     ensures repeated { IfOk result (λ same. same ≡ true
         → (B.state bus.new).history ≡ replied out.now reply.now ∷ (B.state bus.old).history) }
     ensures carries { IsHonestFor out.now (length reply.now) (B.state bus.old) → IfOk result (λ same. same ≡ true
@@ -59,6 +60,7 @@ pub(crate) fn is_repeated_or_expected<B: Bus>(
     requires len { length reply.now ≤ length again.old }
     ensures nature { SameNature (B.state bus.old) (B.state bus.new) }
     ensures record { KeepsRecord (B.state bus.old) (B.state bus.new) }
+    ensures passed { (B.state bus.new).passed ≡ (B.state bus.old).passed }
     ensures repeated { IfOk result (λ same. same ≡ true
         → RepeatsBelow image.now address reply.now (length reply.now) (B.state bus.old) (B.state bus.new)) }
     ensures same { IsHonestFor (data_read address) (length reply.now) (B.state bus.old)

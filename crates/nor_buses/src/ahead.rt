@@ -107,6 +107,8 @@ impl<B: Bus + Drop> ReadAhead<B> {
             → OnOk result (MakesStep out.now reply.new (inside_of self.old) (inside_of self.new)) }
         ensures history { history_of self.new ≡ history_of self.old }
         ensures forgets { reads_data out.now ≡ false → held self.new ≡ 0 }
+        ensures passes { reads_data out.now ≡ false
+            → (inside_of self.new).history ≡ exchange_of out.now reply.new result ∷ (inside_of self.old).history }
         ensures read { reads_data out.now ≡ true → 0 < length reply.old
             → OnOk result (EndsWithData (address_in out.now) reply.new (inside_of self.new).history) }
     {
@@ -125,6 +127,7 @@ impl<B: Bus + Drop> ReadAhead<B> {
         requires address { address ≤ 16777215 }
         requires len { length reply.old ≤ longest_of self.old }
         ensures record { KeepsRecord (inside_of self.old) (inside_of self.new) }
+        ensures passed { (inside_of self.new).passed ≡ (inside_of self.old).passed }
         ensures nature { SameNature (inside_of self.old) (inside_of self.new) }
         ensures longest { longest_of self.new ≡ longest_of self.old }
         ensures stops { takes_blocks (longest_of self.old) (inside_of self.old) ≡ true
@@ -147,6 +150,7 @@ impl<B: Bus + Drop> ReadAhead<B> {
         requires address { address ≤ 16777215 }
         requires len { len ≤ longest_of self.old }
         ensures record { KeepsRecord (inside_of self.old) (inside_of self.new) }
+        ensures passed { (inside_of self.new).passed ≡ (inside_of self.old).passed }
         ensures nature { SameNature (inside_of self.old) (inside_of self.new) }
         ensures longest { longest_of self.new ≡ longest_of self.old }
         ensures stops { takes_blocks (longest_of self.old) (inside_of self.old) ≡ true
@@ -177,6 +181,7 @@ impl<B: Bus + Drop> ReadAhead<B> {
         requires address { address ≤ 16777215 }
         requires len { len ≤ longest_of self.old }
         ensures record { KeepsRecord (inside_of self.old) (inside_of self.new) }
+        ensures passed { (inside_of self.new).passed ≡ (inside_of self.old).passed }
         ensures nature { SameNature (inside_of self.old) (inside_of self.new) }
         ensures longest { longest_of self.new ≡ longest_of self.old }
         ensures stops { takes_blocks (longest_of self.old) (inside_of self.old) ≡ true
@@ -205,6 +210,8 @@ impl<B: Bus + Drop> Bus for ReadAhead<B> {
     fn transfer(&mut self, out: &[u8], reply: &mut [u8]) -> Result<(), Stopped>
         ensures law { Transfers out.now reply.old reply.new result (ahead_state self.old) (ahead_state self.new) }
         ensures forgets { reads_data out.now ≡ false → held self.new ≡ 0 }
+        ensures passes { reads_data out.now ≡ false
+            → (inside_of self.new).history ≡ exchange_of out.now reply.new result ∷ (inside_of self.old).history }
         ensures read { reads_data out.now ≡ true → 0 < length reply.old
             → OnOk result (EndsWithData (address_in out.now) reply.new (inside_of self.new).history) }
     {
@@ -229,6 +236,7 @@ fn read_block<B: Bus>(bus: &mut B, address: u32, len: u32, block: &mut [u8]) -> 
     requires address { address ≤ 16777215 }
     requires len { len ≤ length block.old }
     ensures record { KeepsRecord (B.state bus.old) (B.state bus.new) }
+    ensures passed { (B.state bus.new).passed ≡ (B.state bus.old).passed }
     ensures nature { SameNature (B.state bus.old) (B.state bus.new) }
     ensures stops { IsHonestFor (data_read address) len (B.state bus.old)
         → OnErr result (StopsUnread (B.state bus.old) (B.state bus.new)) }

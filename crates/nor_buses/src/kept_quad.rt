@@ -3,6 +3,7 @@ ghost use Rattle.std.specs.Prelude.{◌≡◌, ◌%◌, ◌∷◌, [], not, true
 ghost use Rattle.std.proofs.lemmas.Bool.{and_parts};
 ghost use Rattle.nor_model.specs.Bus.{IsHonestFor, SameNature, AtStop, Transfers};
 ghost use Rattle.nor_model.specs.History.{begins_with};
+ghost use Rattle.nor_model.specs.Passed.{Passes};
 ghost use Rattle.nor_buses.specs.Listed.{is_id_listed};
 ghost use Rattle.nor_buses.specs.Keeps.{KeepsAll, StopsUnread, MakesStep};
 ghost use Rattle.nor_buses.specs.SomeChips.{chip_id};
@@ -87,6 +88,7 @@ impl<B: Bus + Drop> KeptQuad<B> {
         ensures rows { rows_of self.new ≡ rows_of self.old }
         ensures same { hides_of self.new ≡ hides_of self.old }
         ensures nature { SameNature (B.state (kept_by self.old)) (B.state (kept_by self.new)) }
+        ensures passed { (B.state (kept_by self.new)).passed ≡ (B.state (kept_by self.old)).passed }
         ensures keeps { (B.state (kept_by self.old)).honest ≡ true
             → is_id_listed (rows_of self.old) (chip_id (B.state (kept_by self.old)).chip.config) ≡ true
             → OnOk result (KeepsAll (B.state (kept_by self.old)) (B.state (kept_by self.new))) }
@@ -111,6 +113,7 @@ impl<B: Bus + Drop> KeptQuad<B> {
         ensures rows { rows_of self.new ≡ rows_of self.old }
         ensures same { hides_of self.new ≡ hides_of self.old }
         ensures nature { SameNature (B.state (kept_by self.old)) (B.state (kept_by self.new)) }
+        ensures passed { (B.state (kept_by self.new)).passed ≡ (B.state (kept_by self.old)).passed }
         ensures row { (B.state (kept_by self.old)).honest ≡ true
             → is_id_listed (rows_of self.old) (chip_id (B.state (kept_by self.old)).chip.config) ≡ true
             → IfOk result (λ is. is ≡ false) }
@@ -154,6 +157,7 @@ impl<B: Bus + Drop> KeptQuad<B> {
         ensures rows { rows_of self.new ≡ rows_of self.old }
         ensures same { hides_of self.new ≡ hides_of self.old }
         ensures nature { SameNature (B.state (kept_by self.old)) (B.state (kept_by self.new)) }
+        ensures passed { Passes out.now (B.state (kept_by self.old)).passed (B.state (kept_by self.new)).passed }
         ensures steps { IsHonestFor out.now (length reply.old) (inside_kept self.old) → OnOk result
             (MakesStep out.now reply.new (B.state (kept_by self.old)) (B.state (kept_by self.new))) }
         ensures stops { IsHonestFor out.now (length reply.old) (inside_kept self.old) → OnErr result
@@ -194,6 +198,7 @@ impl<B: Bus + Drop> KeptQuad<B> {
         ensures rows { rows_of self.new ≡ rows_of self.old }
         ensures same { hides_of self.new ≡ hides_of self.old }
         ensures nature { SameNature (B.state (kept_by self.old)) (B.state (kept_by self.new)) }
+        ensures passed { (B.state (kept_by self.new)).passed ≡ (B.state (kept_by self.old)).passed }
         ensures whole { has_quad self.new ≡ false → reply.new ≡ reply.old }
         ensures idles { OnErr result ((length out.now ≡ 1) × (slice_index reply.old 0 % 2 ≡ 0)) }
         ensures keeps { (B.state (kept_by self.old)).honest ≡ true

@@ -3,6 +3,7 @@ ghost use Rattle.std.specs.Prelude.{◌≡◌, ◌⊎◌, ◌||◌, ◌<◌, ℕ
 ghost use Rattle.std.proofs.lemmas.Bool.{and_parts};
 ghost use Rattle.nor_model.specs.Bus.{IsHonestFor, SameNature, AtStop, Transfers};
 ghost use Rattle.nor_model.specs.History.{begins_with};
+ghost use Rattle.nor_model.specs.Passed.{Passes};
 ghost use Rattle.nor_buses.specs.Keeps.{KeepsAll, StopsUnread, MakesStep};
 ghost use Rattle.nor_buses.specs.Listed.{asks_none, is_id_listed, is_same, shows_id, shows_known};
 ghost use Rattle.nor_buses.specs.Listed.{is_readable, names_status2, IsKnownOnceRead, RepliesId};
@@ -104,6 +105,7 @@ impl<B: Bus + Drop> KnownStatus2<B> {
         ensures learns { has_status2 self.old ≡ false → has_status2 self.new ≡ true
             → names_status2 (B.state (known_by self.new)).history ≡ true }
         ensures nature { SameNature (B.state (known_by self.old)) (B.state (known_by self.new)) }
+        ensures passed { (B.state (known_by self.new)).passed ≡ (B.state (known_by self.old)).passed }
         ensures keeps { (B.state (known_by self.old)).honest ≡ true
             → OnOk result (KeepsAll (B.state (known_by self.old)) (B.state (known_by self.new))) }
         ensures stops { (B.state (known_by self.old)).honest ≡ true
@@ -141,6 +143,7 @@ impl<B: Bus + Drop> KnownStatus2<B> {
             → (shows_known (ids_of self.old) (before_of self.old) out.now reply.new ≡ true)
             ⊎ (names_status2 (B.state (known_by self.new)).history ≡ true) }
         ensures nature { SameNature (B.state (known_by self.old)) (B.state (known_by self.new)) }
+        ensures passed { Passes out.now (B.state (known_by self.old)).passed (B.state (known_by self.new)).passed }
         ensures steps { IsHonestFor out.now (length reply.old) (inside_known self.old) → OnOk result
             (MakesStep out.now reply.new (B.state (known_by self.old)) (B.state (known_by self.new))) }
         ensures stops { IsHonestFor out.now (length reply.old) (inside_known self.old) → OnErr result

@@ -4,9 +4,11 @@
 //!
 //! In contracts, the chip of each of these buses is that of the bus inside. The transactions that may modify the chip
 //! (`sent`) and the result of the last poll (`polled_ready`) are those of the wrapping bus's own history, except for
-//! `Paced`, `ReadAhead` and `ReadTwice`, which have those of the bus inside.
+//! `Accounted`, `Paced`, `ReadAhead` and `ReadTwice`, which have those of the bus inside. What was passed on (`passed`)
+//! is that of the bus inside.
 #![tactic(auto)]
 
+mod accounted;
 mod again;
 mod ahead;
 mod counts;
@@ -23,6 +25,7 @@ mod status;
 mod twice;
 mod watched;
 
+pub use accounted::Accounted;
 pub use ahead::ReadAhead;
 pub use counts::ChangedByte;
 pub use kept_quad::KeptQuad;

@@ -3,6 +3,7 @@ ghost use Rattle.std.specs.Prelude.{◌≡◌, ◌<◌, ◌∷◌, [], true, fal
 ghost use Rattle.std.proofs.lemmas.Bool.{and_parts};
 ghost use Rattle.nor_model.specs.Bus.{IsHonestFor, SameNature, AtStop, Transfers};
 ghost use Rattle.nor_model.specs.History.{replied};
+ghost use Rattle.nor_model.specs.Passed.{Passes};
 ghost use Rattle.nor_buses.specs.Keeps.{KeepsAll, StopsUnread, MakesStep};
 ghost use Rattle.nor_buses.specs.OtherMakers.{adapted_by, rows_of, missing_as, refuses_uneven, history_of};
 ghost use Rattle.nor_buses.specs.OtherMakers.{has_word_11, has_small_pages, looks_further};
@@ -117,6 +118,7 @@ impl<B: Bus> OtherMakers<B> {
             (refuses_uneven self.old) (looks_further self.old) out.now reply.new
             (B.state (adapted_by self.old)).history (B.state (adapted_by self.new)).history) }
         ensures nature { SameNature (B.state (adapted_by self.old)) (B.state (adapted_by self.new)) }
+        ensures passed { Passes out.now (B.state (adapted_by self.old)).passed (B.state (adapted_by self.new)).passed }
         ensures steps { IsHonestFor out.now (length reply.old) (inside_adapted B.state self.old) → OnOk result
             (MakesStep out.now reply.new (B.state (adapted_by self.old)) (B.state (adapted_by self.new))) }
         ensures stops { IsHonestFor out.now (length reply.old) (inside_adapted B.state self.old) → OnErr result
@@ -142,6 +144,7 @@ impl<B: Bus> OtherMakers<B> {
         ensures shown { OnOk result (ShowsUnique (missing_as self.old) out.now reply.new
             (B.state (adapted_by self.old)).history (B.state (adapted_by self.new)).history) }
         ensures nature { SameNature (B.state (adapted_by self.old)) (B.state (adapted_by self.new)) }
+        ensures passed { Passes out.now (B.state (adapted_by self.old)).passed (B.state (adapted_by self.new)).passed }
         ensures steps { IsHonestFor out.now (length reply.old) (inside_adapted B.state self.old) → OnOk result
             (MakesStep out.now reply.new (B.state (adapted_by self.old)) (B.state (adapted_by self.new))) }
         ensures stops { IsHonestFor out.now (length reply.old) (inside_adapted B.state self.old) → OnErr result
@@ -167,6 +170,7 @@ impl<B: Bus> OtherMakers<B> {
             out.now reply.new
             (B.state (adapted_by self.old)).history (B.state (adapted_by self.new)).history) }
         ensures nature { SameNature (B.state (adapted_by self.old)) (B.state (adapted_by self.new)) }
+        ensures passed { Passes out.now (B.state (adapted_by self.old)).passed (B.state (adapted_by self.new)).passed }
         ensures steps { IsHonestFor out.now (length reply.old) (inside_adapted B.state self.old) → OnOk result
             (MakesStep out.now reply.new (B.state (adapted_by self.old)) (B.state (adapted_by self.new))) }
         ensures stops { IsHonestFor out.now (length reply.old) (inside_adapted B.state self.old) → OnErr result
@@ -195,6 +199,7 @@ impl<B: Bus> OtherMakers<B> {
             ≡ replied (0x9F ∷ []) id ∷ (B.state (adapted_by self.old)).history) }
         ensures id { IfOk result (λ id. IsIdOf id (B.state (adapted_by self.old))) }
         ensures nature { SameNature (B.state (adapted_by self.old)) (B.state (adapted_by self.new)) }
+        ensures passed { (B.state (adapted_by self.new)).passed ≡ (B.state (adapted_by self.old)).passed }
         ensures keeps { (B.state (adapted_by self.old)).honest ≡ true
             → OnOk result (KeepsAll (B.state (adapted_by self.old)) (B.state (adapted_by self.new))) }
         ensures stops { (B.state (adapted_by self.old)).honest ≡ true
@@ -226,6 +231,7 @@ impl<B: Bus> OtherMakers<B> {
         ensures missing { missing_as self.new ≡ missing_as self.old }
         ensures uneven { refuses_uneven self.new ≡ refuses_uneven self.old }
         ensures nature { SameNature (B.state (adapted_by self.old)) (B.state (adapted_by self.new)) }
+        ensures passed { Passes out.now (B.state (adapted_by self.old)).passed (B.state (adapted_by self.new)).passed }
         ensures shown { OnOk result (ShowsJudged out.now reply.new
             (B.state (adapted_by self.old)).history (B.state (adapted_by self.new)).history) }
     {

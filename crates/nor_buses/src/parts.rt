@@ -2,6 +2,7 @@
 ghost use Rattle.std.specs.Prelude.{◌≡◌, ◌<◌, ◌≤◌, ◌+◌, ◌*◌, ◌%◌, ◌⊎◌, ◌∷◌, ◌++◌, [], true, false, ℕ, All, length, drop, OnOk, OnErr, IfSome, IfOk};
 ghost use Rattle.nor_model.specs.Bus.{SameNature};
 ghost use Rattle.nor_model.specs.History.{exchange_of, replied, stopped};
+ghost use Rattle.nor_model.specs.Passed.{Passes, PassesParts};
 ghost use Rattle.nor_model.specs.Sent.{begins_program};
 ghost use Rattle.nor_buses.specs.ReadsAs.{address_in};
 ghost use Rattle.nor_buses.specs.Parts.{further, address_bytes, can_split_read, SplitsRead, SplitsProgram};
@@ -34,6 +35,7 @@ pub(crate) fn split_read<B: Bus>(
 ) -> Result<(), Stopped>
     requires { 1 ≤ longest }
     ensures nature { SameNature (B.state bus.old) (B.state bus.new) }
+    ensures passed { (B.state bus.new).passed ≡ (B.state bus.old).passed }
     ensures parts { SplitsRead longest out.now reply.new result (B.state bus.old).history (B.state bus.new).history }
     ensures rejects { can_split_read out.now ≡ false → bus.new ≡ bus.old }
     ensures fails { can_split_read out.now ≡ false → OnOk result ⊥ }
@@ -68,6 +70,7 @@ fn read_parts<B: Bus>(
     requires longest { 1 ≤ longest }
     requires fits { address_in out.now + length reply.old ≤ 16777216 }
     ensures nature { SameNature (B.state bus.old) (B.state bus.new) }
+    ensures passed { (B.state bus.new).passed ≡ (B.state bus.old).passed }
     ensures parts { SplitsRead longest out.now reply.new result (B.state bus.old).history (B.state bus.new).history }
 {
     let mut done = 0;
@@ -82,6 +85,7 @@ fn read_parts<B: Bus>(
 fn read_part<B: Bus>(bus: &mut B, out: &[u8], from: u32, part: &mut [u8]) -> Result<(), Stopped>
     requires { address_in out.now + from ≤ 16777215 }
     ensures nature { SameNature (B.state bus.old) (B.state bus.new) }
+    ensures passed { (B.state bus.new).passed ≡ (B.state bus.old).passed }
     ensures read { OnOk result
         ((B.state bus.new).history ≡ replied (further out.now from) part.new ∷ (B.state bus.old).history) }
     ensures stopped { OnErr result (((B.state bus.new).history ≡ (B.state bus.old).history)
@@ -123,6 +127,7 @@ pub(crate) fn split_program<B: Bus>(
     requires long { longest < length out.now }
     requires polled { 1 ≤ polled }
     ensures nature { SameNature (B.state bus.old) (B.state bus.new) }
+    ensures passed { Passes out.now (B.state bus.old).passed (B.state bus.new).passed }
     ensures parts { SplitsProgram longest (address_in out.now) (drop 4 out.now) result
         (B.state bus.old).history (B.state bus.new).history }
     ensures rejects { begins_program out.now ≡ false → bus.new ≡ bus.old }
@@ -164,6 +169,8 @@ fn program_parts<B: Bus>(
     requires address { address ≤ 16777215 }
     requires page { address % 256 + length bytes.now ≤ 256 }
     ensures nature { SameNature (B.state bus.old) (B.state bus.new) }
+    ensures passed { PassesParts (0x02 ∷ address_bytes address ++ bytes.now)
+        (B.state bus.old).passed (B.state bus.new).passed }
     ensures parts { SplitsProgram longest address bytes.now result
         (B.state bus.old).history (B.state bus.new).history }
 {
@@ -184,6 +191,8 @@ fn program_part<B: Bus>(bus: &mut B, address: u32, part: &[u8]) -> Result<(), St
     requires address { address ≤ 16777215 }
     requires len { length part.now ≤ 256 }
     ensures nature { SameNature (B.state bus.old) (B.state bus.new) }
+    ensures passed { Passes (0x02 ∷ address_bytes address ++ part.now)
+        (B.state bus.old).passed (B.state bus.new).passed }
     ensures history { (B.state bus.new).history
         ≡ exchange_of (0x02 ∷ address_bytes address ++ part.now) [] result ∷ (B.state bus.old).history }
 {
@@ -202,6 +211,7 @@ fn wait<B: Bus>(bus: &mut B, polled: usize) -> Result<(), Stopped>
     requires polled { 1 ≤ polled }
     requires few { polled ≤ 2 }
     ensures nature { SameNature (B.state bus.old) (B.state bus.new) }
+    ensures passed { (B.state bus.new).passed ≡ (B.state bus.old).passed }
     ensures waits { WaitsReady result (B.state bus.old).history (B.state bus.new).history }
 {
     for _ in 0..MOST_POLLS {
@@ -216,6 +226,7 @@ fn poll<B: Bus>(bus: &mut B, polled: usize) -> Result<bool, Stopped>
     requires polled { 1 ≤ polled }
     requires few { polled ≤ 2 }
     ensures nature { SameNature (B.state bus.old) (B.state bus.new) }
+    ensures passed { (B.state bus.new).passed ≡ (B.state bus.old).passed }
     ensures polls { PollsOnce (B.state bus.old).history (B.state bus.new).history }
     ensures ready { IfOk result (λ ready. ready ≡ true → EndsReady (B.state bus.new).history) }
 {

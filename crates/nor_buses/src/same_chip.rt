@@ -3,6 +3,7 @@ ghost use Rattle.std.specs.Prelude.{◌≡◌, ◌⊎◌, ◌∷◌, [], true, f
 ghost use Rattle.nor_model.specs.Bus.{IsHonestFor, SameNature, AtStop, Transfers};
 ghost use Rattle.nor_model.specs.Command.{begins_change};
 ghost use Rattle.nor_model.specs.History.{exchange_of, EndsStopped};
+ghost use Rattle.nor_model.specs.Passed.{Passes};
 ghost use Rattle.nor_buses.specs.Keeps.{KeepsAll, StopsUnread, MakesStep};
 ghost use Rattle.nor_buses.specs.SameChip.{checked_by, unique_in, has_passed_change, other_of, history_of, same_chip_state};
 ghost use Rattle.nor_buses.specs.SameChip.{unique_after, IsChecked, FindsOther, SendsChecked};
@@ -90,6 +91,7 @@ impl<B: Bus> SameChip<B> {
             → FindsOther (unique_in self.old) other
             (B.state (checked_by self.old)).history (B.state (checked_by self.new)).history }
         ensures nature { SameNature (B.state (checked_by self.old)) (B.state (checked_by self.new)) }
+        ensures passed { (B.state (checked_by self.new)).passed ≡ (B.state (checked_by self.old)).passed }
         ensures keeps { (B.state (checked_by self.old)).honest ≡ true
             → OnOk result (KeepsAll (B.state (checked_by self.old)) (B.state (checked_by self.new))) }
         ensures stops { (B.state (checked_by self.old)).honest ≡ true
@@ -135,6 +137,7 @@ impl<B: Bus> SameChip<B> {
             → FindsOther (unique_in self.old) other
             (B.state (checked_by self.old)).history (B.state (checked_by self.new)).history }
         ensures nature { SameNature (B.state (checked_by self.old)) (B.state (checked_by self.new)) }
+        ensures passed { Passes out.now (B.state (checked_by self.old)).passed (B.state (checked_by self.new)).passed }
         ensures steps { IsHonestFor out.now (length reply.old) (B.state (checked_by self.old)) → OnOk result
             (MakesStep out.now reply.new (B.state (checked_by self.old)) (B.state (checked_by self.new))) }
         ensures stops { IsHonestFor out.now (length reply.old) (B.state (checked_by self.old))

@@ -2,6 +2,7 @@
 ghost use Rattle.std.specs.Prelude.{◌≡◌, ◌<◌, ◌≤◌, [], true, false, length, drop, OnOk};
 ghost use Rattle.std.proofs.lemmas.Bool.{and_parts};
 ghost use Rattle.nor_model.specs.Bus.{SameNature, Transfers};
+ghost use Rattle.nor_model.specs.Passed.{Passes};
 ghost use Rattle.nor_buses.specs.ReadsAs.{address_in};
 ghost use Rattle.nor_model.specs.Sent.{begins_program};
 ghost use Rattle.nor_buses.specs.Parts.{can_split_read, SplitsRead, SplitsProgram};
@@ -76,6 +77,7 @@ impl<B: Bus> SplittingBus<B> {
 
     fn carry(&mut self, out: &[u8], reply: &mut [u8]) -> Result<(), Stopped>
         ensures nature { SameNature (B.state (split_of self.old)) (B.state (split_of self.new)) }
+        ensures passed { Passes out.now (B.state (split_of self.old)).passed (B.state (split_of self.new)).passed }
         ensures history { history_of self.new ≡ history_of self.old }
         ensures sends { sends_most self.new ≡ sends_most self.old }
         ensures receives { receives_most self.new ≡ receives_most self.old }

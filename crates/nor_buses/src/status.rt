@@ -4,11 +4,13 @@ ghost use Rattle.std.specs.Option.{ForSome};
 ghost use Rattle.nor_model.specs.Bus.{IsHonestFor, SameNature, AtStop, Transfers};
 ghost use Rattle.nor_model.specs.Command.{begins_change};
 ghost use Rattle.nor_model.specs.History.{replied};
+ghost use Rattle.nor_model.specs.Passed.{Passes};
 ghost use Rattle.nor_model.specs.Sent.{with_sent};
 ghost use Rattle.nor_buses.specs.Keeps.{KeepsAll, StopsUnread, MakesStep};
 ghost use Rattle.nor_buses.specs.KnownStatus.{BelievesStatus, IsWritten, KeepsTask, PollAgrees, SendsKept};
 ghost use Rattle.nor_buses.specs.StatusRead.{HasStored, IsConfirmed, IsReadTwice, IsStatusAllowed, KeepsId};
-ghost use Rattle.nor_buses.specs.StatusRead.{begins_confirmed, ends_in_poll, read_id_while_busy, second, was_read_twice};
+ghost use Rattle.nor_buses.specs.StatusRead.{begins_confirmed, ends_in_poll, is_checked_read};
+ghost use Rattle.nor_buses.specs.StatusRead.{read_id_while_busy, second, was_read_twice};
 
 mod passing;
 mod reads;
@@ -40,6 +42,9 @@ const BUSY: u8 = 0x01;
 ///   non-volatile bit differs from the bit that was sent, the poll returns `Stopped`.
 /// - If the serial port seems to change bytes (`changed_byte`), a bus made with `guarding` refuses the first modifying
 ///   command, because a journal of such data would be wrong.
+///
+/// On any bus, if a transaction that may modify the chip returns `Ok`, it was passed on unchanged, exactly once. The
+/// same holds for any other transaction, except the reads described above.
 ///
 /// A busy chip ignores 9Fh (W25Q64FV datasheet, Instructions), so it would count as lost. Therefore no ID is read just
 /// after a poll that shows BUSY. The caller may read IDs, data, SFDP, unique IDs and status 2 only from a ready chip.
@@ -160,6 +165,7 @@ impl<B: Bus + Drop> CheckedStatus<B> {
         ensures known { KeepsTask (known_of self.old) (known_of self.new) }
         ensures id { KeepsId (known_of self.old).id (known_of self.new).id }
         ensures sent { (inner_state self.new).sent ≡ (inner_state self.old).sent }
+        ensures passed { (inner_state self.new).passed ≡ (inner_state self.old).passed }
         ensures twice { IfOk result (λ status. IsReadTwice (second status) (known_of self.new).id
             (inner_state self.old).history (inner_state self.new).history) }
         ensures idle { read_id_while_busy (inner_state self.new).history ≡ false }
@@ -182,6 +188,7 @@ impl<B: Bus + Drop> CheckedStatus<B> {
         ensures begun { has_begun self.new ≡ has_begun self.old }
         ensures id { KeepsId (known_of self.old).id (known_of self.new).id }
         ensures sent { (inner_state self.new).sent ≡ (inner_state self.old).sent }
+        ensures passed { (inner_state self.new).passed ≡ (inner_state self.old).passed }
         ensures agrees { IfOk result (λ status. status % 2 ≡ 0 → PollAgrees (known_of self.old) (known_of self.new)
             status (inner_state self.old).history (inner_state self.new).history) }
         ensures waits { IfOk result (λ status. status % 2 ≡ 1 → written_of self.new ≡ written_of self.old) }
@@ -212,6 +219,7 @@ impl<B: Bus + Drop> CheckedStatus<B> {
         ensures begun { has_begun self.new ≡ has_begun self.old }
         ensures id { KeepsId (known_of self.old).id (known_of self.new).id }
         ensures sent { (inner_state self.new).sent ≡ (inner_state self.old).sent }
+        ensures passed { (inner_state self.new).passed ≡ (inner_state self.old).passed }
         ensures none { written_of self.old ≡ None → OnOk result (self.new ≡ self.old) }
         ensures stored { (sent : List ℕ) → written_of self.old ≡ Some sent → OnOk result
             (HasStored sent one (known_of self.new).id (inner_state self.old).history (inner_state self.new).history) }
@@ -243,6 +251,8 @@ impl<B: Bus + Drop> CheckedStatus<B> {
             ⊎ IsStatusAllowed (locks_of self.old) out.now (inner_state self.old).history }
         ensures sent { ((inner_state self.new).sent ≡ (inner_state self.old).sent)
             ⊎ ((inner_state self.new).sent ≡ with_sent out.now (inner_state self.old).sent) }
+        ensures delivers { OnOk result ((inner_state self.new).sent ≡ with_sent out.now (inner_state self.old).sent) }
+        ensures passed { Passes out.now (inner_state self.old).passed (inner_state self.new).passed }
         ensures begun { OnOk result (has_begun self.new ≡ true) }
         ensures id { KeepsId (known_of self.old).id (known_of self.new).id }
         ensures written { OnOk result (IsWritten out.now (written_of self.new)) }
@@ -270,6 +280,10 @@ impl<B: Bus + Drop> CheckedStatus<B> {
         ensures history { history_of self.new ≡ history_of self.old }
         ensures locks { locks_of self.new ≡ locks_of self.old }
         ensures sends { SendsKept (locks_of self.old) out.now (inner_state self.old) (inner_state self.new) }
+        ensures delivers { OnOk result ((inner_state self.new).sent ≡ with_sent out.now (inner_state self.old).sent) }
+        ensures passes { begins_confirmed out.now ≡ false → is_checked_read out.now (length reply.new) ≡ false → OnOk
+            result ((inner_state self.new).history ≡ replied out.now reply.new ∷ (inner_state self.old).history) }
+        ensures passed { Passes out.now (inner_state self.old).passed (inner_state self.new).passed }
         ensures believes { OnOk result (BelievesStatus out.now reply.new (known_of self.old) (known_of self.new)
             (inner_state self.old).history (inner_state self.new).history) }
         ensures id { KeepsId (known_of self.old).id (known_of self.new).id }
@@ -324,6 +338,9 @@ impl<B: Bus + Drop> Bus for CheckedStatus<B> {
         ensures law { Transfers out.now reply.old reply.new result (checked_state self.old) (checked_state self.new) }
         ensures locks { locks_of self.new ≡ locks_of self.old }
         ensures sends { SendsKept (locks_of self.old) out.now (inner_state self.old) (inner_state self.new) }
+        ensures delivers { OnOk result ((inner_state self.new).sent ≡ with_sent out.now (inner_state self.old).sent) }
+        ensures passes { begins_confirmed out.now ≡ false → is_checked_read out.now (length reply.new) ≡ false → OnOk
+            result ((inner_state self.new).history ≡ replied out.now reply.new ∷ (inner_state self.old).history) }
         ensures believes { OnOk result (BelievesStatus out.now reply.new (known_of self.old) (known_of self.new)
             (inner_state self.old).history (inner_state self.new).history) }
         ensures id { KeepsId (known_of self.old).id (known_of self.new).id }

@@ -118,6 +118,8 @@ impl<B: Bus> ReadTwice<B> {
         ensures records { Records out.now reply.new result (twice_state B.state self.old)
             (around (B.state (twice_of self.new)) (exchange_of out.now reply.new result ∷ history_of self.old)) }
         ensures history { history_of self.new ≡ history_of self.old }
+        ensures passes { begins_read out.now ≡ false → (B.state (twice_of self.new)).history
+            ≡ exchange_of out.now reply.new result ∷ (B.state (twice_of self.old)).history }
         ensures expected { expected_of self.new ≡ expected_of self.old }
         ensures remembers { has_differed self.old ≡ true → has_differed self.new ≡ true }
     {
@@ -143,6 +145,7 @@ impl<B: Bus> ReadTwice<B> {
         requires len { length reply.now ≤ 65536 }
         ensures nature { SameNature (B.state (twice_of self.old)) (B.state (twice_of self.new)) }
         ensures record { KeepsRecord (B.state (twice_of self.old)) (B.state (twice_of self.new)) }
+        ensures passed { (B.state (twice_of self.new)).passed ≡ (B.state (twice_of self.old)).passed }
         ensures history { history_of self.new ≡ history_of self.old }
         ensures expected { expected_of self.new ≡ expected_of self.old }
         ensures remembers { has_differed self.new ≡ has_differed self.old }
@@ -197,6 +200,8 @@ impl<B: Bus> Bus for ReadTwice<B> {
         ensures no_difference { IsHonestFor out.now (length reply.old) (B.state (twice_of self.old))
             → (B.state (twice_of self.old)).punctual ≡ true → length reply.old ≤ 65536
             → OnErr result ((B.state (twice_of self.new)).left ≡ 0) }
+        ensures passes { begins_read out.now ≡ false → (B.state (twice_of self.new)).history
+            ≡ exchange_of out.now reply.new result ∷ (B.state (twice_of self.old)).history }
         ensures expected { expected_of self.new ≡ expected_of self.old }
         ensures remembers { has_differed self.old ≡ true → has_differed self.new ≡ true }
     {

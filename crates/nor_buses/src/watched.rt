@@ -2,6 +2,7 @@
 ghost use Rattle.std.specs.Prelude.{◌≡◌, ◌⊎◌, ◌∷◌, [], true, false, length, OnErr, OnOk};
 ghost use Rattle.nor_model.specs.Bus.{IsHonestFor, SameNature, AtStop, Transfers};
 ghost use Rattle.nor_model.specs.History.{replied, stopped};
+ghost use Rattle.nor_model.specs.Passed.{Passes};
 ghost use Rattle.nor_buses.specs.Keeps.{KeepsAll, StopsUnread, MakesStep};
 ghost use Rattle.nor_buses.specs.Watched.{watched_by, is_lost, row_in, has_status, history_of, watched_state};
 ghost use Rattle.nor_buses.specs.Watched.{is_undriven, row_after, status_after, looks_after, HasLooked, HasFoundLost};
@@ -104,6 +105,7 @@ impl<B: Bus> Watched<B> {
             ≡ replied (0x9F ∷ []) (255 ∷ 255 ∷ 255 ∷ []) ∷ (B.state (watched_by self.old)).history }
         ensures there { is_lost self.old ≡ false → OnOk result (is_lost self.new ≡ false) }
         ensures nature { SameNature (B.state (watched_by self.old)) (B.state (watched_by self.new)) }
+        ensures passed { (B.state (watched_by self.new)).passed ≡ (B.state (watched_by self.old)).passed }
         ensures keeps { (B.state (watched_by self.old)).honest ≡ true
             → OnOk result (KeepsAll (B.state (watched_by self.old)) (B.state (watched_by self.new))) }
         ensures stops { (B.state (watched_by self.old)).honest ≡ true
@@ -138,6 +140,7 @@ impl<B: Bus> Watched<B> {
             (B.state (watched_by self.old)).history (B.state (watched_by self.new)).history }
         ensures there { OnOk result (is_lost self.new ≡ false) }
         ensures nature { SameNature (B.state (watched_by self.old)) (B.state (watched_by self.new)) }
+        ensures passed { Passes out.now (B.state (watched_by self.old)).passed (B.state (watched_by self.new)).passed }
         ensures steps { IsHonestFor out.now (length reply.old) (B.state (watched_by self.old)) → OnOk result
             (MakesStep out.now reply.new (B.state (watched_by self.old)) (B.state (watched_by self.new))) }
         ensures at_stop { IsHonestFor out.now (length reply.old) (B.state (watched_by self.old)) → OnErr result

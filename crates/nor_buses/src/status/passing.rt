@@ -1,8 +1,9 @@
 //! How a `CheckedStatus` makes all transactions except status writes and one-byte reads of status registers.
-ghost use Rattle.std.specs.Prelude.{◌≡◌, ◌||◌, ◌∷◌, [], true, length, Some, OnOk, OnErr};
+ghost use Rattle.std.specs.Prelude.{◌≡◌, ◌||◌, ◌∷◌, [], true, false, length, Some, OnOk, OnErr};
 ghost use Rattle.nor_model.specs.Bus.{IsHonestFor, SameNature, AtStop};
 ghost use Rattle.nor_model.specs.Command.{begins_change};
 ghost use Rattle.nor_model.specs.History.{replied};
+ghost use Rattle.nor_model.specs.Passed.{Passes};
 ghost use Rattle.nor_model.specs.Sent.{with_sent};
 ghost use Rattle.nor_buses.specs.Keeps.{MakesStep};
 ghost use Rattle.nor_buses.specs.StatusRead.{IsConfirmed, KeepsId, begins_confirmed};
@@ -20,10 +21,13 @@ impl<B: Bus + Drop> CheckedStatus<B> {
         ensures history { history_of self.new ≡ history_of self.old }
         ensures locks { locks_of self.new ≡ locks_of self.old }
         ensures sent { (inner_state self.new).sent ≡ with_sent out.now (inner_state self.old).sent }
+        ensures passed { Passes out.now (inner_state self.old).passed (inner_state self.new).passed }
         ensures begun { (known_of self.new).is_changing ≡ ((known_of self.old).is_changing || begins_change out.now) }
         ensures id { KeepsId (known_of self.old).id (known_of self.new).id }
         ensures identified { out.now ≡ 0x9F ∷ [] → length reply.new ≡ 3
             → OnOk result ((known_of self.new).id ≡ Some reply.new) }
+        ensures passes { begins_confirmed out.now ≡ false → OnOk result
+            ((inner_state self.new).history ≡ replied out.now reply.new ∷ (inner_state self.old).history) }
         ensures read { begins_confirmed out.now ≡ true → OnOk result (IsConfirmed (replied out.now reply.new)
             (known_of self.new).id (inner_state self.old).history (inner_state self.new).history) }
         ensures nature { SameNature (inner_state self.old) (inner_state self.new) }
@@ -45,8 +49,11 @@ impl<B: Bus + Drop> CheckedStatus<B> {
         ensures history { history_of self.new ≡ history_of self.old }
         ensures locks { locks_of self.new ≡ locks_of self.old }
         ensures sent { (inner_state self.new).sent ≡ with_sent out.now (inner_state self.old).sent }
+        ensures passed { Passes out.now (inner_state self.old).passed (inner_state self.new).passed }
         ensures begun { (known_of self.new).is_changing ≡ ((known_of self.old).is_changing || begins_change out.now) }
         ensures id { KeepsId (known_of self.old).id (known_of self.new).id }
+        ensures passes { begins_confirmed out.now ≡ false → OnOk result
+            ((inner_state self.new).history ≡ replied out.now reply.new ∷ (inner_state self.old).history) }
         ensures read { begins_confirmed out.now ≡ true → OnOk result (IsConfirmed (replied out.now reply.new)
             (known_of self.new).id (inner_state self.old).history (inner_state self.new).history) }
         ensures nature { SameNature (inner_state self.old) (inner_state self.new) }

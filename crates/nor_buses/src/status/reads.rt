@@ -2,6 +2,7 @@
 ghost use Rattle.std.specs.Prelude.{◌≡◌, ◌%◌, ◌∷◌, [], true, false, Some, OnOk, OnErr, IfOk};
 ghost use Rattle.nor_model.specs.Bus.{SameNature, AtStop, Transfers};
 ghost use Rattle.nor_model.specs.History.{exchange_of};
+ghost use Rattle.nor_model.specs.Passed.{Passes};
 ghost use Rattle.nor_model.specs.Sent.{with_sent};
 ghost use Rattle.nor_buses.specs.Keeps.{StopsUnread, MakesStep};
 ghost use Rattle.nor_buses.specs.KnownStatus.{KeepsStatus};
@@ -24,6 +25,7 @@ impl<B: Bus + Drop> CheckedStatus<B> {
         ensures carried { (inner_state self.new).history
             ≡ exchange_of out.now reply.new result ∷ (inner_state self.old).history }
         ensures sent { (inner_state self.new).sent ≡ with_sent out.now (inner_state self.old).sent }
+        ensures passed { Passes out.now (inner_state self.old).passed (inner_state self.new).passed }
         ensures law { Transfers out.now reply.old reply.new result (inner_state self.old) (inner_state self.new) }
     {
         self.bus.transfer(out, reply)
@@ -45,6 +47,7 @@ impl<B: Bus + Drop> CheckedStatus<B> {
         ensures status { KeepsStatus (known_of self.old) (known_of self.new) }
         ensures id { KeepsId (known_of self.old).id (known_of self.new).id }
         ensures sent { (inner_state self.new).sent ≡ (inner_state self.old).sent }
+        ensures passed { (inner_state self.new).passed ≡ (inner_state self.old).passed }
         ensures known { IfOk result (λ id. (known_of self.new).id ≡ Some id) }
         ensures reads { OnOk result ((inner_state self.new).history
             ≡ confirmed (known_of self.new).id (inner_state self.old).history) }
@@ -74,6 +77,7 @@ impl<B: Bus + Drop> CheckedStatus<B> {
         ensures status { KeepsStatus (known_of self.old) (known_of self.new) }
         ensures id { KeepsId (known_of self.old).id (known_of self.new).id }
         ensures sent { (inner_state self.new).sent ≡ (inner_state self.old).sent }
+        ensures passed { (inner_state self.new).passed ≡ (inner_state self.old).passed }
         ensures last { ends_in_poll (inner_state self.new).history ≡ false }
         ensures ready { ends_busy (inner_state self.old).history ≡ false
             → read_id_while_busy (inner_state self.new).history ≡ false }
@@ -96,6 +100,7 @@ impl<B: Bus + Drop> CheckedStatus<B> {
         ensures id { KeepsId (known_of self.old).id (known_of self.new).id }
         ensures known { OnOk result (known_of self.new ≡ known_of self.old) }
         ensures sent { (inner_state self.new).sent ≡ (inner_state self.old).sent }
+        ensures passed { (inner_state self.new).passed ≡ (inner_state self.old).passed }
         ensures ready { IfOk result (λ status. status % 2 ≡ 0
             → (inner_state self.new).history ≡ pair status ∷ (inner_state self.old).history) }
         ensures idle { read_id_while_busy (inner_state self.new).history ≡ false }
@@ -132,6 +137,7 @@ impl<B: Bus + Drop> CheckedStatus<B> {
         ensures status { KeepsStatus (known_of self.old) (known_of self.new) }
         ensures id { KeepsId (known_of self.old).id (known_of self.new).id }
         ensures sent { (inner_state self.new).sent ≡ (inner_state self.old).sent }
+        ensures passed { (inner_state self.new).passed ≡ (inner_state self.old).passed }
         ensures twice { IfOk result (λ status. status % 2 ≡ 0 → IsReadTwice (pair status) (known_of self.new).id
             (inner_state self.old).history (inner_state self.new).history) }
         ensures idle { read_id_while_busy (inner_state self.new).history ≡ false }
@@ -167,6 +173,7 @@ impl<B: Bus + Drop> CheckedStatus<B> {
         ensures status { KeepsStatus (known_of self.old) (known_of self.new) }
         ensures id { KeepsId (known_of self.old).id (known_of self.new).id }
         ensures sent { (inner_state self.new).sent ≡ (inner_state self.old).sent }
+        ensures passed { (inner_state self.new).passed ≡ (inner_state self.old).passed }
         ensures twice { IfOk result (λ status. IsReadTwice (second status) (known_of self.new).id
             (inner_state self.old).history (inner_state self.new).history) }
         ensures idle { read_id_while_busy (inner_state self.new).history ≡ false }

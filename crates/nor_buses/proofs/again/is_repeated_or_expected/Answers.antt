@@ -1,4 +1,4 @@
-use Rattle.std.proofs.Common.{◌≡◌, ◌-◌, ◌∷◌, ℕ, List, arith, subst}
+use Rattle.std.proofs.Common.{◌≡◌, ◌∙◌, ◌-◌, ◌∷◌, ℕ, List, arith, subst}
 use Rattle.std.proofs.lemmas.Grind.{common_steps}
 use Rattle.nor_model.specs.Bus.{IsHonestFor, Carries}
 use Rattle.nor_model.specs.History.{replied}
@@ -36,6 +36,8 @@ loop-done-preserved-else-not-branch g c =
     record {
       within = c.run_from-run.ensures.within;
       nature = nature_then _ _ _ was.nature c.in_ok-is_repeated.ensures.nature;
+      passed = c.in_ok-is_repeated.ensures.passed (grind (arith, common_steps, c.data_read-out.ensures))
+          ∙ was.passed;
       keeps = record_then _ _ _ was.keeps
           (c.in_ok-is_repeated.ensures.record (grind (arith, common_steps, c.data_read-out.ensures)));
       repeats = repeats_read c.args.image.now c.args.address c.args.reply.now n m _ _ _ was.repeats
@@ -50,6 +52,16 @@ loop-done-preserved-else-not-branch g c =
           c.data_read-out.ensures (was.has honest has)
           (c.in_ok-is_repeated.ensures.carries (fits honest) c.if-not-branch.false);
     }
+
+pub returns-then-not-branch-clause-passed : goal.returns-then-not-branch-clause-passed
+returns-then-not-branch-clause-passed g c =
+    c.in_ok-is_repeated.ensures.passed (grind (arith, common_steps, c.data_read-out.ensures))
+    ∙ c.loop-done.invariant.passed
+
+pub returns-in_err-is_repeated-clause-passed : goal.returns-in_err-is_repeated-clause-passed
+returns-in_err-is_repeated-clause-passed g c =
+    c.in_err-is_repeated.ensures.passed (grind (arith, common_steps, c.data_read-out.ensures))
+    ∙ c.loop-done.invariant.passed
 
 pub returns-then-not-branch-clause-keeps : goal.returns-then-not-branch-clause-keeps
 returns-then-not-branch-clause-keeps g c honest =

@@ -1,4 +1,4 @@
-use Rattle.std.proofs.Common.{◌≤◌, ◌-◌, length}
+use Rattle.std.proofs.Common.{◌≡◌, ◌≤◌, ◌-◌, length}
 use Rattle.nor_model.specs.Bus.{IsHonestFor, SameNature}
 use Rattle.nor_buses.specs.ReadsAs.{KeepsRecord}
 use Rattle.nor_buses.specs.Keeps.{KeepsAll}
@@ -10,6 +10,7 @@ invariant-loop-done g l =
     record {
       within : l.done ≤ length l.reply;
       nature : SameNature (g.B.Bus.state l.fn.bus) (g.B.Bus.state l.bus);
+      passed : (g.B.Bus.state l.bus).passed ≡ (g.B.Bus.state l.fn.bus).passed;
       keeps : KeepsRecord (g.B.Bus.state l.fn.bus) (g.B.Bus.state l.bus);
       repeats : RepeatsBelow l.image l.address l.reply l.done (g.B.Bus.state l.fn.bus) (g.B.Bus.state l.bus);
       leaves : IsHonestFor (data_read l.address) (length l.reply) (g.B.Bus.state l.fn.bus)

@@ -1,6 +1,7 @@
 use Rattle.std.proofs.Common.{arith}
 use Rattle.std.proofs.lemmas.Grind.{common_steps}
 use Rattle.nor_buses.proofs.ReadParts.{nature_then}
+use Rattle.nor_buses.proofs.PassedLater.{parts_before, then_enabled, first_passed, next_passed}
 use Rattle.nor_buses.proofs.Splits.{then_waits, then_enables, programs_first, programs_next, programs_not}
 use Rattle.nor_buses.proofs.parts.program_parts.Goals as goal
 
@@ -15,7 +16,30 @@ loop-done-init g c = record {
       (grind (arith, common_steps)) c.program_part.ensures.history;
   nature = c.program_part.ensures.nature;
   within = grind (arith, common_steps);
+  passed = first_passed _ c.min-done.result _ _ _ _ c.requires.address (grind (arith, common_steps))
+      (grind (arith, common_steps)) c.program_part.ensures.passed;
 }
+
+pub returns-in_err-program_part-clause-passed : goal.returns-in_err-program_part-clause-passed
+returns-in_err-program_part-clause-passed g c =
+    first_passed _ c.min-done.result _ _ _ _ c.requires.address (grind (arith, common_steps))
+    (grind (arith, common_steps)) c.program_part.ensures.passed
+
+pub returns-in_err-wait-clause-passed : goal.returns-in_err-wait-clause-passed
+returns-in_err-wait-clause-passed g c = parts_before _ _ _ _ c.loop-done.invariant.passed c.wait.ensures.passed
+
+pub returns-in_err-transfer-clause-passed : goal.returns-in_err-transfer-clause-passed
+returns-in_err-transfer-clause-passed g c =
+    then_enabled _ _ _ _ (parts_before _ _ _ _ c.loop-done.invariant.passed c.wait.ensures.passed)
+    c.transfer.ensures.records.passed
+
+pub returns-in_err-program_part-2-clause-passed : goal.returns-in_err-program_part-2-clause-passed
+returns-in_err-program_part-2-clause-passed g c =
+    next_passed _ _ c.min-len.result _ _ _ _ _
+    (then_enabled _ _ _ _ (parts_before _ _ _ _ c.loop-done.invariant.passed c.wait.ensures.passed)
+    c.transfer.ensures.records.passed)
+    (grind (arith, common_steps)) (grind (arith, common_steps)) (grind (arith, common_steps))
+    c.program_part-in-loop-done.ensures.passed
 
 pub returns-in_err-wait-clause-nature : goal.returns-in_err-wait-clause-nature
 returns-in_err-wait-clause-nature g c =
@@ -63,4 +87,9 @@ loop-done-preserved g c =
           (nature_then _ _ _ c.wait.ensures.nature
           (nature_then _ _ _ c.transfer.ensures.nature c.program_part-in-loop-done.ensures.nature));
       within = grind (arith, common_steps);
+      passed = next_passed _ _ c.min-len.result _ _ _ _ _
+          (then_enabled _ _ _ _ (parts_before _ _ _ _ c.loop-done.invariant.passed c.wait.ensures.passed)
+          c.transfer.ensures.records.passed)
+          (grind (arith, common_steps)) (grind (arith, common_steps)) (grind (arith, common_steps))
+          c.program_part-in-loop-done.ensures.passed;
     }

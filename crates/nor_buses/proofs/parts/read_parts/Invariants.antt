@@ -1,4 +1,4 @@
-use Rattle.std.proofs.Common.{◌≤◌, ◌-◌, length}
+use Rattle.std.proofs.Common.{◌≡◌, ◌≤◌, ◌-◌, length}
 use Rattle.std.specs.Prelude.{take}
 use Rattle.nor_model.specs.Bus.{SameNature}
 use Rattle.nor_buses.proofs.Splits.{ReadsInParts}
@@ -9,6 +9,7 @@ invariant-loop-done g l =
     record {
       read : ReadsInParts l.longest l.out (take l.done l.reply) (g.B.Bus.state l.fn.bus).history
           (g.B.Bus.state l.bus).history;
+      passed : (g.B.Bus.state l.bus).passed ≡ (g.B.Bus.state l.fn.bus).passed;
       nature : SameNature (g.B.Bus.state l.fn.bus) (g.B.Bus.state l.bus);
       within : l.done ≤ length l.reply;
     }

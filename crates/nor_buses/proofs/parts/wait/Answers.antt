@@ -1,4 +1,4 @@
-use Rattle.std.proofs.Common.{[], refl, arith}
+use Rattle.std.proofs.Common.{◌∙◌, [], refl, arith}
 use Rattle.std.proofs.lemmas.Grind.{common_steps}
 use Rattle.nor_buses.proofs.Polls.{nature_none}
 use Rattle.nor_buses.proofs.ReadParts.{nature_then}
@@ -26,10 +26,18 @@ pub loop-init : goal.loop-init
 loop-init g c = record {
   polls = record { later = []; is = refl; polls = tt };
   nature = nature_none;
+  passed = refl;
 }
 
 pub loop-preserved : goal.loop-preserved
 loop-preserved g c = record {
   polls = one_more _ _ _ c.loop.invariant.polls c.poll.ensures.polls;
   nature = nature_then _ _ _ c.loop.invariant.nature c.poll.ensures.nature;
+  passed = c.poll.ensures.passed ∙ c.loop.invariant.passed;
 }
+
+pub returns-in_err-poll-clause-passed : goal.returns-in_err-poll-clause-passed
+returns-in_err-poll-clause-passed g c = c.poll.ensures.passed ∙ c.loop.invariant.passed
+
+pub returns-then-branch-clause-passed : goal.returns-then-branch-clause-passed
+returns-then-branch-clause-passed g c = c.poll.ensures.passed ∙ c.loop.invariant.passed

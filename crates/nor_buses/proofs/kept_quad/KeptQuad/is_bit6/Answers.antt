@@ -1,4 +1,5 @@
-use Rattle.std.proofs.Common.{◌≡◌, false, length, refl, arith, rules}
+use Rattle.std.proofs.Common.{◌≡◌, ◌∙◌, false, length, refl, arith, rules}
+use Rattle.nor_model.proofs.Passed.{quiet_passes}
 use Rattle.nor_buses.specs.Listed.{is_id_listed}
 use Rattle.nor_buses.specs.KeptQuad.{rows_of}
 use Rattle.nor_buses.proofs.ReadsKeep.{read_stops, on_err}
@@ -45,3 +46,17 @@ returns-clause-keeps g c honest listed =
     let missed : is_id_listed (rows_of c.args.self.now) c.transfer.new.reply ≡ false = search rules in
     absurd (not_missed (rows_of c.args.self.now) c.transfer.new.reply three (c.requires honest)
     (c.in_ok-transfer.ensures.carries (fits_short (omega arith) (omega arith) honest)).step listed missed)
+
+pub returns-in_err-transfer-4-clause-passed : goal.returns-in_err-transfer-4-clause-passed
+returns-in_err-transfer-4-clause-passed g c =
+    quiet_passes _ _ _ refl c.transfer-4.ensures.records.passed
+    ∙ quiet_passes _ _ _ refl c.transfer-3.ensures.records.passed
+    ∙ quiet_passes _ _ _ refl c.transfer-2.ensures.records.passed
+    ∙ quiet_passes _ _ _ refl c.transfer.ensures.records.passed
+
+pub returns-clause-passed : goal.returns-clause-passed
+returns-clause-passed g c =
+    quiet_passes _ _ _ refl c.transfer-4.ensures.records.passed
+    ∙ quiet_passes _ _ _ refl c.transfer-3.ensures.records.passed
+    ∙ quiet_passes _ _ _ refl c.transfer-2.ensures.records.passed
+    ∙ quiet_passes _ _ _ refl c.transfer.ensures.records.passed

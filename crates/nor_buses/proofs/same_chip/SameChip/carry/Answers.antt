@@ -1,11 +1,16 @@
-use Rattle.std.proofs.Common.{◌≡◌, length, refl, sym, subst}
+use Rattle.std.proofs.Common.{◌≡◌, ℕ, List, length, refl, sym, subst}
 use Rattle.nor_model.specs.Bus.{BusState, IsHonestFor, AtStop}
+use Rattle.nor_model.specs.Passed.{Passes}
+use Rattle.nor_model.specs.Sent.{Sent}
 use Rattle.nor_buses.specs.SameChip.{checked_by}
 use Rattle.nor_buses.proofs.AfterRead.{stopped_after}
 use Rattle.nor_buses.proofs.ReadsKeep.{stops_at, on_err}
 use Rattle.nor_buses.proofs.SameReply.{fits_again}
 use Rattle.nor_buses.proofs.same_chip.SameChip.carry.Goals as goal
 use Rattle.nor_buses.proofs.same_chip.SameChip.carry.Goals.{then-is_changing+in_ok-check, else-is_changing}
+
+passes_after : (out : List ℕ) {old mid new : Sent} → mid ≡ old → Passes out mid new → Passes out old new
+passes_after out {old} {mid} {new} same passes = subst (λ (passed : Sent). Passes out passed new) same passes
 
 pub returns-in_err-check-clause-stops : goal.returns-in_err-check-clause-stops
 returns-in_err-check-clause-stops g c honest =
@@ -27,3 +32,21 @@ returns-in_err-transfer-clause-stops g c honest =
           (fits_again c.args.out.now _ _ _ _ w.check.ensures.nature refl honest))
       | else-is_changing w ↦ stopped (g.B.Bus.state (checked_by c.args.self.now)) (rw w.self-is refl) honest
     ])
+
+pub returns-in_err-transfer-clause-passed : goal.returns-in_err-transfer-clause-passed
+returns-in_err-transfer-clause-passed g c =
+    let unchanged : (g.B.Bus.state c.if-is_changing.self.bus).passed
+    ≡ (g.B.Bus.state (checked_by c.args.self.now)).passed = elim c.if-is_changing.branch [
+      | then-is_changing+in_ok-check w ↦ rw w.self-is w.check.ensures.passed
+      | else-is_changing w ↦ rw w.self-is refl
+    ] in
+    passes_after c.args.out.now unchanged c.transfer.ensures.records.passed
+
+pub returns-clause-passed : goal.returns-clause-passed
+returns-clause-passed g c =
+    let unchanged : (g.B.Bus.state c.if-is_changing.self.bus).passed
+    ≡ (g.B.Bus.state (checked_by c.args.self.now)).passed = elim c.if-is_changing.branch [
+      | then-is_changing+in_ok-check w ↦ rw w.self-is w.check.ensures.passed
+      | else-is_changing w ↦ rw w.self-is refl
+    ] in
+    passes_after c.args.out.now unchanged c.transfer.ensures.records.passed
