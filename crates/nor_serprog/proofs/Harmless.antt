@@ -3,7 +3,7 @@ use Rattle.std.proofs.Common.{◌≡◌, ◌∙◌, ◌⊎◌, inl, inr, ℕ, Li
 use Rattle.std.specs.Prelude.{Result, Ok, Err, OnOk, OnErr}
 use Rattle.std.proofs.lemmas.List.Elements.{All-cons}
 use Rattle.nor_serprog.specs.Asked.{AsksSync, nop_row}
-use Rattle.nor_serprog.specs.Frame.{frame_of}
+use Rattle.nor_serprog.specs.Frame.{FitsFrame, frame_of}
 use Rattle.nor_serprog.specs.Harmless.{IsHarmless, ModifiesNothing, StaysHarmless}
 use Rattle.nor_serprog.specs.declared.command.Command.{Command}
 use Rattle.nor_serprog.proofs.Framed.{first_nops, row_nops}
@@ -31,11 +31,14 @@ harmless_sync old new (inr (inr twice)) = λ start h.
     (harmless_call old ((0x00 ∷ []) ∷ old) (0x00 ∷ []) (inl first_nops) refl start h)
 
 pub harmless_exchange : {L T E : Type 0} (asked : L → List (List ℕ)) (old new : L) (command : Command)
-    (result : Result T E) → ModifiesNothing command → OnOk result (asked new ≡ frame_of command ∷ asked old)
+    (result : Result T E) → ModifiesNothing command → OnOk result (FitsFrame command)
+    → OnErr result ((new ≡ old) ⊎ FitsFrame command) → OnOk result (asked new ≡ frame_of command ∷ asked old)
     → OnErr result ((new ≡ old) ⊎ (asked new ≡ frame_of command ∷ asked old)) → StaysHarmless (asked old) (asked new)
-harmless_exchange asked old new command (Ok value) nothing sent failed =
-    harmless_call (asked old) (asked new) (frame_of command) (inr (command, (nothing, refl))) sent
-harmless_exchange asked old new command (Err error) nothing sent (inl same) =
+harmless_exchange asked old new command (Ok value) nothing fits refused sent failed =
+    harmless_call (asked old) (asked new) (frame_of command) (inr (command, (nothing, (fits, refl)))) sent
+harmless_exchange asked old new command (Err error) nothing fits (inl same) sent failed =
     harmless_same (asked old) (asked new) (ap asked same)
-harmless_exchange asked old new command (Err error) nothing sent (inr failed) =
-    harmless_call (asked old) (asked new) (frame_of command) (inr (command, (nothing, refl))) failed
+harmless_exchange asked old new command (Err error) nothing fits (inr fit) sent (inl same) =
+    harmless_same (asked old) (asked new) (ap asked same)
+harmless_exchange asked old new command (Err error) nothing fits (inr fit) sent (inr failed) =
+    harmless_call (asked old) (asked new) (frame_of command) (inr (command, (nothing, (fit, refl)))) failed

@@ -6,6 +6,7 @@ pub mod Handshaken
 pub mod Stops
 pub mod Framed
 pub mod Harmless
+pub mod Modifying
 pub mod Enabling
 pub mod Enabled
 pub mod Batches

@@ -8,6 +8,7 @@ use Rattle.nor_serprog.specs.declared.batching.BatchingBus.{BatchingBus}
 use Rattle.nor_serprog.specs.declared.link.Link.{Link}
 use Rattle.nor_serprog.specs.declared.port.Port.{Ghosts}
 use Rattle.nor_serprog.specs.declared.link.Failure.{Failure}
+use Rattle.nor_serprog.specs.Modifying.{passed_by}
 use Rattle.nor_serprog.specs.Link.{is_in_step}
 use Rattle.nor_serprog.specs.Asked.{IsFramed}
 use Rattle.nor_serprog.specs.Device.{PortState}
@@ -59,6 +60,7 @@ over_batch waits further port history = record {
   honest = port.honest;
   history = history;
   sent = sent_in history;
+  passed = passed_by waits port.asked;
   allowances = [];
   worn = port.device.worn;
   steady = false;

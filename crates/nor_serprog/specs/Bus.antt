@@ -10,6 +10,7 @@ use Rattle.nor_serprog.specs.declared.link.Failure.{Failure}
 use Rattle.nor_serprog.specs.declared.port.Port.{Ghosts}
 use Rattle.nor_serprog.specs.Device.{PortState}
 use Rattle.nor_serprog.specs.Link.{is_in_step}
+use Rattle.nor_serprog.specs.Modifying.{modifying_in}
 
 -- The state of a bus over a port with the state `port`. A transaction takes three calls of the port, which send the
 -- frame, receive ACK and receive the reply. The bus is not `steady`, because the port can fail in the middle of a
@@ -21,6 +22,7 @@ over_port further port history = record {
   honest = port.honest;
   history = history;
   sent = sent_in history;
+  passed = modifying_in port.asked;
   allowances = [];
   worn = port.device.worn;
   steady = false;

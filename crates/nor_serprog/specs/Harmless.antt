@@ -2,7 +2,7 @@
 use Rattle.std.specs.Prelude.{◌≡◌, ◌==◌, ◌||◌, ◌++◌, ◌⊎◌, ◌∷◌, [], ℕ, Bool, true, false, List, All, ⊤}
 use Rattle.nor_serprog.specs.declared.command.Command.{Command}
 use Rattle.nor_serprog.specs.declared.command.Command.TheVariants.{Operate}
-use Rattle.nor_serprog.specs.Frame.{frame_of}
+use Rattle.nor_serprog.specs.Frame.{FitsFrame, frame_of}
 use Rattle.nor_serprog.specs.Asked.{AreNops}
 
 -- True for 03h, 05h, 5Ah and 9Fh, which read data, status 1, SFDP and the ID, for ABh, which wakes a chip, and for FFh,
@@ -25,7 +25,8 @@ ModifiesNothing _ = ⊤
 -- of a command that modifies nothing (`ModifiesNothing`).
 abbrev pub IsHarmless : (argument : List ℕ) → Type 0
 IsHarmless argument =
-    AreNops argument ⊎ ((command : Command) × (ModifiesNothing command × (argument ≡ frame_of command)))
+    AreNops argument
+    ⊎ ((command : Command) × (ModifiesNothing command × (FitsFrame command × (argument ≡ frame_of command))))
 
 -- Holds if `asked` is `start` and then only harmless calls (`IsHarmless`).
 pub record IsHarmlessSince (start asked : List (List ℕ)) : Type 0 where

@@ -1,8 +1,10 @@
 //! A bus to the chip at a serial programmer.
 ghost use Rattle.std.specs.Prelude.{◌≡◌, ◌≤◌, ◌⊎◌, true, false, length, OnOk, OnErr, [], IsSome, option_copied};
 ghost use Rattle.nor_model.specs.Bus.{Carries, Transfers};
+ghost use Rattle.nor_model.specs.Passed.{Passes};
 ghost use Rattle.nor_serprog.specs.Device.{IsIdle, Exchanged, Interrupted};
 ghost use Rattle.nor_serprog.specs.Link.{port_of, is_in_step, IsSettled};
+ghost use Rattle.nor_serprog.specs.Modifying.{modifying_in};
 
 use crate::{Command, Failure, Link, Port, Programmer, Sync};
 use nor_model::{Bus, History, Stopped};
@@ -143,6 +145,8 @@ fn carry<P: Port + Drop>(
         → OnErr result ((link.new ≡ link.old) ⊎ Interrupted out.now (length reply.old) (length reply.old)
         (P.state (port_of link.old)) (P.state (port_of link.new))) }
     ensures unread { (P.state (port_of link.old)).honest ≡ true → OnErr result (reply.new ≡ reply.old) }
+    ensures passed { Passes out.now (modifying_in (P.state (port_of link.old)).asked)
+        (modifying_in (P.state (port_of link.new)).asked) }
 {
     if reply.len() > longest_read as usize {
         return Err(link.rejection());

@@ -117,6 +117,8 @@ impl<P: Port + Drop> Link<P> {
             ≡ frame_of command.entry ∷ (P.state (port_of self.old)).asked) }
         ensures failed { OnErr result ((self.new ≡ self.old)
             ⊎ ((P.state (port_of self.new)).asked ≡ frame_of command.entry ∷ (P.state (port_of self.old)).asked)) }
+        ensures fitted { OnOk result (FitsFrame command.entry) }
+        ensures refused { OnErr result ((self.new ≡ self.old) ⊎ FitsFrame command.entry) }
         ensures acked { OnOk result ((P.state (port_of self.new)).received
             ≡ (P.state (port_of self.old)).received ++ 0x06 ∷ reply.new) }
         ensures silent { is_in_step self.old ≡ false → self.new ≡ self.old }
@@ -163,6 +165,8 @@ impl<P: Port + Drop> Link<P> {
             ≡ frame_of command.entry ∷ (P.state (port_of self.old)).asked) }
         ensures failed { OnErr result ((self.new ≡ self.old)
             ⊎ ((P.state (port_of self.new)).asked ≡ frame_of command.entry ∷ (P.state (port_of self.old)).asked)) }
+        ensures fitted { OnOk result (FitsFrame command.entry) }
+        ensures refused { OnErr result ((self.new ≡ self.old) ⊎ FitsFrame command.entry) }
         ensures acked { OnOk result ((P.state (port_of self.new)).received
             ≡ (P.state (port_of self.old)).received ++ 0x06 ∷ reply.new) }
         ensures ok { OnOk result (is_in_step self.new ≡ true) }
