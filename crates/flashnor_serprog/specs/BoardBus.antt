@@ -1,6 +1,7 @@
 -- The image that the bus to a chip on a board expects, and the bytes that the bus's port was asked to send.
 use Rattle.std.specs.Prelude.{ℕ, List, Option, option_map}
 use Rattle.nor_serprog.specs.Batching.{link_of}
+use Rattle.nor_buses.specs.Accounted.{accounted_by}
 use Rattle.nor_buses.specs.Checked.{bus_of}
 use Rattle.nor_buses.specs.KeptQuad.{kept_by}
 use Rattle.nor_buses.specs.KnownStatus2.{known_by}
@@ -15,9 +16,9 @@ use Rattle.flashnor_serprog.specs.declared.board_bus.BoardBus.{BoardBus}
 
 abbrev pub expected_in : BoardBus → Option (List ℕ)
 expected_in bus = option_map (λ image. image.items)
-    (expected_of (known_by (kept_by (adapted_by (checked_by bus.layers)))))
+    (expected_of (known_by (kept_by (adapted_by (checked_by (accounted_by bus.layers))))))
 
 -- The bytes that the port was asked to send: one list for each call, with the last call first.
 abbrev pub asked_in : BoardBus → List (List ℕ)
 asked_in bus = asked_over (link_of (paced_of (watched_by (split_of (bus_of (twice_of
-    (known_by (kept_by (adapted_by (checked_by bus.layers))))))))))
+    (known_by (kept_by (adapted_by (checked_by (accounted_by bus.layers)))))))))))

@@ -3,6 +3,7 @@ pub mod BoardBus
 pub mod Setting
 pub mod Connected
 pub mod Unused
+pub mod Wired
 pub mod Run
 pub mod ChipLayouts
 pub mod RunFaults

@@ -1,6 +1,7 @@
 //! The bus to a chip on a board: all layers below those that read ahead and show the progress.
 ghost use Rattle.std.proofs.lemmas.Bool.{false≢true};
 ghost use Rattle.std.specs.Prelude.{◌≡◌, [], option_map};
+ghost use Rattle.nor_serprog.specs.Harmless.{IsHarmlessSince};
 ghost use Rattle.nor_buses.specs.Checked.{bus_of, history_of as checked_history};
 ghost use Rattle.nor_buses.specs.Twice.{expected_of, history_of, twice_of};
 ghost use Rattle.flashnor_serprog.specs.BoardBus.{asked_in, expected_in};
@@ -10,8 +11,8 @@ ghost use Rattle.flashnor_serprog.specs.Unused.{IsUnused};
 use crate::port::{DevicePort, PortFault};
 use crate::rules::{Checks, Rules};
 use nor_buses::{
-    ChangedByte, CheckFault, CheckedStatus, KeptQuad, KnownStatus2, OtherChip, OtherMakers, Paced,
-    ReadTwice, SameChip, SplittingBus, Watched,
+    Accounted, ChangedByte, CheckFault, CheckedStatus, KeptQuad, KnownStatus2, OtherChip,
+    OtherMakers, Paced, ReadTwice, SameChip, SplittingBus, Watched,
 };
 use nor_model::{Bus, Stopped};
 use nor_serprog::{AnyProgrammer, BatchingBus, Failure, Link};
@@ -19,10 +20,10 @@ use nor_serprog::{AnyProgrammer, BatchingBus, Failure, Link};
 /// The bus to the chip at a serial programmer. ARCHITECTURE describes its layers and their order.
 #[derive(Drop)]
 pub struct BoardBus<'a> {
-    layers: Layers<'a>,
+    layers: Accounted<Layers<'a>>,
 }
 
-/// The layers of a `BoardBus`. The outermost one compares the unique ID.
+/// The layers of a `BoardBus` that can stop a job. The outermost one compares the unique ID.
 pub type Layers<'a> = SameChip<Makers<'a>>;
 
 type Makers<'a> = OtherMakers<KeptQuad<KnownStatus2<Twice<'a>>>>;
@@ -60,7 +61,7 @@ pub struct Causes<'a> {
 impl<'a> BoardBus<'a> {
     /// Returns an unused bus to the chip at the programmer of `link`. Sectors that equal `image` at their addresses are
     /// read once, other data twice. `image` must be that of `-v` or of a write whose result is compared, because
-    /// data that was read only once must not get into a journal.
+    /// data that was read only once must not get into a journal. So far only harmless calls may have been made.
     pub fn new(
         rt: &'a HostRuntime,
         link: Link<DevicePort>,
@@ -68,9 +69,10 @@ impl<'a> BoardBus<'a> {
         image: Option<Vec<u8>>,
         rules: Rules,
     ) -> BoardBus<'a>
+        requires harmless { IsHarmlessSince [] (asked_over link) }
         ensures fresh { IsUnused (⟦<BoardBus<'a> as Bus>⟧.state result) }
         ensures expects { expected_in result ≡ option_map (λ image. image.items) image }
-        ensures asked { asked_in result ≡ asked_over link }
+        ensures harmless { IsHarmlessSince [] (asked_in result) }
     {
         let longest_read = programmer.longest_read();
         let paced = Paced::new(BatchingBus::over(link, programmer), rt);
@@ -81,7 +83,7 @@ impl<'a> BoardBus<'a> {
         let kept = KeptQuad::new(known, &WITH_ROW, rules.hides_quad);
         let other = OtherMakers::new(kept, &WITH_ROW, rules.missing_unique, rules.refuses_uneven);
         BoardBus {
-            layers: SameChip::new(other),
+            layers: Accounted::new(SameChip::new(other)),
         }
     }
 
@@ -103,7 +105,7 @@ impl<'a> BoardBus<'a> {
     pub fn causes(&self) -> Causes<'_> {
         let watched = self.checked().inner().inner();
         Causes {
-            other: self.layers.other(),
+            other: self.layers.inner().other(),
             failure: watched.inner().inner().cause(),
             status: self.checked().fault(),
             is_lost: watched.is_lost(),
@@ -112,7 +114,7 @@ impl<'a> BoardBus<'a> {
     }
 
     fn makers(&self) -> &Makers<'a> {
-        self.layers.inner()
+        self.layers.inner().inner()
     }
 
     fn twice(&self) -> &Twice<'a> {
@@ -125,7 +127,7 @@ impl<'a> BoardBus<'a> {
 }
 
 impl<'a> Bus for BoardBus<'a> {
-    ghost state = { λ bus. ⟦<Layers<'a> as Bus>⟧.state bus.layers };
+    ghost state = { λ bus. ⟦<Accounted<Layers<'a>> as Bus>⟧.state bus.layers };
 
     ghost reaches = { λ _ honest. absurd (false≢true honest) };
 

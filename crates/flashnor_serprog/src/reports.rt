@@ -1,5 +1,6 @@
 //! The lines that a run prints about faults and hints, and the removal of an incomplete journal.
-ghost use Rattle.std.specs.Prelude.{◌≡◌, ◌≤◌, true};
+ghost use Rattle.std.specs.Prelude.{◌≡◌, ◌≤◌, false, true};
+ghost use Rattle.nor_journal.specs.Text.{Content, IsContent, text};
 ghost use Rattle.board_hints.specs.declared.chip_after.ChipAfter.TheVariants.{Unchanged};
 
 use crate::connect::{ChipBus, board_in};
@@ -114,7 +115,9 @@ fn has_removed<R: Store>(files: &R, terminal: Terminal<'_>, name: &str) -> bool 
 }
 
 // Returns whether these bytes begin with `MAGIC` or are a prefix of `MAGIC`, but are no valid journal.
-fn is_begun_journal(bytes: &[u8]) -> bool {
+fn is_begun_journal(bytes: &[u8]) -> bool
+    ensures { (journal : Content) → IsContent journal → bytes.now ≡ text journal → result ≡ false }
+{
     let len = bytes.len().min(MAGIC.len());
     bytes[..len] == MAGIC[..len] && Journal::read(bytes).is_err()
 }

@@ -3,10 +3,11 @@ ghost use Rattle.std.specs.Prelude.{◌≡◌, ◌≤◌, IfErr, IfOk, IfSome, I
 ghost use Rattle.nor_files.specs.Disk.{unknown};
 ghost use Rattle.nor_args.specs.Words.{arguments_of};
 ghost use Rattle.nor_console.specs.Printing.{Prints};
-ghost use Rattle.flashnor_serprog.specs.Connected.{device_of};
+ghost use Rattle.flashnor_serprog.specs.Connected.{asked_by, device_of};
 ghost use Rattle.board_jobs.specs.Ending.{AreJobLines};
 ghost use Rattle.flashnor_serprog.specs.Run.{AsksForHelp, HasRun, HasRunBy, HasRunJob};
 ghost use Rattle.flashnor_serprog.specs.Run.{HasRunOperation, HasSucceeded};
+ghost use Rattle.flashnor_serprog.specs.Wired.{AsksOnly};
 ghost use Rattle.board_files.specs.RegionCopies.{AreCopied, KeepsOutput};
 ghost use Rattle.board_files.specs.Regions.{regions_of};
 ghost use Rattle.board_files.specs.Sources.{ArePlainNames};
@@ -46,8 +47,9 @@ use std::io::Write;
 /// the exit status: 1 after any fault, if a result could not be printed, or if `report_kept_bits` printed a line,
 /// otherwise 0. Skips the first argument (the program's name), and prints an error in `given` as a fault.
 ///
-/// `used` must be `None`, and receives the bus of the job if `connect_by` returned one for the job. The clauses assume
-/// nothing about the system's files. The clauses of `run_over` say more if the files obey their contract.
+/// `used` must be `None`, and receives the bus of the job if `connect_by` returned one for the job. Each
+/// modifying command that its port was asked for was made for one that the bus was asked for (`wired`). The clauses
+/// assume nothing about the system's files. The clauses of `run_over` say more if the files obey their contract.
 pub fn run_words<'b, O: Write, E: Write>(
     rt: &'b HostRuntime,
     screen: &'b Screen,
@@ -65,6 +67,8 @@ pub fn run_words<'b, O: Write, E: Write>(
         (λ connected. ⟦<ChipBus<'b> as Bus>⟧.state connected.bus) unknown unknown (arguments_of args)
         (device_of connected) (⟦<ChipBus<'b> as Bus>⟧.state connected.bus)
         (O.contents output.old) (O.contents output.new) result)) }
+    ensures wired { IfSome used.new (λ connected. AsksOnly (asked_by connected)
+        (⟦<ChipBus<'b> as Bus>⟧.state connected.bus).sent) }
     ensures unread { IfErr given (λ error. result ≡ 1) }
     ensures unused { IfErr given (λ error. used.new ≡ None) }
 {
@@ -111,6 +115,8 @@ pub fn run_over<'b, R: Store<Log = LogFile<File>>, O: Write, E: Write>(
     ensures ran { IfSome used.new (λ connected. HasRunJob (λ connected. ⟦<ChipBus<'b> as Bus>⟧.state connected.bus)
         (R.state files.old) (R.state files.new) (map string_bytes words.now) (device_of connected)
         (⟦<ChipBus<'b> as Bus>⟧.state connected.bus) (O.contents output.old) (O.contents output.new) result) }
+    ensures wired { IfSome used.new (λ connected. AsksOnly (asked_by connected)
+        (⟦<ChipBus<'b> as Bus>⟧.state connected.bus).sent) }
 {
     let mut included = None;
     match read_words(rt.alloc(), words, &mut included) {
@@ -154,6 +160,8 @@ fn run_on_chip<'a, 'b, R: Store<Log = LogFile<File>>, O: Write, E: Write>(
         (λ connected. ⟦<ChipBus<'b> as Bus>⟧.state connected.bus) (R.state files.old) (R.state files.new)
         setting.now.device operation.now (device_of connected) (⟦<ChipBus<'b> as Bus>⟧.state connected.bus)
         (O.contents output.old) (O.contents output.new) result) }
+    ensures wired { IfSome used.new (λ connected. AsksOnly (asked_by connected)
+        (⟦<ChipBus<'b> as Bus>⟧.state connected.bus).sent) }
 {
     if !is_new(files, operation, errors) {
         return 1;

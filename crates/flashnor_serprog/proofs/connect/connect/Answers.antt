@@ -33,8 +33,8 @@ pub returns-in_err-expect_chip-clause-fresh : goal.returns-in_err-expect_chip-cl
 returns-in_err-expect_chip-clause-fresh c =
     none_ok _ _ c.from_residual-in_err-expect_chip.result c.from_residual-in_err-expect_chip.ensures.1
 
-pub returns-clause-harmless : goal.returns-clause-harmless
-returns-clause-harmless c =
+pub new-board-requires : goal.new-board-requires
+new-board-requires c =
     let opened : IsHarmlessSince [] (asked_over c.new-link.result) = record {
       later = [];
       since = ap (λ port. asked_on port.wire) c.new-link.ensures.port ∙ c.new.ensures.unasked;
@@ -48,5 +48,7 @@ returns-clause-harmless c =
     let woken = c.wake.ensures.harmless [] selected in
     let found = c.expect_chip.ensures.harmless [] woken in
     let tried = c.try_reads.ensures.harmless [] found in
-    let there = c.expect_chip-2.ensures.harmless [] tried in
-    rw c.new-3.ensures (rw c.new-2.ensures.bus (rw c.new-board.ensures.asked there))
+    record { harmless = c.expect_chip-2.ensures.harmless [] tried }
+
+pub returns-clause-harmless : goal.returns-clause-harmless
+returns-clause-harmless c = rw c.new-3.ensures (rw c.new-2.ensures.bus c.new-board.ensures.harmless)

@@ -1,4 +1,5 @@
 use Rattle.std.proofs.Common.{refl}
+use Rattle.std.proofs.Math.Logic.{∥∥₁_map}
 use Rattle.flashnor_serprog.proofs.LogMade.{log_seen}
 use Rattle.flashnor_serprog.proofs.Ran.{few_after, unused}
 use Rattle.flashnor_serprog.proofs.run.run_on_chip.Goals as goal
@@ -28,3 +29,12 @@ returns-in-Err-clause-ran g c = unused _ c.args.used.now c.requires.used
 
 pub returns-in-Ok-clause-few : goal.returns-in-Ok-clause-few
 returns-in-Ok-clause-few g c = few_after _ _ _ _ _ _ _ _ _ _ _ c.args.operation.now.srp0 c.run_prepared-status.ensures
+
+pub returns-in-Ok-clause-wired : goal.returns-in-Ok-clause-wired
+returns-in-Ok-clause-wired g c = ∥∥₁_map c.run_prepared-status.new.bus.bus.bus.layers.accounted (λ passed. (_, passed))
+
+pub returns-then-not-is_new-clause-wired : goal.returns-then-not-is_new-clause-wired
+returns-then-not-is_new-clause-wired g c = unused _ c.args.used.now c.requires.used
+
+pub returns-in-Err-clause-wired : goal.returns-in-Err-clause-wired
+returns-in-Err-clause-wired g c = unused _ c.args.used.now c.requires.used

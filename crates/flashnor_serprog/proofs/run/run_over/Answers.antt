@@ -29,3 +29,21 @@ returns-in-Ok-Chip-clause-done g c = λ zero. absurd (omega (arith, c.end_badly.
 
 pub returns-clause-done : goal.returns-clause-done
 returns-clause-done g c = λ zero. inl (inl (c.in-Err.ensures.help (c.end_early.ensures.help zero)))
+
+pub returns-in-Ok-List-clause-wired : goal.returns-in-Ok-List-clause-wired
+returns-in-Ok-List-clause-wired g c = unused _ c.args.used.now c.requires
+
+pub returns-in-Ok-Description-default-None-clause-wired : goal.returns-in-Ok-Description-default-None-clause-wired
+returns-in-Ok-Description-default-None-clause-wired g c = unused _ c.args.used.now c.requires
+
+pub returns-in-Ok-Description-default-Some-clause-wired : goal.returns-in-Ok-Description-default-Some-clause-wired
+returns-in-Ok-Description-default-Some-clause-wired g c = unused _ c.args.used.now c.requires
+
+pub returns-in-Ok-Chip-clause-wired : goal.returns-in-Ok-Chip-clause-wired
+returns-in-Ok-Chip-clause-wired g c = unused _ c.args.used.now c.requires
+
+pub returns-clause-wired : goal.returns-clause-wired
+returns-clause-wired g c = unused _ c.args.used.now c.requires
+
+pub returns-in-Ok-clause-wired : goal.returns-in-Ok-clause-wired
+returns-in-Ok-clause-wired g c = c.run_on_chip.ensures.wired

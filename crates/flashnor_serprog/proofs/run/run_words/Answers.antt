@@ -21,3 +21,9 @@ returns-in-Err-arguments_after_name-clause-done g c = never_zero _ c.args.given 
 
 pub returns-in-Err-clause-done : goal.returns-in-Err-clause-done
 returns-in-Err-clause-done g c = never_zero _ c.args.given _ c.end_badly-in-Err.ensures
+
+pub returns-in-Err-arguments_after_name-clause-wired : goal.returns-in-Err-arguments_after_name-clause-wired
+returns-in-Err-arguments_after_name-clause-wired g c = unused _ c.args.used.now c.requires
+
+pub returns-in-Err-clause-wired : goal.returns-in-Err-clause-wired
+returns-in-Err-clause-wired g c = unused _ c.args.used.now c.requires
