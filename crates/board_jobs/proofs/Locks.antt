@@ -83,6 +83,7 @@ module _ (srp0 : Bool) (before : List ℕ) (status : Status) (code : ℕ) (is : 
       → SendsWithin (writing (sets_srp0 srp0 before) 1) old new
   sets_within old new sends = record {
     targeted = sends.targeted;
+    programmed = sends.programmed;
     written = λ one two. elim (sends.written one two) [
       | inl same ↦ inl same
       | inr sent ↦ inr (sym (same_write one two) ∙ sent)
@@ -97,6 +98,7 @@ pub within_reads : (limits : Limits) (old mid new : BusState) → SendsWithin li
     → SendsWithin limits old new
 within_reads limits old mid new sends same = record {
   targeted = λ s. rw same (sends.targeted s);
+  programmed = λ a byte. rw same (sends.programmed a byte);
   written = λ one two. rw same (sends.written one two);
   erases = rw same sends.erases;
   programs = rw same sends.programs;

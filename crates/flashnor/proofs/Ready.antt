@@ -3,6 +3,7 @@ use Rattle.std.proofs.Common.{◌≡◌, ℕ, Option, None, Ok, arith, inr, is_n
 use Rattle.nor_model.specs.Bus.{Allows, BusState}
 use Rattle.nor_model.specs.Chip.{IsSame}
 use Rattle.nor_driver.specs.OnlyReads.{IsSteadyOrIdle, OnlyReads}
+use Rattle.nor_driver.proofs.ReadsInTurn.{only_reads_none as reads_nothing, only_reads_more}
 use Rattle.nor_probe.specs.Known.{IsModelled, shown_as}
 use Rattle.nor_probe.specs.Found.{Finds, IsWanted, ProbeErrors, part_in}
 use Rattle.nor_probe.specs.declared.probes.Found.{Found}
@@ -62,4 +63,4 @@ pub passes_none : (bus : BusState) → IsModelled bus → IsSteadyOrIdle bus →
 passes_none bus modelled steady_or_idle = grind arith
 
 pub only_reads_none : (most : ℕ) (bus : BusState) → OnlyReads most bus bus
-only_reads_none most bus = grind arith
+only_reads_none most bus = only_reads_more 0 most bus bus (omega arith) (reads_nothing bus)

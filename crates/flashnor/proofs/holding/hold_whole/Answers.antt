@@ -54,3 +54,14 @@ returns-in-Err-sync_folder-clause-no_more g c = λ rest name.
 
 pub returns-in-Err-clause-no_more : goal.returns-in-Err-clause-no_more
 returns-in-Err-clause-no_more g c = λ rest name. ((c.in-Err.ensures.holds rest.lawful).stay name).leaves
+
+pub returns-in_err-read_held-in-Ok-true-clause-err :
+    goal.returns-in_err-read_held-in-Ok-true-clause-err
+returns-in_err-read_held-in-Ok-true-clause-err g c =
+    grind (
+      arith,
+      c.from_residual.ensures,
+      c.in_err-read_held-in-Ok-true.ensures.err,
+      c.in-Some.is,
+      c.in-Ok-true.ensures.nature,
+    )
