@@ -109,6 +109,8 @@ def sends_nothing_before_its_job(start):
         commands, rest = split_handshake(bench.server.received)
         check("opcodes of the handshake", {it[0] for it in commands} <= {0, 1, 2, 3, 4, 5, 8, 0x10, 0x11, 0x12, 0x15}, True)
         check(f"the first frames of {words}", rest[: len(first)], first)
+        if "j" not in words:
+            bench.check_chip(old)
 
 
 def holds_its_lock(start):

@@ -120,14 +120,17 @@ def lists_the_chips(start):
 
 
 def takes_repeated_flags(start):
-    """Checks that -V may be repeated, as in flashrom, and that --progress may be given without a mode."""
+    """Checks that -V may be repeated, as in flashrom, and that --progress may be given without a mode. Neither changes
+    the chip."""
     bench = start()
+    before = bytes(bench.chip.data)
     once = [it.split(" ", 1)[-1] for it in bench.run("-V").err]
     check("lines of -V", bool(once), True)
     for words in ("-VV",), ("-V", "--verbose"), ("-VVV", "-V"):
         got = bench.run(*words)
         check("lines", ([it.split(" ", 1)[-1] for it in got.err], got.out, got.status),
               (once, [reference.found("TINY64")], 0))
+        bench.check_chip(before)
     bench.expect(out=[reference.found("TINY64")])
     for words in ("--progress",), ("--progress", "-c", "SFDP"), ("-c", "SFDP", "--progress"):
         bench.expect(*words, out=[reference.found("TINY64")])
