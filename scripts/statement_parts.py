@@ -345,7 +345,7 @@ SUBJECTS = {
     "The step of a chip": "nor_model: specs/Step",
     "A loss of power": "nor_model: specs/Power",
     "The bus, and its stops":
-        "nor_model: specs/Bus src/bus specs/Exchange specs/History src/history specs/Sent specs/PolledReady",
+        "nor_model: specs/Bus src/bus specs/Exchange specs/History src/history specs/Sent specs/Passed specs/PolledReady",
     "Reading, and counting transactions": "nor_driver: specs/OnlyReads specs/Ready specs/ReadsInTurn specs/Polls specs/Limits",
     "IDs and status bits": "nor_model: src/status nor_driver: specs/Reads specs/StatusWrites",
     "SFDP": "nor_probe: src/sfdp specs/Sfdp",

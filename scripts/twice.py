@@ -25,6 +25,8 @@ ALLOWED = {
     "rows_of",
     # The restores of board_jobs and of serprog_session end with different errors.
     "FailsBy",
+    # In nor_model, what a bus passes on. In flashnor, a chip that passed the check of its name.
+    "Passes",
 }
 
 
