@@ -2,6 +2,7 @@ pub mod Found
 pub mod Merged
 pub mod SentFitted
 pub mod Sent
+pub mod Sealing
 pub mod RestRead
 pub mod Restored
 pub mod Named

@@ -4,6 +4,7 @@ pub mod UnsavedSectors
 pub mod Restoring
 pub mod Jobs
 pub mod Sends
+pub mod Sealing
 pub mod Further
 pub mod StatusLocks
 pub mod Strays

@@ -8,6 +8,7 @@ ghost use Rattle.board_jobs.specs.Jobs.{DoesTask, FailsChange, FailsPerform, Fai
 ghost use Rattle.board_jobs.specs.Jobs.{EndsJob, FailsToRead, HasChangedBy, HasReadChip, IsBufferOf};
 ghost use Rattle.board_jobs.specs.Jobs.{IsChangeable, IsEndedAs};
 ghost use Rattle.board_jobs.specs.Sends.{SendsOnly};
+ghost use Rattle.board_jobs.specs.Sealing.{SealsChange, SealsTask};
 ghost use Rattle.board_jobs.specs.Jobs.{may_be_protected};
 ghost use Rattle.board_files.specs.Tasks.{changes_bytes};
 
@@ -51,6 +52,9 @@ fn perform<'a, R: Store, B: Progress>(
     ensures others { is_lawful (R.state rt.old).view ≡ true → (name : Name)
         → IsNot (R.state rt.old).view.nature (made_by operation.now.task) name
         → KeepsFile name (R.state rt.old) (R.state rt.new) }
+    ensures sealed { is_lawful (R.state rt.old).view ≡ true
+        → SealsTask R.Filed.state R.Filed.synced operation.now.task (B.state bus.old) (B.state bus.new)
+        (R.state rt.new) }
 {
     let named = operation.named;
     match &operation.task {
@@ -84,6 +88,9 @@ pub fn end_job<'a, R: Store, B: Progress>(
     ensures others { is_lawful (R.state files.old).view ≡ true → (name : Name)
         → IsNot (R.state files.old).view.nature (made_by operation.now.task) name
         → KeepsFile name (R.state files.old) (R.state files.new) }
+    ensures sealed { is_lawful (R.state files.old).view ≡ true
+        → SealsTask R.Filed.state R.Filed.synced operation.now.task (B.state bus.old) (B.state bus.new)
+        (R.state files.new) }
 {
     let outcome = perform(files, bus, terminal, operation, sources)?;
     end_call(outcome)
@@ -162,6 +169,9 @@ fn change_chip<'a, R: Store, B: Progress>(
     ensures others { is_lawful (R.state rt.old).view ≡ true → (name : Name)
         → IsNot (R.state rt.old).view.nature (journal_of change.now.journal_use) name
         → KeepsFile name (R.state rt.old) (R.state rt.new) }
+    ensures sealed { is_lawful (R.state rt.old).view ≡ true
+        → SealsChange R.Filed.state R.Filed.synced change.now.journal_use (B.state bus.old) (B.state bus.new)
+        (R.state rt.new) }
 {
     let JournalUse::Journal { file } = &change.journal_use else {
         return Err(JobFault::Fault(Fault::Usage {

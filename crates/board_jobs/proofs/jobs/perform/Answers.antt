@@ -8,6 +8,7 @@ returns-in-Read g c = rw (c.in-Read.is, c.if-operation.true) (record {
   ok = c.in_ok-backup_chip-in-Read.ensures.ok;
   err = tt;
   others = c.backup_chip.ensures.others;
+  sealed = λ lawful. tt;
 })
 
 pub returns-in-Read-2 : goal.returns-in-Read-2
@@ -15,6 +16,7 @@ returns-in-Read-2 g c = rw (c.in-Read-2.is, c.if-operation.false) (record {
   ok = rw c.as_ref.ensures.value at c.in_ok-read_chip-in-Read-2.ensures.ok;
   err = tt;
   others = c.read_chip.ensures.others;
+  sealed = λ lawful. tt;
 })
 
 pub returns-in-Change-clause-ok : goal.returns-in-Change-clause-ok
@@ -27,6 +29,9 @@ returns-in-Change-clause-err g c = change_failed c.args.operation.now c.in-Chang
 
 pub returns-in-Change-clause-others : goal.returns-in-Change-clause-others
 returns-in-Change-clause-others g c = rw c.in-Change.is c.change_chip.ensures.others
+
+pub returns-in-Change-clause-sealed : goal.returns-in-Change-clause-sealed
+returns-in-Change-clause-sealed g c = rw c.in-Change.is c.change_chip.ensures.sealed
 
 pub returns-in-Restore-clause-err : goal.returns-in-Restore-clause-err
 returns-in-Restore-clause-err g c = restore_failed c.args.operation.now _ _ _ _ _ _ c.args.operation.now.task _
