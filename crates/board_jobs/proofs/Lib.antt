@@ -8,3 +8,9 @@ pub mod Restored
 pub mod Named
 pub mod Locks
 pub mod Fitted
+pub mod Original
+pub mod OriginalRestored
+pub mod OriginalJobs
+pub mod OriginalLooked
+pub mod OriginalChanged
+pub mod OriginalBackedUp

@@ -11,3 +11,4 @@ pub mod Strays
 pub mod Ending
 pub mod BoardBits
 pub mod Fitting
+pub mod Original
