@@ -14,20 +14,20 @@ use Rattle.nor_args.specs.Words.{arguments_of}
 use Rattle.nor_args.specs.declared.job.Operation.{Operation}
 use Rattle.flashnor_serprog.specs.Connected.{device_of}
 use Rattle.flashnor_serprog.specs.Run.{HasRunBy, HasRunJob, HasRunOperation, HasSucceeded, IsAskedFor}
-use Rattle.flashnor_serprog.specs.declared.connect.Connected.{Connected}
+use Rattle.flashnor_serprog.specs.declared.connected.Connected.{Connected}
 use Rattle.board_files.specs.declared.region_files.RegionFile.{RegionFile}
 
-module _ (state : Connected → BusState) (files after : FilesState) (words : List Text) (name : Bor Text)
+module _ {B : Type 0} (state : Connected B → BusState) (expected : Connected B → Option (List ℕ)) (files after : FilesState) (words : List Text) (name : Bor Text)
     (operation : Operation) (asked : IsAskedFor words name operation) (out out' : Option (List ℕ)) (status : ℕ) where
-  pub job_ran : (used : Option Connected)
-      → IfSome used (λ connected. HasRunOperation state files after name operation (device_of connected)
+  pub job_ran : (used : Option (Connected B))
+      → IfSome used (λ connected. HasRunOperation state expected files after name operation (device_of connected)
       (state connected) out out' status)
-      → IfSome used (λ connected. HasRunJob state files after words (device_of connected) (state connected) out out'
+      → IfSome used (λ connected. HasRunJob state expected files after words (device_of connected) (state connected) out out'
       status)
   job_ran None ran = ran
   job_ran (Some connected) ran = record { name = name; operation = operation; asked = asked; run = ran }
 
-pub is_used : (P : Connected → Type 0) (used : Option Connected) → is_some used ≡ true → IfSome used P
+pub is_used : {C : Type 0} (P : C → Type 0) (used : Option C) → is_some used ≡ true → IfSome used P
     → IsSomeAnd used P
 is_used P None none holds = absurd (false≢true none)
 is_used P (Some connected) some holds = holds
@@ -43,7 +43,7 @@ pub never_zero : {T E : Type 0} (P : T → Type 0) (given : Result T E) (status 
 never_zero P (Ok value) status one = λ zero. absurd (omega (arith, one, zero))
 never_zero P (Err error) status one = tt
 
-pub unused : (P : Connected → Type 0) (used : Option Connected) → used ≡ None → IfSome used P
+pub unused : {C : Type 0} (P : C → Type 0) (used : Option C) → used ≡ None → IfSome used P
 unused P used none = rw none tt
 
 pub few_after : (operation : Operation) (files : List RegionFile) (ranges : Option (List Span)) (bytes : List ℕ)
@@ -54,25 +54,25 @@ few_after operation files ranges bytes before after old new out out' status None
 few_after operation files ranges bytes before after old new out out' status (Some srp0) run = run.0.few
 
 -- If `given` is `Ok args` and `words` are the arguments in `args`, `HasSucceeded` for `words` also holds for `given`.
-pub succeeded_given : {E : Type 0} (state : Connected → BusState) (files after : FilesState) (words : List Text)
+pub succeeded_given : {B E : Type 0} (state : Connected B → BusState) (expected : Connected B → Option (List ℕ)) (files after : FilesState) (words : List Text)
     (given : Result (IntoIter (String Global) Global) E) (args : IntoIter (String Global) Global)
-    (used : Option Connected) (out out' : Option (List ℕ)) (status : ℕ) → given ≡ Ok args → words ≡ arguments_of args
-    → (status ≡ 0 → HasSucceeded state files after words used out out')
-    → IfOk given (λ args. status ≡ 0 → HasSucceeded state files after (arguments_of args) used out out')
-succeeded_given {E = E} state files after words given args used out out' status is same succeeded =
+    (used : Option (Connected B)) (out out' : Option (List ℕ)) (status : ℕ) → given ≡ Ok args → words ≡ arguments_of args
+    → (status ≡ 0 → HasSucceeded state expected files after words used out out')
+    → IfOk given (λ args. status ≡ 0 → HasSucceeded state expected files after (arguments_of args) used out out')
+succeeded_given {E = E} state expected files after words given args used out out' status is same succeeded =
     subst (λ (given : Result (IntoIter (String Global) Global) E). IfOk given (λ args. status ≡ 0
-    → HasSucceeded state files after (arguments_of args) used out out')) (sym is)
-    (λ zero. subst (λ (words : List Text). HasSucceeded state files after words used out out') same (succeeded zero))
+    → HasSucceeded state expected files after (arguments_of args) used out out')) (sym is)
+    (λ zero. subst (λ (words : List Text). HasSucceeded state expected files after words used out out') same (succeeded zero))
 
-pub ran_given : {E : Type 0} (state : Connected → BusState) (files after : FilesState) (words : List Text)
+pub ran_given : {B E : Type 0} (state : Connected B → BusState) (expected : Connected B → Option (List ℕ)) (files after : FilesState) (words : List Text)
     (given : Result (IntoIter (String Global) Global) E) (args : IntoIter (String Global) Global)
-    (used : Option Connected) (out out' : Option (List ℕ)) (status : ℕ) → given ≡ Ok args → words ≡ arguments_of args
-    → IfSome used (λ connected. HasRunJob state files after words (device_of connected) (state connected) out out' status)
-    → IfOk given (λ args. IfSome used (λ connected. HasRunJob state files after (arguments_of args)
+    (used : Option (Connected B)) (out out' : Option (List ℕ)) (status : ℕ) → given ≡ Ok args → words ≡ arguments_of args
+    → IfSome used (λ connected. HasRunJob state expected files after words (device_of connected) (state connected) out out' status)
+    → IfOk given (λ args. IfSome used (λ connected. HasRunJob state expected files after (arguments_of args)
     (device_of connected) (state connected) out out' status))
-ran_given {E = E} state files after words given args used out out' status is same ran =
+ran_given {E = E} state expected files after words given args used out out' status is same ran =
     subst (λ (given : Result (IntoIter (String Global) Global) E). IfOk given (λ args. IfSome used
-    (λ connected. HasRunJob state files after (arguments_of args) (device_of connected) (state connected) out out'
+    (λ connected. HasRunJob state expected files after (arguments_of args) (device_of connected) (state connected) out out'
     status))) (sym is)
-    (subst (λ (words : List Text). IfSome used (λ connected. HasRunJob state files after words (device_of connected)
+    (subst (λ (words : List Text). IfSome used (λ connected. HasRunJob state expected files after words (device_of connected)
     (state connected) out out' status)) same ran)

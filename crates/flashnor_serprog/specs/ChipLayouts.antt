@@ -15,11 +15,11 @@ use Rattle.nor_args.specs.declared.job.Regions.{Regions}
 use Rattle.nor_console.specs.declared.messages.Fault.{Fault}
 use Rattle.nor_console.specs.declared.messages.Fault.TheVariants as end
 use Rattle.nor_jobs.specs.Finding.{FailsToFind, HasIdentified}
-use Rattle.flashnor_serprog.specs.Connected.{device_of, expected_by}
+use Rattle.flashnor_serprog.specs.Connected.{device_of}
 use Rattle.flashnor_serprog.specs.Unused.{IsUnused}
 use Rattle.board_jobs.specs.Following.{FailsInMemory, HasReadToMemory}
 use Rattle.board_jobs.specs.Sends.{KeepsSent}
-use Rattle.flashnor_serprog.specs.declared.connect.Connected.{Connected}
+use Rattle.flashnor_serprog.specs.declared.connected.Connected.{Connected}
 
 abbrev pub form_of_shown : Regions → (file : Option (Bor Text)) → Option LayoutForm
 form_of_shown regions None = Some regions.form
@@ -65,19 +65,21 @@ FailsToReadShown named layout old new fault = FailsToFind named old new fault �
 
 -- Holds if `bytes` were read for a layout of this form over a new bus to `device`. The state of this bus was first that
 -- of `start` and then `last`. This bus expects no image, and no modifying command was sent over this bus.
-pub record IsReadFirst (state : Connected → BusState) (device : Text) (named : Option ChipName) (layout : LayoutForm)
+pub record IsReadFirst {B : Type 0} (state : Connected B → BusState) (expected : Connected B → Option (List ℕ))
+    (device : Text) (named : Option ChipName) (layout : LayoutForm)
     (bytes : List ℕ) : Type 0 where
-  pub start : Connected
+  pub start : Connected B
   pub same_device : device_of start ≡ device
   pub fresh : IsUnused (state start)
-  pub expected : expected_by start ≡ None
+  pub unexpecting : expected start ≡ None
   pub last : BusState
   pub read : HasReadLayout named layout (state start) last bytes
   pub sends : KeepsSent (state start) last
 
 -- With a layout on the chip: holds if `shown` are the bytes read for it. Otherwise: holds if `shown` is `None`.
-abbrev pub IsShown : (state : Connected → BusState) → (device : Text) → Option ChipName → Option LayoutForm
+abbrev pub IsShown : {B : Type 0} (state : Connected B → BusState) (expected : Connected B → Option (List ℕ))
+    (device : Text) → Option ChipName → Option LayoutForm
     → (shown : Option (List ℕ)) → Type 0
-IsShown state device named None shown = shown ≡ None
-IsShown state device named (Some layout) None = ⊥
-IsShown state device named (Some layout) (Some bytes) = IsReadFirst state device named layout bytes
+IsShown state expected device named None shown = shown ≡ None
+IsShown state expected device named (Some layout) None = ⊥
+IsShown state expected device named (Some layout) (Some bytes) = IsReadFirst state expected device named layout bytes

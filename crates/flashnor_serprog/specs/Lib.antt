@@ -5,5 +5,6 @@ pub mod Connected
 pub mod Unused
 pub mod Wired
 pub mod Run
+pub mod Sealed
 pub mod ChipLayouts
 pub mod RunFaults

@@ -16,7 +16,7 @@ use Rattle.nor_args.specs.declared.job.Task.TheVariants as task
 use Rattle.nor_console.specs.Printing.{AsksForVersion, IsAnswered, Prints}
 use Rattle.nor_console.specs.declared.answers.Answer.{Answer}
 use Rattle.flashnor_serprog.specs.ChipLayouts.{IsShown, form_on_chip}
-use Rattle.flashnor_serprog.specs.Connected.{device_of, expected_by}
+use Rattle.flashnor_serprog.specs.Connected.{device_of}
 use Rattle.flashnor_serprog.specs.Unused.{IsUnused}
 use Rattle.board_jobs.specs.Ending.{AreJobLines}
 use Rattle.board_files.specs.Images.{HasDescribed}
@@ -31,7 +31,7 @@ use Rattle.board_files.specs.RegionRoles.{AreNamed, HaveFileRoles}
 use Rattle.board_files.specs.Sources.{AreJobRegions, ArePreparedBytes, HasOwnLog, HaveOneRole, MayExpectImage}
 use Rattle.board_files.specs.declared.region_files.RegionFile.{RegionFile}
 use Rattle.board_jobs.specs.declared.chip_faults.JobFault.{JobFault}
-use Rattle.flashnor_serprog.specs.declared.connect.Connected.{Connected}
+use Rattle.flashnor_serprog.specs.declared.connected.Connected.{Connected}
 use Rattle.flashnor_serprog.specs.declared.asked.Asked.{Asked}
 use Rattle.flashnor_serprog.specs.declared.asked.Asked.TheVariants as asked
 use Rattle.flashnor_serprog.specs.declared.run_fault.RunFault.{RunFault}
@@ -55,10 +55,11 @@ IsAskedByArguments words (asked.Chip setting operation) = IsAskedFor words setti
 -- Holds if no file of the operation has two roles (but one file may be the layout and the image), `ranges` are the
 -- included addresses, `bytes` are the bytes that the job uses, and `files` are the regions with a file. The fields say
 -- more.
-pub record IsPrepared (state : Connected → BusState) (view : View) (device : Bor Text) (operation : Operation)
+pub record IsPrepared {B : Type 0} (state : Connected B → BusState)
+    (expected : Connected B → Option (List ℕ)) (view : View) (device : Bor Text) (operation : Operation)
     (files : List RegionFile) (ranges : Option (List Span)) (bytes : List ℕ) : Type 0 where
   pub shown : Option (List ℕ)
-  pub source : IsShown state device.now operation.named (form_on_chip (regions_of operation.task)) shown
+  pub source : IsShown state expected device.now operation.named (form_on_chip (regions_of operation.task)) shown
   pub roles : HaveOneRole view.nature device operation.task
   pub own_log : HasOwnLog view.nature device operation.task operation.log
   pub regions : AreJobRegions view shown operation.task files ranges
@@ -112,28 +113,30 @@ IsHelpAskedBy words ended = AsksForHelp ended → ArgumentsAskForHelp words
 
 -- Holds if an operation was run on a new bus to the device `name`. The state of the bus was first that of `start` and
 -- then `last`. `made` are the files after the log was created.
-pub record HasRunOperation (state : Connected → BusState) (files after : FilesState) (name : Bor Text)
+pub record HasRunOperation {B : Type 0} (state : Connected B → BusState)
+    (expected : Connected B → Option (List ℕ)) (files after : FilesState) (name : Bor Text)
     (operation : Operation) (device : Text) (last : BusState) (out out' : Option (List ℕ)) (status : ℕ)
     : Type 0 where
-  pub start : Connected
+  pub start : Connected B
   pub same_device : device_of start ≡ device
   pub named : device ≡ name.now
   pub fresh : IsUnused (state start)
   pub regions : List RegionFile
   pub ranges : Option (List Span)
   pub bytes : List ℕ
-  pub expected : MayExpectImage operation bytes (expected_by start)
-  pub prepared : IsPrepared state files.view name operation regions ranges bytes
+  pub image : MayExpectImage operation bytes (expected start)
+  pub prepared : IsPrepared state expected files.view name operation regions ranges bytes
   pub made : View
   pub logged : StayButLog operation.log files.view made
   pub ran : HasRunBy operation.srp0 operation regions ranges bytes made after (state start) last out out' status
 
-pub record HasRunJob (state : Connected → BusState) (files after : FilesState) (words : List Text) (device : Text)
+pub record HasRunJob {B : Type 0} (state : Connected B → BusState)
+    (expected : Connected B → Option (List ℕ)) (files after : FilesState) (words : List Text) (device : Text)
     (last : BusState) (out out' : Option (List ℕ)) (status : ℕ) : Type 0 where
   pub name : Bor Text
   pub operation : Operation
   pub asked : IsAskedFor words name operation
-  pub run : HasRunOperation state files after name operation device last out out' status
+  pub run : HasRunOperation state expected files after name operation device last out out' status
 
 -- Holds if the journal `file` is sealed and undamaged and, if an image was requested, the image was written.
 pub record HasChecked (before after : View) (words : List Text) : Type 0 where
@@ -144,10 +147,11 @@ pub record HasChecked (before after : View) (words : List Text) : Type 0 where
 
 -- Holds in each case in which a run may end with exit status 0: the help, the version or the list was requested,
 -- `--check-journal` found a sealed and undamaged journal, or a job ended with status 0 on the bus `used`.
-abbrev pub HasSucceeded : (state : Connected → BusState) → (files after : FilesState) → List Text
-    → (used : Option Connected) → (out out' : Option (List ℕ)) → Type 0
-HasSucceeded state files after words used out out' = (ArgumentsAskForHelp words
+abbrev pub HasSucceeded : {B : Type 0} (state : Connected B → BusState)
+    (expected : Connected B → Option (List ℕ)) → (files after : FilesState) → List Text
+    → (used : Option (Connected B)) → (out out' : Option (List ℕ)) → Type 0
+HasSucceeded state expected files after words used out out' = (ArgumentsAskForHelp words
     ⊎ IsHardwareJob program words hardware.List)
     ⊎ (HasChecked files.view after.view words
     ⊎ IsSomeAnd used (λ connected.
-    HasRunJob state files after words (device_of connected) (state connected) out out' 0))
+    HasRunJob state expected files after words (device_of connected) (state connected) out out' 0))

@@ -1,26 +1,31 @@
 //! The bus to a chip on a board: all layers below those that read ahead and show the progress.
+ghost use Rattle.std.proofs.Math.Logic.{∥∥₁_map};
 ghost use Rattle.std.proofs.lemmas.Bool.{false≢true};
 ghost use Rattle.std.specs.Prelude.{◌≡◌, [], option_map};
 ghost use Rattle.nor_serprog.specs.Harmless.{IsHarmlessSince};
 ghost use Rattle.nor_buses.specs.Checked.{bus_of, history_of as checked_history};
 ghost use Rattle.nor_buses.specs.Twice.{expected_of, history_of, twice_of};
 ghost use Rattle.flashnor_serprog.specs.BoardBus.{asked_in, expected_in};
-ghost use Rattle.flashnor_serprog.specs.Ports.{asked_over};
+ghost use Rattle.nor_serprog.specs.Link.{port_of};
+ghost use Rattle.nor_serprog.specs.Wire.{asked_on};
 ghost use Rattle.flashnor_serprog.specs.Unused.{IsUnused};
 
-use crate::port::{DevicePort, PortFault};
+use crate::board::{Board, Causes};
+use crate::port::DevicePort;
 use crate::rules::{Checks, Rules};
 use nor_buses::{
-    Accounted, ChangedByte, CheckFault, CheckedStatus, KeptQuad, KnownStatus2, OtherChip,
-    OtherMakers, Paced, ReadTwice, SameChip, SplittingBus, Watched,
+    Accounted, ChangedByte, CheckedStatus, KeptQuad, KnownStatus2, OtherMakers, Paced, ReadTwice,
+    SameChip, SplittingBus, Watched,
 };
 use nor_model::{Bus, Stopped};
-use nor_serprog::{AnyProgrammer, BatchingBus, Failure, Link};
+use nor_serprog::{AnyProgrammer, BatchingBus, Link};
 
 /// The bus to the chip at a serial programmer. ARCHITECTURE describes its layers and their order.
 #[derive(Drop)]
 pub struct BoardBus<'a> {
     layers: Accounted<Layers<'a>>,
+    // the greatest number of bytes that a transaction may read
+    longest_read: u32,
 }
 
 /// The layers of a `BoardBus` that can stop a job. The outermost one compares the unique ID.
@@ -45,19 +50,6 @@ const WITH_ROW: [[u8; 3]; 9] = [
     [0xEF, 0x70, 0x18],
 ];
 
-/// What the layers found out about a transaction that stopped. The first field that contains a cause explains the stop.
-#[derive(Clone, Copy)]
-pub struct Causes<'a> {
-    /// The two unique IDs that were read, if they differed before the first modifying command.
-    pub other: Option<OtherChip>,
-    pub failure: Option<&'a Failure<PortFault>>,
-    pub status: Option<CheckFault>,
-    /// True if the chip lost its contact or its supply while the job waited for it.
-    pub is_lost: bool,
-    /// True if two reads of the same bytes differed.
-    pub differed: bool,
-}
-
 impl<'a> BoardBus<'a> {
     /// Returns an unused bus to the chip at the programmer of `link`. Sectors that equal `image` at their addresses are
     /// read once, other data twice. `image` must be that of `-v` or of a write whose result is compared, because
@@ -69,7 +61,7 @@ impl<'a> BoardBus<'a> {
         image: Option<Vec<u8>>,
         rules: Rules,
     ) -> BoardBus<'a>
-        requires harmless { IsHarmlessSince [] (asked_over link) }
+        requires harmless { IsHarmlessSince [] (asked_on (port_of link).wire) }
         ensures fresh { IsUnused (⟦<BoardBus<'a> as Bus>⟧.state result) }
         ensures expects { expected_in result ≡ option_map (λ image. image.items) image }
         ensures harmless { IsHarmlessSince [] (asked_in result) }
@@ -84,32 +76,7 @@ impl<'a> BoardBus<'a> {
         let other = OtherMakers::new(kept, &WITH_ROW, rules.missing_unique, rules.refuses_uneven);
         BoardBus {
             layers: Accounted::new(SameChip::new(other)),
-        }
-    }
-
-    /// Returns whether the chip's SFDP says that its pages have fewer than 256 bytes.
-    pub fn has_small_pages(&self) -> bool {
-        self.makers().has_small_pages()
-    }
-
-    /// Returns whether a modifying command may have been sent.
-    pub fn has_begun(&self) -> bool {
-        self.checked().has_begun()
-    }
-
-    /// Returns the change of received bytes that the port seems to make, or `None`.
-    pub fn changed_byte(&self) -> Option<ChangedByte> {
-        self.checked().changed_byte()
-    }
-
-    pub fn causes(&self) -> Causes<'_> {
-        let watched = self.checked().inner().inner();
-        Causes {
-            other: self.layers.inner().other(),
-            failure: watched.inner().inner().cause(),
-            status: self.checked().fault(),
-            is_lost: watched.is_lost(),
-            differed: self.twice().differed(),
+            longest_read,
         }
     }
 
@@ -137,6 +104,41 @@ impl<'a> Bus for BoardBus<'a> {
 
     fn has_further_types(&self) -> bool {
         self.layers.has_further_types()
+    }
+}
+
+impl Board for BoardBus<'_> {
+    ghost expected = { expected_in };
+
+    ghost asked = { asked_in };
+
+    ghost accounts = { λ board. ∥∥₁_map board.layers.accounted (λ passed. (_, passed)) };
+
+    fn longest_read(&self) -> u32 {
+        self.longest_read
+    }
+
+    fn has_small_pages(&self) -> bool {
+        self.makers().has_small_pages()
+    }
+
+    fn has_begun(&self) -> bool {
+        self.checked().has_begun()
+    }
+
+    fn changed_byte(&self) -> Option<ChangedByte> {
+        self.checked().changed_byte()
+    }
+
+    fn causes(&self) -> Causes<'_> {
+        let watched = self.checked().inner().inner();
+        Causes {
+            other: self.layers.inner().other(),
+            failure: watched.inner().inner().cause(),
+            status: self.checked().fault(),
+            is_lost: watched.is_lost(),
+            differed: self.twice().differed(),
+        }
     }
 }
 

@@ -1,11 +1,14 @@
 //! A layout on the chip itself (`--fmap`, `--ifd`): reads the part of the chip with the layout, before the job.
 ghost use Rattle.std.specs.Prelude.{◌≡◌, IfErr, IfOk, option_map};
+ghost use Rattle.nor_buses.specs.Ahead.{ahead_of};
 ghost use Rattle.nor_journal.specs.MemVault.{held_by};
+ghost use Rattle.board_progress.specs.ProgressBus.{shown_bus};
 ghost use Rattle.flashnor_serprog.specs.ChipLayouts.{AreReadFor, FailsToReadShown, HasReadLayout, IsReadFirst};
 ghost use Rattle.flashnor_serprog.specs.ChipLayouts.{IsShown, form_on_chip};
 ghost use Rattle.board_files.specs.Regions.{regions_of};
 
-use crate::connect::{ChipBus, connect_by};
+use crate::board::{Board, ChipBus, Connector};
+use crate::connected::connect_by;
 use crate::reports::{print_job_fault, report_changed_byte};
 use crate::rules::Rules;
 use crate::run_fault::RunFault;
@@ -34,19 +37,24 @@ const READING: &str = "Reading the layout from the chip.";
 /// FFh after them), the whole chip for an FMAP. Returns `None`, and uses no programmer, if the layout isn't on the
 /// chip. Sends no modifying command, and reads all data twice. Returns the faults of `connect_by`. Any other fault is
 /// printed with its cause, and returned as `RunFault::AlreadyPrinted`.
-pub fn read_chip_layout<'a, 'b, E: Write>(
-    rt: &'b HostRuntime,
+pub fn read_chip_layout<'a, 'b, D: Connector, E: Write>(
+    connector: &mut D,
+    alloc: Global,
     terminal: Terminal<'b>,
     setting: &Setting<'a>,
     operation: &Operation<'a>,
     errors: &mut E,
 ) -> Result<Option<MemVault>, RunFault<'a>>
-    ensures { IfOk result (λ shown. IsShown (λ connected. ⟦<ChipBus<'b> as Bus>⟧.state connected.bus)
+    ensures { IfOk result (λ shown. IsShown (λ connected. ⟦<ChipBus<'b, D::Board> as Bus>⟧.state connected.bus)
+        (λ connected. D.Board.expected (ahead_of (shown_bus connected.bus)))
         setting.now.device.now operation.now.named (form_on_chip (regions_of operation.now.task))
         (option_map (λ chip. (held_by chip).bytes) shown)) }
 {
     match form_on_chip(&operation.task) {
-        Some(form) => Ok(Some(read_first(rt, terminal, setting, operation, form, errors)?)),
+        Some(form) => {
+            let chip = read_first(connector, alloc, terminal, setting, operation, form, errors)?;
+            Ok(Some(chip))
+        },
         None => Ok(None),
     }
 }
@@ -67,31 +75,33 @@ pub fn form_on_chip(task: &Task<'_>) -> Option<LayoutForm>
     }
 }
 
-fn read_first<'a, 'b, E: Write>(
-    rt: &'b HostRuntime,
+fn read_first<'a, 'b, D: Connector, E: Write>(
+    connector: &mut D,
+    alloc: Global,
     terminal: Terminal<'b>,
     setting: &Setting<'a>,
     operation: &Operation<'a>,
     form: LayoutForm,
     errors: &mut E,
 ) -> Result<MemVault, RunFault<'a>>
-    ensures { IfOk result (λ chip. IsReadFirst (λ connected. ⟦<ChipBus<'b> as Bus>⟧.state connected.bus)
+    ensures { IfOk result (λ chip. IsReadFirst (λ connected. ⟦<ChipBus<'b, D::Board> as Bus>⟧.state connected.bus)
+        (λ connected. D.Board.expected (ahead_of (shown_bus connected.bus)))
         setting.now.device.now operation.now.named form (held_by chip).bytes) }
 {
-    let mut connected = connect_by(rt, terminal, setting, None, Rules::reading())?;
+    let mut connected = connect_by(connector, alloc, terminal, setting, None, Rules::reading())?;
     terminal.print(&READING);
-    read_and_report(&mut connected.bus, operation, form, rt.alloc(), errors)
+    read_and_report(&mut connected.bus, operation, form, alloc, errors)
 }
 
-fn read_and_report<'a, 'b, E: Write>(
-    bus: &mut ChipBus<'b>,
+fn read_and_report<'a, 'b, B: Board + Drop, E: Write>(
+    bus: &mut ChipBus<'b, B>,
     operation: &Operation<'_>,
     form: LayoutForm,
     alloc: Global,
     errors: &mut E,
 ) -> Result<MemVault, RunFault<'a>>
     ensures { IfOk result (λ chip. HasReadLayout operation.now.named form
-        (⟦<ChipBus<'b> as Bus>⟧.state bus.old) (⟦<ChipBus<'b> as Bus>⟧.state bus.new) (held_by chip).bytes) }
+        (⟦<ChipBus<'b, B> as Bus>⟧.state bus.old) (⟦<ChipBus<'b, B> as Bus>⟧.state bus.new) (held_by chip).bytes) }
 {
     match read_layout(bus, operation.named, form, alloc) {
         Ok(chip) => {

@@ -4,8 +4,8 @@ ghost use Rattle.std.specs.Prelude.{◌≡◌, true};
 ghost use Rattle.nor_serprog.specs.Harmless.{StaysHarmless, begins_harmless};
 ghost use Rattle.flashnor_serprog.specs.Ports.{asked_over};
 
-use crate::port::{DevicePort, PortFault};
-use nor_serprog::{Command, Failure, Link};
+use crate::port::PortFault;
+use nor_serprog::{Command, Failure, Link, Port};
 use std::thread;
 use std::time::Duration;
 
@@ -38,12 +38,12 @@ pub enum Contact {
 ///
 /// If status 1 is FFh for 1.5 seconds, but the last 9Fh in this time returns an ID, the device counts as a chip only if
 /// it has SFDP. A busy chip whose status 1 is FFh for 1.5 seconds can't be distinguished from a missing chip.
-pub fn look_for_chip(
+pub fn look_for_chip<P: Port<Cause = PortFault> + Drop>(
     rt: &HostRuntime,
-    link: &mut Link<DevicePort>,
+    link: &mut Link<P>,
     heard: &[u8],
 ) -> Result<Contact, Failure<PortFault>>
-    ensures harmless { StaysHarmless (asked_over link.old) (asked_over link.new) }
+    ensures harmless { StaysHarmless (asked_over P.state link.old) (asked_over P.state link.new) }
 {
     if !is_idle(heard) {
         return Ok(Contact::Present);
@@ -82,23 +82,30 @@ pub fn look_for_chip(
 /// A chip that receives FFh over one line ends a continuous read or quad mode, or ignores FFh. A SPI NAND resets
 /// itself, which interrupts nothing, because its operations take at most 10 ms, and 9Fh and 05h were sent for
 /// 1.5 seconds before.
-fn leave_modes(link: &mut Link<DevicePort>) -> Result<(), Failure<PortFault>>
-    ensures harmless { StaysHarmless (asked_over link.old) (asked_over link.new) }
+fn leave_modes<P: Port<Cause = PortFault> + Drop>(
+    link: &mut Link<P>,
+) -> Result<(), Failure<PortFault>>
+    ensures harmless { StaysHarmless (asked_over P.state link.old) (asked_over P.state link.new) }
 {
     send(link, &[0xFF])?;
     send(link, &[0xFF, 0xFF])
 }
 
-fn send(link: &mut Link<DevicePort>, out: &[u8]) -> Result<(), Failure<PortFault>>
+fn send<P: Port<Cause = PortFault> + Drop>(
+    link: &mut Link<P>,
+    out: &[u8],
+) -> Result<(), Failure<PortFault>>
     requires reads { begins_harmless out.now ≡ true }
-    ensures harmless { StaysHarmless (asked_over link.old) (asked_over link.new) }
+    ensures harmless { StaysHarmless (asked_over P.state link.old) (asked_over P.state link.new) }
 {
     link.exchange(Command::Operate { out, replies: 0 }, &mut [])
 }
 
 // Returns whether the reply to 9Fh has a byte other than FFh.
-fn returns_id(link: &mut Link<DevicePort>) -> Result<bool, Failure<PortFault>>
-    ensures harmless { StaysHarmless (asked_over link.old) (asked_over link.new) }
+fn returns_id<P: Port<Cause = PortFault> + Drop>(
+    link: &mut Link<P>,
+) -> Result<bool, Failure<PortFault>>
+    ensures harmless { StaysHarmless (asked_over P.state link.old) (asked_over P.state link.new) }
 {
     let mut id = [0; 3];
     let read_id = Command::Operate {
@@ -110,8 +117,10 @@ fn returns_id(link: &mut Link<DevicePort>) -> Result<bool, Failure<PortFault>>
 }
 
 // Returns whether the reply to 05h is a byte other than FFh.
-fn returns_status(link: &mut Link<DevicePort>) -> Result<bool, Failure<PortFault>>
-    ensures harmless { StaysHarmless (asked_over link.old) (asked_over link.new) }
+fn returns_status<P: Port<Cause = PortFault> + Drop>(
+    link: &mut Link<P>,
+) -> Result<bool, Failure<PortFault>>
+    ensures harmless { StaysHarmless (asked_over P.state link.old) (asked_over P.state link.new) }
 {
     let mut status = [0; 1];
     let read_status = Command::Operate {
@@ -123,8 +132,10 @@ fn returns_status(link: &mut Link<DevicePort>) -> Result<bool, Failure<PortFault
 }
 
 // Returns whether the reply to 5Ah (Read SFDP) begins with `SFDP` (JESD216).
-fn returns_sfdp(link: &mut Link<DevicePort>) -> Result<bool, Failure<PortFault>>
-    ensures harmless { StaysHarmless (asked_over link.old) (asked_over link.new) }
+fn returns_sfdp<P: Port<Cause = PortFault> + Drop>(
+    link: &mut Link<P>,
+) -> Result<bool, Failure<PortFault>>
+    ensures harmless { StaysHarmless (asked_over P.state link.old) (asked_over P.state link.new) }
 {
     let mut signature = [0; 4];
     let read_sfdp = Command::Operate {

@@ -3,10 +3,12 @@
 #![tactic(auto)]
 
 mod asked;
+mod board;
 mod board_bus;
 mod chip_layouts;
 mod chip_list;
 mod connect;
+mod connected;
 mod contact;
 mod help;
 mod lock_job;
@@ -22,6 +24,7 @@ mod trial_reads;
 mod waking;
 
 use board_progress::{Logged, Screen};
+use connect::Serprog;
 use nor_console::{keep_streams, line_buffered};
 use run::{end_without_descriptors, run_words};
 use std::env;
@@ -40,7 +43,16 @@ fn run_logged<'b>(rt: &'b HostRuntime, screen: &'b Screen, has_descriptors: bool
     let mut used = None;
     if has_descriptors {
         let given = env::args(rt);
-        run_words(rt, screen, given, &mut used, &mut output, &mut errors)
+        let mut serprog = Serprog::new(rt);
+        run_words(
+            rt,
+            &mut serprog,
+            screen,
+            given,
+            &mut used,
+            &mut output,
+            &mut errors,
+        )
     } else {
         end_without_descriptors(&mut errors)
     }

@@ -2,15 +2,18 @@
 ghost use Rattle.std.specs.Prelude.{◌≡◌, IfOk, option_map};
 ghost use Rattle.nor_files.specs.Files.{AreUntouched};
 ghost use Rattle.nor_journal.specs.MemVault.{held_by};
-ghost use Rattle.flashnor_serprog.specs.Connected.{device_of, expected_by};
+ghost use Rattle.nor_buses.specs.Ahead.{ahead_of};
+ghost use Rattle.board_progress.specs.ProgressBus.{shown_bus};
+ghost use Rattle.flashnor_serprog.specs.Connected.{device_of};
 ghost use Rattle.flashnor_serprog.specs.Unused.{IsUnused};
 ghost use Rattle.board_progress.specs.Logging.{CreatesLog};
 ghost use Rattle.board_files.specs.Regions.{regions_of};
 ghost use Rattle.flashnor_serprog.specs.Run.{IsPrepared};
 ghost use Rattle.board_files.specs.Sources.{ArePlainNames, MayExpectImage};
 
+use crate::board::{ChipBus, Connector};
 use crate::chip_layouts::{form_on_chip, read_chip_layout};
-use crate::connect::{ChipBus, Connected, connect_by};
+use crate::connected::{Connected, connect_by};
 use crate::rules::{Checks, Rules};
 use crate::run_fault::RunFault;
 use crate::setting::Setting;
@@ -31,38 +34,42 @@ use std::io::Write;
 
 /// The contents of an operation's files, and the bus to its chip.
 #[derive(Drop)]
-pub struct Prepared<'a, 'b> {
+pub struct Prepared<'a, B> {
     pub regions: Vec<RegionFile<'a>>,
     /// The included region that has the greatest address.
     pub farthest: Option<Farthest<'a>>,
     pub sources: Sources,
-    pub connected: Connected<'b>,
+    pub connected: Connected<B>,
 }
 
 /// Prepares the operation, and returns the first fault. Checks and reads the files (`read_files`), starts the log, and
 /// identifies the programmer for the job. `names` must come from `plain_names`.
 #[tactic(auto, using(crate::proofs::LogMade::log_steps))]
-pub fn prepare<'a, 'b, R: Store<Log = LogFile<File>>, E: Write>(
+pub fn prepare<'a, 'b, D: Connector, R: Store<Log = LogFile<File>>, E: Write>(
     rt: &'b HostRuntime,
+    connector: &mut D,
     screen: &'b Screen,
     files: &mut R,
     setting: &Setting<'a>,
     operation: &Operation<'a>,
     names: &'a str,
     errors: &mut E,
-) -> Result<Prepared<'a, 'b>, RunFault<'a>>
+) -> Result<Prepared<'a, ChipBus<'b, D::Board>>, RunFault<'a>>
     requires { ArePlainNames (regions_of operation.now.task) names.now }
     ensures logged { CreatesLog operation.now.log (R.state files.old) (R.state files.new) }
-    ensures ok { IfOk result (λ prepared. IsPrepared (λ connected. ⟦<ChipBus<'b> as Bus>⟧.state connected.bus)
+    ensures ok { IfOk result (λ prepared. IsPrepared (λ connected. ⟦<ChipBus<'b, D::Board> as Bus>⟧.state connected.bus)
+        (λ connected. D.Board.expected (ahead_of (shown_bus connected.bus)))
         (R.state files.old).view setting.now.device operation.now
         prepared.regions.items prepared.sources.included prepared.sources.bytes.items) }
     ensures named { IfOk result (λ prepared. device_of prepared.connected ≡ setting.now.device.now) }
-    ensures fresh { IfOk result (λ prepared. IsUnused (⟦<ChipBus<'b> as Bus>⟧.state prepared.connected.bus)) }
+    ensures fresh { IfOk result (λ prepared. IsUnused (⟦<ChipBus<'b, D::Board> as Bus>⟧.state prepared.connected.bus)) }
     ensures expected { IfOk result (λ prepared. MayExpectImage operation.now prepared.sources.bytes.items
-        (expected_by prepared.connected)) }
+        (D.Board.expected (ahead_of (shown_bus prepared.connected.bus)))) }
 {
     let terminal = Terminal::new(rt, screen, operation.progress, operation.is_verbose);
-    let read = read_files(rt, terminal, files, setting, operation, names, errors)?;
+    let read = read_files(
+        rt, connector, terminal, files, setting, operation, names, errors,
+    )?;
     let JobFiles {
         regions,
         farthest,
@@ -73,7 +80,7 @@ pub fn prepare<'a, 'b, R: Store<Log = LogFile<File>>, E: Write>(
     check_started(screen.log(), operation.log)?;
     print_replaced(errors, operation);
     let rules = rules_for(operation, &sources.bytes);
-    let connected = connect_by(rt, terminal, setting, image, rules)?;
+    let connected = connect_by(connector, rt.alloc(), terminal, setting, image, rules)?;
     Ok(Prepared {
         regions,
         farthest,
@@ -91,8 +98,9 @@ struct JobFiles<'a> {
 
 // Checks and reads the files of the operation, and returns the first fault. The roles of the files, the log, the file
 // of a backup, and the image are checked before a layout is read from the chip (`read_chip_layout`).
-fn read_files<'a, 'b, R: Store<Log = LogFile<File>>, E: Write>(
+fn read_files<'a, 'b, D: Connector, R: Store<Log = LogFile<File>>, E: Write>(
     rt: &'b HostRuntime,
+    connector: &mut D,
     terminal: Terminal<'b>,
     files: &mut R,
     setting: &Setting<'a>,
@@ -102,7 +110,8 @@ fn read_files<'a, 'b, R: Store<Log = LogFile<File>>, E: Write>(
 ) -> Result<JobFiles<'a>, RunFault<'a>>
     requires { ArePlainNames (regions_of operation.now.task) names.now }
     ensures same { AreUntouched (R.state files.old) (R.state files.new) }
-    ensures ok { IfOk result (λ read. IsPrepared (λ connected. ⟦<ChipBus<'b> as Bus>⟧.state connected.bus)
+    ensures ok { IfOk result (λ read. IsPrepared (λ connected. ⟦<ChipBus<'b, D::Board> as Bus>⟧.state connected.bus)
+        (λ connected. D.Board.expected (ahead_of (shown_bus connected.bus)))
         (R.state files.old).view setting.now.device operation.now
         read.regions.items read.sources.included read.sources.bytes.items) }
 {
@@ -111,7 +120,7 @@ fn read_files<'a, 'b, R: Store<Log = LogFile<File>>, E: Write>(
     check_log(files, operation.log)?;
     check_new(files, operation)?;
     reject_wrong_sources(files, operation)?;
-    let chip = read_chip_layout(rt, terminal, setting, operation, errors)?;
+    let chip = read_chip_layout(connector, rt.alloc(), terminal, setting, operation, errors)?;
     let shown = bytes_of(&chip);
     let included = find_included(files, named_regions(&operation.task, names), shown)?;
     let regions = find_region_files(files, &operation.task, shown)?;

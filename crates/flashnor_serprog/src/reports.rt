@@ -3,7 +3,7 @@ ghost use Rattle.std.specs.Prelude.{◌≡◌, ◌≤◌, false, true};
 ghost use Rattle.nor_journal.specs.Text.{Content, IsContent, text};
 ghost use Rattle.board_hints.specs.declared.chip_after.ChipAfter.TheVariants.{Unchanged};
 
-use crate::connect::{ChipBus, board_in};
+use crate::board::{Board, ChipBus, board_in};
 use crate::run_fault::RunFault;
 use crate::stop_line::StopLine;
 use board_files::{Farthest, MapLines};
@@ -40,10 +40,10 @@ pub fn print_run_fault<E: Write>(
 /// error 12 or the line for a port that changes bytes, and its note. `saved` is what the journal of a restore says
 /// about its chip. `unwritten` is the reason why the journal or the output can't be written. `farthest` is the included
 /// region that has the greatest address.
-pub fn print_job_fault<E: Write>(
+pub fn print_job_fault<B: Board + Drop, E: Write>(
     errors: &mut E,
     fault: &JobFault<'_>,
-    bus: &ChipBus<'_>,
+    bus: &ChipBus<'_, B>,
     operation: &Operation<'_>,
     saved: Option<Saved>,
     unwritten: Option<SystemReason>,
@@ -74,11 +74,11 @@ pub fn print_job_fault<E: Write>(
 
 /// Removes the incomplete journal of a session that returned an error and didn't change the chip. If this file
 /// or the file of a backup that returned an error still exists, prints that the next run needs another name.
-pub fn clear_journal<R: Store, E: Write>(
+pub fn clear_journal<R: Store, B: Board + Drop, E: Write>(
     errors: &mut E,
     files: &R,
     fault: &JobFault<'_>,
-    bus: &ChipBus<'_>,
+    bus: &ChipBus<'_, B>,
     operation: &Operation<'_>,
 ) {
     let JobFault::Fault(Fault::Refused(_)) = fault else {
@@ -126,7 +126,11 @@ fn is_begun_journal(bytes: &[u8]) -> bool
 const LONGEST_JOURNAL: u64 = 1 << 25;
 
 /// Prints a line and returns 1 if the port seems to change bytes that are received. Otherwise returns `status`.
-pub fn report_changed_byte<E: Write>(errors: &mut E, bus: &ChipBus<'_>, status: u8) -> u8
+pub fn report_changed_byte<B: Board + Drop, E: Write>(
+    errors: &mut E,
+    bus: &ChipBus<'_, B>,
+    status: u8,
+) -> u8
     ensures few { status ≤ 1 → result ≤ 1 }
     ensures failed { result ≡ 0 → status ≡ 0 }
 {
@@ -141,9 +145,9 @@ pub fn report_changed_byte<E: Write>(errors: &mut E, bus: &ChipBus<'_>, status: 
 
 /// Prints a line and returns 1 if a restore that succeeded (`status` is 0) left QE, LB1 to LB3 or the reserved bit
 /// unlike its journal. A QE that is set now doesn't count, because boards set QE. Otherwise returns `status`.
-pub fn report_kept_bits<E: Write>(
+pub fn report_kept_bits<B: Board + Drop, E: Write>(
     errors: &mut E,
-    bus: &ChipBus<'_>,
+    bus: &ChipBus<'_, B>,
     saved: Option<Saved>,
     status: u8,
 ) -> u8
@@ -172,7 +176,11 @@ const BOARD_BITS: u8 = 0x3E;
 const KEPT_BITS: &str =
     "All bytes and protection bits are restored, but not the status bits of the line \"Not restored\" above.";
 
-fn print_cause<E: Write>(errors: &mut E, bus: &ChipBus<'_>, left: ChipAfter<'_>) {
+fn print_cause<B: Board + Drop, E: Write>(
+    errors: &mut E,
+    bus: &ChipBus<'_, B>,
+    left: ChipAfter<'_>,
+) {
     let line = StopLine {
         causes: board_in(bus).causes(),
         left,
@@ -180,9 +188,9 @@ fn print_cause<E: Write>(errors: &mut E, bus: &ChipBus<'_>, left: ChipAfter<'_>)
     let _ = writeln!(errors, "{line}");
 }
 
-fn left_after<'a>(
+fn left_after<'a, B: Board + Drop>(
     fault: &JobFault<'_>,
-    bus: &ChipBus<'_>,
+    bus: &ChipBus<'_, B>,
     operation: &Operation<'a>,
 ) -> ChipAfter<'a> {
     if fault.follows_completion() {

@@ -1,20 +1,26 @@
 //! A run of the program: from its arguments to its exit status.
 ghost use Rattle.std.specs.Prelude.{◌≡◌, ◌≤◌, IfErr, IfOk, IfSome, IsSome, None, is_some, map, string_bytes, true};
 ghost use Rattle.nor_files.specs.Disk.{unknown};
+ghost use Rattle.nor_files.specs.Files.{is_lawful};
 ghost use Rattle.nor_args.specs.Words.{arguments_of};
 ghost use Rattle.nor_console.specs.Printing.{Prints};
-ghost use Rattle.flashnor_serprog.specs.Connected.{asked_by, device_of};
+ghost use Rattle.nor_buses.specs.Ahead.{ahead_of};
+ghost use Rattle.board_progress.specs.ProgressBus.{shown_bus};
+ghost use Rattle.flashnor_serprog.specs.Connected.{device_of};
 ghost use Rattle.board_jobs.specs.Ending.{AreJobLines};
 ghost use Rattle.flashnor_serprog.specs.Run.{AsksForHelp, HasRun, HasRunBy, HasRunJob};
 ghost use Rattle.flashnor_serprog.specs.Run.{HasRunOperation, HasSucceeded};
 ghost use Rattle.flashnor_serprog.specs.Wired.{AsksOnly};
+ghost use Rattle.flashnor_serprog.specs.Sealed.{SealsJob, SealsOperation};
+ghost use Rattle.board_jobs.specs.Sealing.{SealsTask};
 ghost use Rattle.board_files.specs.RegionCopies.{AreCopied, KeepsOutput};
 ghost use Rattle.board_files.specs.Regions.{regions_of};
 ghost use Rattle.board_files.specs.Sources.{ArePlainNames};
 
 use crate::asked::{Asked, read_words};
+use crate::board::{Board, ChipBus, Connector};
 use crate::chip_list::print_chip_list;
-use crate::connect::{ChipBus, Connected};
+use crate::connected::Connected;
 use crate::lock_job::run_lock;
 use crate::preparing::{Prepared, prepare};
 use crate::reports::{
@@ -50,25 +56,28 @@ use std::io::Write;
 /// `used` must be `None`, and receives the bus of the job if `connect_by` returned one for the job. Each
 /// modifying command that its port was asked for was made for one that the bus was asked for (`wired`). The clauses
 /// assume nothing about the system's files. The clauses of `run_over` say more if the files obey their contract.
-pub fn run_words<'b, O: Write, E: Write>(
+pub fn run_words<'b, D: Connector, O: Write, E: Write>(
     rt: &'b HostRuntime,
+    connector: &mut D,
     screen: &'b Screen,
     given: io::Result<Args>,
-    used: &mut Option<Connected<'b>>,
+    used: &mut Option<Connected<ChipBus<'b, D::Board>>>,
     output: &mut O,
     errors: &mut E,
 ) -> u8
     requires { used.old ≡ None }
     ensures few { result ≤ 1 }
     ensures done { IfOk given (λ args. result ≡ 0 → HasSucceeded
-        (λ connected. ⟦<ChipBus<'b> as Bus>⟧.state connected.bus) unknown unknown (arguments_of args) used.new
+        (λ connected. ⟦<ChipBus<'b, D::Board> as Bus>⟧.state connected.bus)
+        (λ connected. D.Board.expected (ahead_of (shown_bus connected.bus))) unknown unknown (arguments_of args) used.new
         (O.contents output.old) (O.contents output.new)) }
     ensures ran { IfOk given (λ args. IfSome used.new (λ connected. HasRunJob
-        (λ connected. ⟦<ChipBus<'b> as Bus>⟧.state connected.bus) unknown unknown (arguments_of args)
-        (device_of connected) (⟦<ChipBus<'b> as Bus>⟧.state connected.bus)
+        (λ connected. ⟦<ChipBus<'b, D::Board> as Bus>⟧.state connected.bus)
+        (λ connected. D.Board.expected (ahead_of (shown_bus connected.bus))) unknown unknown (arguments_of args)
+        (device_of connected) (⟦<ChipBus<'b, D::Board> as Bus>⟧.state connected.bus)
         (O.contents output.old) (O.contents output.new) result)) }
-    ensures wired { IfSome used.new (λ connected. AsksOnly (asked_by connected)
-        (⟦<ChipBus<'b> as Bus>⟧.state connected.bus).sent) }
+    ensures wired { IfSome used.new (λ connected. AsksOnly (D.Board.asked (ahead_of (shown_bus connected.bus)))
+        (⟦<ChipBus<'b, D::Board> as Bus>⟧.state connected.bus).sent) }
     ensures unread { IfErr given (λ error. result ≡ 1) }
     ensures unused { IfErr given (λ error. used.new ≡ None) }
 {
@@ -76,6 +85,7 @@ pub fn run_words<'b, O: Write, E: Write>(
         Ok(args) => match arguments_after_name(rt.alloc(), args) {
             Ok(words) => run_over(
                 rt,
+                connector,
                 screen,
                 &mut Disk::new(rt),
                 used,
@@ -98,25 +108,31 @@ pub fn end_without_descriptors<E: Write>(errors: &mut E) -> u8
 
 /// Performs the job given by `words`, the arguments without the program's name, over any store of files. If the files
 /// obey the contract of `Store` (`is_lawful`), the clauses also say what a change sent and what its journal contains.
-pub fn run_over<'b, R: Store<Log = LogFile<File>>, O: Write, E: Write>(
+pub fn run_over<'b, D: Connector, R: Store<Log = LogFile<File>>, O: Write, E: Write>(
     rt: &'b HostRuntime,
+    connector: &mut D,
     screen: &'b Screen,
     files: &mut R,
-    used: &mut Option<Connected<'b>>,
+    used: &mut Option<Connected<ChipBus<'b, D::Board>>>,
     words: &[String],
     output: &mut O,
     errors: &mut E,
 ) -> u8
     requires { used.old ≡ None }
     ensures few { result ≤ 1 }
-    ensures done { result ≡ 0 → HasSucceeded (λ connected. ⟦<ChipBus<'b> as Bus>⟧.state connected.bus)
+    ensures done { result ≡ 0 → HasSucceeded (λ connected. ⟦<ChipBus<'b, D::Board> as Bus>⟧.state connected.bus)
+        (λ connected. D.Board.expected (ahead_of (shown_bus connected.bus)))
         (R.state files.old) (R.state files.new) (map string_bytes words.now) used.new
         (O.contents output.old) (O.contents output.new) }
-    ensures ran { IfSome used.new (λ connected. HasRunJob (λ connected. ⟦<ChipBus<'b> as Bus>⟧.state connected.bus)
+    ensures ran { IfSome used.new (λ connected. HasRunJob (λ connected. ⟦<ChipBus<'b, D::Board> as Bus>⟧.state connected.bus)
+        (λ connected. D.Board.expected (ahead_of (shown_bus connected.bus)))
         (R.state files.old) (R.state files.new) (map string_bytes words.now) (device_of connected)
-        (⟦<ChipBus<'b> as Bus>⟧.state connected.bus) (O.contents output.old) (O.contents output.new) result) }
-    ensures wired { IfSome used.new (λ connected. AsksOnly (asked_by connected)
-        (⟦<ChipBus<'b> as Bus>⟧.state connected.bus).sent) }
+        (⟦<ChipBus<'b, D::Board> as Bus>⟧.state connected.bus) (O.contents output.old) (O.contents output.new) result) }
+    ensures sealed { is_lawful (R.state files.old).view ≡ true → IfSome used.new (λ connected.
+        SealsJob R.Filed.state R.Filed.synced (map string_bytes words.now)
+        (⟦<ChipBus<'b, D::Board> as Bus>⟧.state connected.bus) (R.state files.new)) }
+    ensures wired { IfSome used.new (λ connected. AsksOnly (D.Board.asked (ahead_of (shown_bus connected.bus)))
+        (⟦<ChipBus<'b, D::Board> as Bus>⟧.state connected.bus).sent) }
 {
     let mut included = None;
     match read_words(rt.alloc(), words, &mut included) {
@@ -131,7 +147,8 @@ pub fn run_over<'b, R: Store<Log = LogFile<File>>, O: Write, E: Write>(
         Ok(Asked::Chip { setting, operation }) => {
             match plain_names(rt.alloc(), &operation.task) {
                 Ok(names) => run_on_chip(
-                    rt, screen, files, used, &setting, &operation, &names, output, errors,
+                    rt, connector, screen, files, used, &setting, &operation, &names, output,
+                    errors,
                 ),
                 Err(_) => end_badly(errors, &Fault::out_of_memory()),
             }
@@ -141,11 +158,12 @@ pub fn run_over<'b, R: Store<Log = LogFile<File>>, O: Write, E: Write>(
 }
 
 // Performs an operation on the chip of a programmer. `names` must be what `plain_names` returns for its task.
-fn run_on_chip<'a, 'b, R: Store<Log = LogFile<File>>, O: Write, E: Write>(
+fn run_on_chip<'a, 'b, D: Connector, R: Store<Log = LogFile<File>>, O: Write, E: Write>(
     rt: &'b HostRuntime,
+    connector: &mut D,
     screen: &'b Screen,
     files: &mut R,
-    used: &mut Option<Connected<'b>>,
+    used: &mut Option<Connected<ChipBus<'b, D::Board>>>,
     setting: &Setting<'a>,
     operation: &Operation<'a>,
     names: &'a str,
@@ -157,16 +175,22 @@ fn run_on_chip<'a, 'b, R: Store<Log = LogFile<File>>, O: Write, E: Write>(
     ensures few { result ≤ 1 }
     ensures used { result ≡ 0 → is_some used.new ≡ true }
     ensures ran { IfSome used.new (λ connected. HasRunOperation
-        (λ connected. ⟦<ChipBus<'b> as Bus>⟧.state connected.bus) (R.state files.old) (R.state files.new)
-        setting.now.device operation.now (device_of connected) (⟦<ChipBus<'b> as Bus>⟧.state connected.bus)
+        (λ connected. ⟦<ChipBus<'b, D::Board> as Bus>⟧.state connected.bus)
+        (λ connected. D.Board.expected (ahead_of (shown_bus connected.bus))) (R.state files.old) (R.state files.new)
+        setting.now.device operation.now (device_of connected) (⟦<ChipBus<'b, D::Board> as Bus>⟧.state connected.bus)
         (O.contents output.old) (O.contents output.new) result) }
-    ensures wired { IfSome used.new (λ connected. AsksOnly (asked_by connected)
-        (⟦<ChipBus<'b> as Bus>⟧.state connected.bus).sent) }
+    ensures sealed { is_lawful (R.state files.old).view ≡ true → IfSome used.new (λ connected.
+        SealsOperation R.Filed.state R.Filed.synced operation.now
+        (⟦<ChipBus<'b, D::Board> as Bus>⟧.state connected.bus) (R.state files.new)) }
+    ensures wired { IfSome used.new (λ connected. AsksOnly (D.Board.asked (ahead_of (shown_bus connected.bus)))
+        (⟦<ChipBus<'b, D::Board> as Bus>⟧.state connected.bus).sent) }
 {
     if !is_new(files, operation, errors) {
         return 1;
     }
-    match prepare(rt, screen, files, setting, operation, names, errors) {
+    match prepare(
+        rt, connector, screen, files, setting, operation, names, errors,
+    ) {
         Ok(
             Prepared {
                 regions,
@@ -214,9 +238,9 @@ fn asked_text<'a>(run_fault: &'a RunFault<'_>) -> Option<&'a WordsError>
     }
 }
 
-fn run_prepared<'b, R: Store, O: Write, E: Write>(
+fn run_prepared<'b, R: Store, B: Board + Drop, O: Write, E: Write>(
     files: &mut R,
-    bus: &mut ChipBus<'b>,
+    bus: &mut ChipBus<'b, B>,
     operation: &Operation<'_>,
     regions: &[RegionFile<'_>],
     farthest: Option<Farthest<'_>>,
@@ -224,10 +248,13 @@ fn run_prepared<'b, R: Store, O: Write, E: Write>(
     output: &mut O,
     errors: &mut E,
 ) -> u8
-    ensures { HasRunBy operation.now.srp0 operation.now regions.now sources.included sources.bytes.items
+    ensures ran { HasRunBy operation.now.srp0 operation.now regions.now sources.included sources.bytes.items
         (R.state files.old).view (R.state files.new)
-        (⟦<ChipBus<'b> as Bus>⟧.state bus.old) (⟦<ChipBus<'b> as Bus>⟧.state bus.new)
+        (⟦<ChipBus<'b, B> as Bus>⟧.state bus.old) (⟦<ChipBus<'b, B> as Bus>⟧.state bus.new)
         (O.contents output.old) (O.contents output.new) result }
+    ensures sealed { is_lawful (R.state files.old).view ≡ true → operation.now.srp0 ≡ None
+        → SealsTask R.Filed.state R.Filed.synced operation.now.task (⟦<ChipBus<'b, B> as Bus>⟧.state bus.old)
+        (⟦<ChipBus<'b, B> as Bus>⟧.state bus.new) (R.state files.new) }
 {
     match operation.srp0 {
         Some(srp0) => run_lock(bus, operation, srp0, output, errors),
@@ -238,9 +265,9 @@ fn run_prepared<'b, R: Store, O: Write, E: Write>(
 }
 
 // Performs an operation other than a change of SRP0, prints its answer or its fault, and returns the exit status.
-fn run_job<'b, R: Store, O: Write, E: Write>(
+fn run_job<'b, R: Store, B: Board + Drop, O: Write, E: Write>(
     files: &mut R,
-    bus: &mut ChipBus<'b>,
+    bus: &mut ChipBus<'b, B>,
     operation: &Operation<'_>,
     regions: &[RegionFile<'_>],
     farthest: Option<Farthest<'_>>,
@@ -248,10 +275,13 @@ fn run_job<'b, R: Store, O: Write, E: Write>(
     output: &mut O,
     errors: &mut E,
 ) -> u8
-    ensures { HasRun operation.now regions.now sources.included sources.bytes.items
+    ensures ran { HasRun operation.now regions.now sources.included sources.bytes.items
         (R.state files.old).view (R.state files.new)
-        (⟦<ChipBus<'b> as Bus>⟧.state bus.old) (⟦<ChipBus<'b> as Bus>⟧.state bus.new)
+        (⟦<ChipBus<'b, B> as Bus>⟧.state bus.old) (⟦<ChipBus<'b, B> as Bus>⟧.state bus.new)
         (O.contents output.old) (O.contents output.new) result }
+    ensures sealed { is_lawful (R.state files.old).view ≡ true
+        → SealsTask R.Filed.state R.Filed.synced operation.now.task (⟦<ChipBus<'b, B> as Bus>⟧.state bus.old)
+        (⟦<ChipBus<'b, B> as Bus>⟧.state bus.new) (R.state files.new) }
 {
     let saved = saved_by(&operation.task, &sources);
     set_progress_job(bus, &operation.task, saved, files.alloc());
@@ -283,9 +313,9 @@ fn run_job<'b, R: Store, O: Write, E: Write>(
 }
 
 /// Returns the exit status `printed`, or 1 after a report of changed bytes (`report_changed_byte`) or a lost log line.
-pub fn end_run<'b, E: Write>(
+pub fn end_run<'b, B: Board + Drop, E: Write>(
     errors: &mut E,
-    bus: &ChipBus<'b>,
+    bus: &ChipBus<'b, B>,
     operation: &Operation<'_>,
     printed: u8,
 ) -> u8
@@ -348,8 +378,13 @@ fn saved_by(task: &Task<'_>, sources: &Sources) -> Option<Saved> {
 }
 
 // Records in the bus the facts about the task for the lines that are printed before the first modifying command.
-fn set_progress_job<'b>(bus: &mut ChipBus<'b>, task: &Task<'_>, saved: Option<Saved>, alloc: Global)
-    ensures { ⟦<ChipBus<'b> as Bus>⟧.state bus.new ≡ ⟦<ChipBus<'b> as Bus>⟧.state bus.old }
+fn set_progress_job<'b, B: Board + Drop>(
+    bus: &mut ChipBus<'b, B>,
+    task: &Task<'_>,
+    saved: Option<Saved>,
+    alloc: Global,
+)
+    ensures { ⟦<ChipBus<'b, B> as Bus>⟧.state bus.new ≡ ⟦<ChipBus<'b, B> as Bus>⟧.state bus.old }
 {
     let journal = journal_of(task).and_then(|file| String::from_str(alloc, file).ok());
     let status = saved.map(|saved| saved.status);

@@ -1,6 +1,6 @@
 //! The line that follows the line of error 12: the cause and, in most cases, what to do and how the job left the chip.
 
-use crate::board_bus::Causes;
+use crate::board::Causes;
 use crate::run_fault::FailureText;
 use board_hints::ChipAfter;
 use board_progress::{DIFFERED, OtherLine, StatusLine, keeps_srp0};

@@ -3,9 +3,9 @@ ghost use Rattle.std.specs.Prelude.{◌≡◌, ◌≤◌, ◌<◌, ◌^◌, true
 ghost use Rattle.nor_serprog.specs.Harmless.{StaysHarmless, begins_harmless};
 ghost use Rattle.flashnor_serprog.specs.Ports.{asked_over};
 
-use crate::port::{DevicePort, PortFault};
+use crate::port::PortFault;
 use crate::run_fault::ProgrammerFault;
-use nor_serprog::{AnyProgrammer, Command, Failure, HandshakeFault, Link};
+use nor_serprog::{AnyProgrammer, Command, Failure, HandshakeFault, Link, Port};
 
 // Read Data (03h) takes three address bytes. Read Status Register-1 (05h) returns status 1 until the chip is deselected
 // (W25Q64FV datasheet, Instructions).
@@ -45,11 +45,11 @@ const PROGRAM: usize = 260;
 /// An interrupted erase may leave bytes that change from read to read, and these must not prevent a restore. So a
 /// difference counts only if both reads, when repeated, return the same bytes as before. Repeated reads in a long frame
 /// may return other bytes, if these are wrong, too.
-pub fn try_reads(
-    link: &mut Link<DevicePort>,
+pub fn try_reads<P: Port<Cause = PortFault> + Drop>(
+    link: &mut Link<P>,
     programmer: &AnyProgrammer,
 ) -> Result<(), ProgrammerFault>
-    ensures harmless { StaysHarmless (asked_over link.old) (asked_over link.new) }
+    ensures harmless { StaysHarmless (asked_over P.state link.old) (asked_over P.state link.new) }
 {
     let most = programmer.longest_read();
     compare_overlaps(link, shorter(MOST, most))?;
@@ -81,10 +81,13 @@ enum Overlap {
 
 // Compares overlapping reads until they agree at a trial address. Fails with `Addresses` if the reads differ as they do
 // on a chip in four-byte mode.
-fn compare_overlaps(link: &mut Link<DevicePort>, len: usize) -> Result<(), ProgrammerFault>
+fn compare_overlaps<P: Port<Cause = PortFault> + Drop>(
+    link: &mut Link<P>,
+    len: usize,
+) -> Result<(), ProgrammerFault>
     requires some { 1 ≤ len }
     requires most { len ≤ 32 }
-    ensures harmless { StaysHarmless (asked_over link.old) (asked_over link.new) }
+    ensures harmless { StaysHarmless (asked_over P.state link.old) (asked_over P.state link.new) }
 {
     let mut differs_in_most = false;
     let mut always_differs = true;
@@ -106,15 +109,15 @@ fn compare_overlaps(link: &mut Link<DevicePort>, len: usize) -> Result<(), Progr
 
 // Reads `len` bytes at `address`, and `len - 1` bytes at the next address. If the overlapping bytes differ, repeats the
 // reads.
-fn try_overlap(
-    link: &mut Link<DevicePort>,
+fn try_overlap<P: Port<Cause = PortFault> + Drop>(
+    link: &mut Link<P>,
     address: u32,
     len: usize,
 ) -> Result<Overlap, ProgrammerFault>
     requires address { address < 2 ^ 23 }
     requires some { 1 ≤ len }
     requires most { len ≤ 32 }
-    ensures harmless { StaysHarmless (asked_over link.old) (asked_over link.new) }
+    ensures harmless { StaysHarmless (asked_over P.state link.old) (asked_over P.state link.new) }
 {
     let mut first = [0; MOST];
     let mut second = [0; MOST];
@@ -152,15 +155,15 @@ fn are_alike(one: &[u8], other: &[u8]) -> bool {
 
 // Returns the first address from which a long frame shows whether all its padding arrived (`is_telling`), or `None` if
 // no trial address does.
-fn find_place(
-    link: &mut Link<DevicePort>,
+fn find_place<P: Port<Cause = PortFault> + Drop>(
+    link: &mut Link<P>,
     padding: usize,
     most: u32,
 ) -> Result<Option<u32>, ProgrammerFault>
     requires some { 1 ≤ padding }
     requires most { padding ≤ 256 }
     ensures place { IfOk result (λ place. IfSome place (λ address. address ≤ 0xFFFEF0)) }
-    ensures harmless { StaysHarmless (asked_over link.old) (asked_over link.new) }
+    ensures harmless { StaysHarmless (asked_over P.state link.old) (asked_over P.state link.new) }
 {
     for place in 0..=PLACES {
         let address = if place < PLACES { place * STEP } else { TOP };
@@ -174,8 +177,8 @@ fn find_place(
 // Returns whether the bytes at `address + padding` aren't all equal, and don't occur in the reply to one read of
 // `padding` bytes (but at most `most`) from `address` on. Firmware that loses padding bytes makes the chip return bytes
 // of this range.
-fn is_telling(
-    link: &mut Link<DevicePort>,
+fn is_telling<P: Port<Cause = PortFault> + Drop>(
+    link: &mut Link<P>,
     address: u32,
     padding: usize,
     most: u32,
@@ -183,7 +186,7 @@ fn is_telling(
     requires address { address ≤ 0xFFFEF0 }
     requires some { 1 ≤ padding }
     requires most { padding ≤ 256 }
-    ensures harmless { StaysHarmless (asked_over link.old) (asked_over link.new) }
+    ensures harmless { StaysHarmless (asked_over P.state link.old) (asked_over P.state link.new) }
 {
     let few = shorter(FEW, most);
     let mut bytes = [0; FEW];
@@ -205,8 +208,8 @@ fn is_telling(
 // frame. The bytes are those at `place + len - 4` or, if `place` is `None`, status 1. Returns `LongFrames` if the reply
 // to the long frame is wrong three times, and that to the short frame the same each time. Returns a fault of `of_long`
 // if the long frame fails; a refused frame fails only if sending it without a reply fails, too.
-fn try_long_frame(
-    link: &mut Link<DevicePort>,
+fn try_long_frame<P: Port<Cause = PortFault> + Drop>(
+    link: &mut Link<P>,
     place: Option<u32>,
     len: usize,
     replies: usize,
@@ -215,7 +218,7 @@ fn try_long_frame(
     requires some { 5 ≤ len }
     requires most { len ≤ 260 }
     requires few { replies ≤ 4 }
-    ensures harmless { StaysHarmless (asked_over link.old) (asked_over link.new) }
+    ensures harmless { StaysHarmless (asked_over P.state link.old) (asked_over P.state link.new) }
 {
     let mut behind = [0; FEW];
     let mut direct = [0; FEW];
@@ -241,8 +244,9 @@ fn try_long_frame(
 
 // Reads in a frame that sends `len` bytes. If the programmer refuses the frame, sends the frame without a reply
 // and returns false, because the buffer of the programmer may be just long enough for a page program.
-fn read_behind(
-    link: &mut Link<DevicePort>,
+#[tactic(auto, using(crate::proofs::Started::harmless_start))]
+fn read_behind<P: Port<Cause = PortFault> + Drop>(
+    link: &mut Link<P>,
     place: Option<u32>,
     len: usize,
     reply: &mut [u8],
@@ -250,11 +254,9 @@ fn read_behind(
     requires some { 4 ≤ len }
     requires most { len ≤ 260 }
     requires few { length reply.old ≤ 4 }
-    ensures harmless { StaysHarmless (asked_over link.old) (asked_over link.new) }
+    ensures harmless { StaysHarmless (asked_over P.state link.old) (asked_over P.state link.new) }
 {
-    // The padding is 00h, because this byte changes no chip, even if the programmer sends it as an opcode.
-    let mut out = [0; PROGRAM];
-    out[..4].copy_from_slice(&first_bytes(place));
+    let out = long_frame(place);
     match operate(link, &out[..len], reply) {
         Ok(()) => Ok(true),
         Err(Failure::Refused(_)) => {
@@ -263,6 +265,16 @@ fn read_behind(
         }
         Err(failure) => Err(of_long(failure)),
     }
+}
+
+// Returns the first bytes of a long frame, and padding. The padding is 00h, because this byte changes no chip, even if
+// the programmer sends it as an opcode.
+fn long_frame(place: Option<u32>) -> [u8; PROGRAM]
+    ensures reads { begins_harmless result ≡ true }
+{
+    let mut out = [0; PROGRAM];
+    out[..4].copy_from_slice(&first_bytes(place));
+    out
 }
 
 fn first_bytes(place: Option<u32>) -> [u8; 4]
@@ -274,22 +286,27 @@ fn first_bytes(place: Option<u32>) -> [u8; 4]
     }
 }
 
-fn send_only(link: &mut Link<DevicePort>, out: &[u8]) -> Result<(), ProgrammerFault>
+fn send_only<P: Port<Cause = PortFault> + Drop>(
+    link: &mut Link<P>,
+    out: &[u8],
+) -> Result<(), ProgrammerFault>
     requires reads { begins_harmless out.now ≡ true }
-    ensures harmless { StaysHarmless (asked_over link.old) (asked_over link.new) }
+    ensures harmless { StaysHarmless (asked_over P.state link.old) (asked_over P.state link.new) }
 {
     synchronize(link).map_err(|failure| of_long(failure))?;
     operate(link, out, &mut []).map_err(|failure| of_long(failure))
 }
 
-fn synchronize(link: &mut Link<DevicePort>) -> Result<(), Failure<PortFault>>
-    ensures harmless { StaysHarmless (asked_over link.old) (asked_over link.new) }
+fn synchronize<P: Port<Cause = PortFault> + Drop>(
+    link: &mut Link<P>,
+) -> Result<(), Failure<PortFault>>
+    ensures harmless { StaysHarmless (asked_over P.state link.old) (asked_over P.state link.new) }
 {
     link.synchronize()
 }
 
-fn read_direct(
-    link: &mut Link<DevicePort>,
+fn read_direct<P: Port<Cause = PortFault> + Drop>(
+    link: &mut Link<P>,
     place: Option<u32>,
     len: usize,
     reply: &mut [u8],
@@ -298,7 +315,7 @@ fn read_direct(
     requires some { 4 ≤ len }
     requires most { len ≤ 260 }
     requires few { length reply.old ≤ 4 }
-    ensures harmless { StaysHarmless (asked_over link.old) (asked_over link.new) }
+    ensures harmless { StaysHarmless (asked_over P.state link.old) (asked_over P.state link.new) }
 {
     match place {
         Some(address) => read(link, address + (len - 4) as u32, reply),
@@ -306,35 +323,39 @@ fn read_direct(
     }
 }
 
-fn read(link: &mut Link<DevicePort>, address: u32, reply: &mut [u8]) -> Result<(), ProgrammerFault>
+fn read<P: Port<Cause = PortFault> + Drop>(
+    link: &mut Link<P>,
+    address: u32,
+    reply: &mut [u8],
+) -> Result<(), ProgrammerFault>
     requires { length reply.old ≤ 256 }
-    ensures harmless { StaysHarmless (asked_over link.old) (asked_over link.new) }
+    ensures harmless { StaysHarmless (asked_over P.state link.old) (asked_over P.state link.new) }
 {
     exchange(link, &read_at(address), reply)
 }
 
-fn exchange(
-    link: &mut Link<DevicePort>,
+fn exchange<P: Port<Cause = PortFault> + Drop>(
+    link: &mut Link<P>,
     out: &[u8],
     reply: &mut [u8],
 ) -> Result<(), ProgrammerFault>
     requires few { length reply.old ≤ 256 }
     requires reads { begins_harmless out.now ≡ true }
-    ensures harmless { StaysHarmless (asked_over link.old) (asked_over link.new) }
+    ensures harmless { StaysHarmless (asked_over P.state link.old) (asked_over P.state link.new) }
 {
     operate(link, out, reply).map_err(|failure| {
         ProgrammerFault::Handshake(HandshakeFault::Failure(failure))
     })
 }
 
-fn operate(
-    link: &mut Link<DevicePort>,
+fn operate<P: Port<Cause = PortFault> + Drop>(
+    link: &mut Link<P>,
     out: &[u8],
     reply: &mut [u8],
 ) -> Result<(), Failure<PortFault>>
     requires few { length reply.old ≤ 256 }
     requires reads { begins_harmless out.now ≡ true }
-    ensures harmless { StaysHarmless (asked_over link.old) (asked_over link.new) }
+    ensures harmless { StaysHarmless (asked_over P.state link.old) (asked_over P.state link.new) }
 {
     let command = Command::Operate {
         out,

@@ -3,9 +3,9 @@
 ghost use Rattle.nor_serprog.specs.Harmless.{ModifiesNothing, StaysHarmless};
 ghost use Rattle.flashnor_serprog.specs.Ports.{asked_over};
 
-use crate::port::{DevicePort, PortFault};
+use crate::port::PortFault;
 use crate::run_fault::ProgrammerFault;
-use nor_serprog::{AnyProgrammer, Command, Failure, HandshakeFault, Link};
+use nor_serprog::{AnyProgrammer, Command, Failure, HandshakeFault, Link, Port};
 
 // ABh, and 12 bytes that the chip ignores. If the port changes 0Dh, the length of `WAKE`, to 0Ah, the programmer takes
 // the last three bytes as commands. These are harmless: 10h is SYNCNOP, to which the programmer only replies NAK, ACK.
@@ -21,11 +21,11 @@ const WAKE_REPLIES: u32 = 10;
 /// The frame contains 0Dh and 0Ah, which the output settings `ocrnl` and `onlcr` of a port change (stty(1)). The
 /// version that is queried next is then read wrongly, and `ChangesBytes` is returned. If the programmer's limits are
 /// too low for this frame, only ABh is sent, the port isn't checked, and each byte of the result is FFh.
-pub fn wake(
-    link: &mut Link<DevicePort>,
+pub fn wake<P: Port<Cause = PortFault> + Drop>(
+    link: &mut Link<P>,
     programmer: &AnyProgrammer,
 ) -> Result<[u8; WAKE_REPLIES as usize], ProgrammerFault>
-    ensures harmless { StaysHarmless (asked_over link.old) (asked_over link.new) }
+    ensures harmless { StaysHarmless (asked_over P.state link.old) (asked_over P.state link.new) }
 {
     let mut reply = [0xFF; WAKE_REPLIES as usize];
     if programmer.longest_part() < WAKE.len() as u32 || programmer.longest_read() < WAKE_REPLIES {
@@ -49,13 +49,13 @@ pub fn wake(
     Ok(reply)
 }
 
-fn exchange(
-    link: &mut Link<DevicePort>,
+fn exchange<P: Port<Cause = PortFault> + Drop>(
+    link: &mut Link<P>,
     command: Command<'_>,
     reply: &mut [u8],
 ) -> Result<(), HandshakeFault<PortFault>>
     requires reads { ModifiesNothing command }
-    ensures harmless { StaysHarmless (asked_over link.old) (asked_over link.new) }
+    ensures harmless { StaysHarmless (asked_over P.state link.old) (asked_over P.state link.new) }
 {
     link.exchange(command, reply)
         .map_err(HandshakeFault::Failure)

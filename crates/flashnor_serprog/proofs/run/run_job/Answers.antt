@@ -7,10 +7,11 @@ use Rattle.nor_console.specs.declared.answers.Answer.{Answer}
 use Rattle.board_jobs.specs.declared.chip_faults.JobFault.{JobFault}
 use Rattle.board_jobs.specs.Jobs.{EndsJob}
 use Rattle.flashnor_serprog.proofs.RegionsKept.{none_copied, sends_kept, task_kept}
+use Rattle.flashnor_serprog.proofs.SealedRuns.{read_seals, seals_later}
 use Rattle.flashnor_serprog.proofs.run.run_job.Goals as goal
 
-pub returns-in-Ok : goal.returns-in-Ok
-returns-in-Ok g c =
+pub returns-in-Ok-clause-ran : goal.returns-in-Ok-clause-ran
+returns-in-Ok-clause-ran g c =
     let reads = sym c.reads_out.ensures ∙ c.if-reads_out.true in
     record {
       outcome = Ok c.in-Ok.answer;
@@ -35,8 +36,8 @@ ends_from : (operation : Operation) (ranges : Option (List Span)) (bytes : List 
 ends_from operation ranges bytes before after mid old ended outcome same ends =
     subst (λ (s : BusState). EndsJob operation ranges bytes before after s ended outcome) same ends
 
-pub returns-in-Ok-2 : goal.returns-in-Ok-2
-returns-in-Ok-2 g c = record {
+pub returns-in-Ok-2-clause-ran : goal.returns-in-Ok-2-clause-ran
+returns-in-Ok-2-clause-ran g c = record {
   outcome = Ok c.in-Ok-2.answer;
   ended = _;
   ends = rw (c.begin_notes.ensures, c.set_progress_job.ensures) at c.in-Ok-2.ensures.ends;
@@ -47,8 +48,8 @@ returns-in-Ok-2 g c = record {
   copied = λ zero. none_copied _ _ _ _ (sym c.reads_out.ensures ∙ c.if-reads_out.false);
 }
 
-pub returns : goal.returns
-returns g c = record {
+pub returns-clause-ran : goal.returns-clause-ran
+returns-clause-ran g c = record {
   outcome = Err c.in-Err.fault;
   ended = _;
   ends = ends_from c.args.operation.now c.args.sources.included c.args.sources.bytes.items
@@ -60,3 +61,14 @@ returns g c = record {
   printed = λ zero. search rules;
   copied = λ zero. search rules;
 }
+
+pub returns-in-Ok-clause-sealed : goal.returns-in-Ok-clause-sealed
+returns-in-Ok-clause-sealed g c =
+    λ lawful. read_seals _ _ _ _ _ c.args.operation.now (sym c.reads_out.ensures ∙ c.if-reads_out.true)
+
+pub returns-in-Ok-2-clause-sealed : goal.returns-in-Ok-2-clause-sealed
+returns-in-Ok-2-clause-sealed g c = rw (c.begin_notes.ensures, c.set_progress_job.ensures) at c.end_job.ensures.sealed
+
+pub returns-clause-sealed : goal.returns-clause-sealed
+returns-clause-sealed g c = λ lawful. seals_later _ _ _ _ _ _ c.report_strays.ensures c.args.operation.now.task
+    ((rw (c.begin_notes.ensures, c.set_progress_job.ensures) at c.end_job.ensures.sealed) lawful)

@@ -1,9 +1,10 @@
 use Rattle.std.proofs.Common.{arith, inl, inr}
 use Rattle.flashnor_serprog.proofs.Ran.{is_used, job_ran, unused}
+use Rattle.flashnor_serprog.proofs.SealedRuns.{job_sealed}
 use Rattle.flashnor_serprog.proofs.run.run_over.Goals as goal
 
 pub returns-in-Ok-clause-ran : goal.returns-in-Ok-clause-ran
-returns-in-Ok-clause-ran g c = job_ran _ _ _ _ _ _ (rw c.in-Ok-Chip.field-0-is at c.in-Ok-Chip.ensures.ok) _ _ _ _ c.run_on_chip.ensures.ran
+returns-in-Ok-clause-ran g c = job_ran _ _ _ _ _ _ _ (rw c.in-Ok-Chip.field-0-is at c.in-Ok-Chip.ensures.ok) _ _ _ _ c.run_on_chip.ensures.ran
 
 pub returns-in-Ok-clause-done : goal.returns-in-Ok-clause-done
 returns-in-Ok-clause-done g c = λ zero. inr (inr (is_used _ _ (c.run_on_chip.ensures.used zero)
@@ -47,3 +48,22 @@ returns-clause-wired g c = unused _ c.args.used.now c.requires
 
 pub returns-in-Ok-clause-wired : goal.returns-in-Ok-clause-wired
 returns-in-Ok-clause-wired g c = c.run_on_chip.ensures.wired
+
+pub returns-in-Ok-List-clause-sealed : goal.returns-in-Ok-List-clause-sealed
+returns-in-Ok-List-clause-sealed g c = λ lawful. unused _ c.args.used.now c.requires
+
+pub returns-in-Ok-Description-default-None-clause-sealed : goal.returns-in-Ok-Description-default-None-clause-sealed
+returns-in-Ok-Description-default-None-clause-sealed g c = λ lawful. unused _ c.args.used.now c.requires
+
+pub returns-in-Ok-Description-default-Some-clause-sealed : goal.returns-in-Ok-Description-default-Some-clause-sealed
+returns-in-Ok-Description-default-Some-clause-sealed g c = λ lawful. unused _ c.args.used.now c.requires
+
+pub returns-in-Ok-Chip-clause-sealed : goal.returns-in-Ok-Chip-clause-sealed
+returns-in-Ok-Chip-clause-sealed g c = λ lawful. unused _ c.args.used.now c.requires
+
+pub returns-clause-sealed : goal.returns-clause-sealed
+returns-clause-sealed g c = λ lawful. unused _ c.args.used.now c.requires
+
+pub returns-in-Ok-clause-sealed : goal.returns-in-Ok-clause-sealed
+returns-in-Ok-clause-sealed g c = λ lawful. job_sealed _ _ _ _ _ _ _ (rw c.in-Ok-Chip.field-0-is at c.in-Ok-Chip.ensures.ok) _
+    (c.run_on_chip.ensures.sealed lawful)

@@ -1,5 +1,6 @@
-use Rattle.std.proofs.Common.{◌≡◌, ℕ, Bool, List, refl}
-use Rattle.std.specs.Prelude.{Option, None}
+use Rattle.std.proofs.Common.{◌≡◌, ◌∙◌, ℕ, Bool, List, ap, refl, sym}
+use Rattle.std.specs.Prelude.{Option, None, Some, is_some}
+use Rattle.std.proofs.lemmas.Bool.{false≢true}
 use Rattle.nor_model.specs.Bus.{BusState}
 use Rattle.nor_layout.specs.declared.ranges.Span.{Span}
 use Rattle.nor_files.specs.Files.{FilesState, View}
@@ -14,8 +15,17 @@ other_job : {operation : Operation} {files : List RegionFile} {ranges : Option (
     → HasRunBy srp0 operation files ranges bytes before after old new out out' status
 other_job srp0 none run = rw none run
 
-pub returns-in-Some : goal.returns-in-Some
-returns-in-Some g c = rw c.in-Some.is (c.run_lock.ensures, refl)
+pub returns-in-Some-clause-ran : goal.returns-in-Some-clause-ran
+returns-in-Some-clause-ran g c = rw c.in-Some.is (c.run_lock.ensures, refl)
 
-pub returns-in-None : goal.returns-in-None
-returns-in-None g c = other_job c.args.operation.now.srp0 c.in-None.is c.run_job.ensures
+pub returns-in-None-clause-ran : goal.returns-in-None-clause-ran
+returns-in-None-clause-ran g c = other_job c.args.operation.now.srp0 c.in-None.is c.run_job.ensures.ran
+
+some_none : (srp0 : Option Bool) (set : Bool) → srp0 ≡ Some set → srp0 ≡ None → ⊥
+some_none srp0 set some none = false≢true (ap is_some (sym none ∙ some))
+
+pub returns-in-Some-clause-sealed : goal.returns-in-Some-clause-sealed
+returns-in-Some-clause-sealed g c = λ lawful none. absurd (some_none _ _ c.in-Some.is none)
+
+pub returns-in-None-clause-sealed : goal.returns-in-None-clause-sealed
+returns-in-None-clause-sealed g c = λ lawful none. c.run_job.ensures.sealed lawful

@@ -2,4 +2,4 @@ use Rattle.nor_serprog.proofs.Harmless.{harmless_sync}
 use Rattle.flashnor_serprog.proofs.trial_reads.synchronize.Goals as goal
 
 pub returns : goal.returns
-returns c = record { harmless = harmless_sync _ _ c.synchronize.ensures.asked }
+returns g c = record { harmless = harmless_sync _ _ c.synchronize.ensures.asked }

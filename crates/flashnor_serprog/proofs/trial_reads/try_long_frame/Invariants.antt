@@ -3,4 +3,4 @@ use Rattle.flashnor_serprog.specs.Ports.{asked_over}
 use Rattle.flashnor_serprog.proofs.trial_reads.try_long_frame.Given as goal
 
 abbrev pub invariant-loop : goal.invariant-loop
-invariant-loop l = StaysHarmless (asked_over l.fn.link) (asked_over l.link)
+invariant-loop g l = StaysHarmless (asked_over g.P.Port.state l.fn.link) (asked_over g.P.Port.state l.link)

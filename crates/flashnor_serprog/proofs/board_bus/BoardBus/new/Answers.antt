@@ -1,6 +1,6 @@
 use Rattle.std.proofs.Common.{[]}
 use Rattle.nor_serprog.proofs.Modifying.{harmless_modifies}
-use Rattle.flashnor_serprog.specs.Ports.{asked_over}
+use Rattle.nor_serprog.specs.Wire.{asked_on}
 use Rattle.flashnor_serprog.proofs.board_bus.BoardBus.new.Goals as goal
 
 pub new-requires-2 : goal.new-requires-2
@@ -19,7 +19,7 @@ new-requires-2 c =
       c.over.ensures.empty,
       c.over.ensures.link,
     )
-    (harmless_modifies [] (asked_over c.args.link) c.requires.harmless) ∣₁
+    (harmless_modifies [] (asked_on c.args.link.port.wire) c.requires.harmless) ∣₁
 
 pub returns-clause-harmless : goal.returns-clause-harmless
 returns-clause-harmless c = rw (
