@@ -1,4 +1,4 @@
-//! The bus to a chip on a board as the jobs need it, whatever lies below: a bus that also knows why a transaction failed.
+//! The traits of a bus to a chip on a board that also knows why a transaction failed, and of a connector to it.
 ghost use Rattle.std.specs.Prelude.{◌≡◌, [], IfOk, List, Option, option_map, ℕ};
 ghost use Rattle.nor_serprog.specs.Harmless.{IsHarmlessSince};
 ghost use Rattle.flashnor_serprog.specs.Unused.{IsUnused};
@@ -65,7 +65,7 @@ pub fn board_in<'b, B: Board + Drop>(bus: &'b ChipBus<'_, B>) -> &'b B {
 #[derive(Drop)]
 pub enum Unconnected {
     Programmer(ProgrammerFault),
-    /// No chip answers.
+    /// No chip replies.
     NoChip,
     /// A device has an ID, but neither status 1 nor SFDP.
     NoStatus,

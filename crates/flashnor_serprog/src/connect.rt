@@ -142,7 +142,7 @@ impl fmt::Display for HigherClock {
     }
 }
 
-// Returns `NoChip` if no chip answers, `NoStatus` if a device has an ID, but neither status 1 nor SFDP, or the fault of
+// Returns `NoChip` if no chip replies, `NoStatus` if a device has an ID, but neither status 1 nor SFDP, or the fault of
 // an exchange that failed.
 fn expect_chip<P: Port<Cause = PortFault> + Drop>(
     rt: &HostRuntime,

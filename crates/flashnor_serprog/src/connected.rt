@@ -17,7 +17,7 @@ use nor_probe::SfdpFault;
 use nor_session::Refusal;
 use std::alloc::Global;
 
-/// A bus to the chip at a programmer, with the name of the programmer's device. Only `connect_by` creates a `Connected`.
+/// A bus to the chip at a programmer, with the name of the programmer's device. Only `connect_by` creates this type.
 #[derive(Drop)]
 pub struct Connected<B> {
     device: String,
@@ -30,7 +30,7 @@ const NO_STATUS: Refusal = Refusal::UnknownChip(SfdpFault::Signature);
 /// Connects to the programmer that `-p` describes. Returns one of these faults:
 ///
 /// - usage fault 10 if memory runs out
-/// - error 1 if no chip answers
+/// - error 1 if no chip replies
 /// - error 2 if a device has an ID, but neither status 1 nor SFDP
 /// - a programmer fault, with the name of the device
 pub fn connect_by<'a, 'b, D: Connector>(

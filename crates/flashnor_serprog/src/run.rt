@@ -69,7 +69,8 @@ pub fn run_words<'b, D: Connector, O: Write, E: Write>(
     ensures few { result ≤ 1 }
     ensures done { IfOk given (λ args. result ≡ 0 → HasSucceeded
         (λ connected. ⟦<ChipBus<'b, D::Board> as Bus>⟧.state connected.bus)
-        (λ connected. D.Board.expected (ahead_of (shown_bus connected.bus))) unknown unknown (arguments_of args) used.new
+        (λ connected. D.Board.expected (ahead_of (shown_bus connected.bus)))
+        unknown unknown (arguments_of args) used.new
         (O.contents output.old) (O.contents output.new)) }
     ensures ran { IfOk given (λ args. IfSome used.new (λ connected. HasRunJob
         (λ connected. ⟦<ChipBus<'b, D::Board> as Bus>⟧.state connected.bus)
@@ -124,7 +125,8 @@ pub fn run_over<'b, D: Connector, R: Store<Log = LogFile<File>>, O: Write, E: Wr
         (λ connected. D.Board.expected (ahead_of (shown_bus connected.bus)))
         (R.state files.old) (R.state files.new) (map string_bytes words.now) used.new
         (O.contents output.old) (O.contents output.new) }
-    ensures ran { IfSome used.new (λ connected. HasRunJob (λ connected. ⟦<ChipBus<'b, D::Board> as Bus>⟧.state connected.bus)
+    ensures ran { IfSome used.new (λ connected. HasRunJob
+        (λ connected. ⟦<ChipBus<'b, D::Board> as Bus>⟧.state connected.bus)
         (λ connected. D.Board.expected (ahead_of (shown_bus connected.bus)))
         (R.state files.old) (R.state files.new) (map string_bytes words.now) (device_of connected)
         (⟦<ChipBus<'b, D::Board> as Bus>⟧.state connected.bus) (O.contents output.old) (O.contents output.new) result) }
