@@ -5,10 +5,10 @@ ghost use Rattle.nor_model.specs.Passed.{ArePassedOn};
 
 use nor_model::{Bus, Stopped};
 
-/// A bus that passed on only what it was asked for. Each command that was passed on below all layers and that may modify
-/// a chip is one that this bus was asked for, in this order and at most once, or it belongs to a page program that this
-/// bus was asked for: a part of it, or a write enable (`ArePassedOn`). This holds for each value of the type, so after
-/// any transactions.
+/// A bus that passed on only what it was asked for. Each command that was passed on below all layers and that may
+/// modify a chip is one that this bus was asked for, in this order and at most once, or it belongs to a page program
+/// that this bus was asked for: a part of it, or a write enable (`ArePassedOn`). This holds for each value of the type,
+/// so after any transactions.
 ///
 /// `Accounted` itself passes on each transaction.
 #[derive(Drop)]

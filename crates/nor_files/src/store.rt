@@ -112,16 +112,16 @@ pub trait Store: AllocGlobal {
     ghost use Rattle.nor_files.specs.Files.{AreApart, AreUntouched, FilesState, IsKnownFile, KnownStay, Name};
     ghost use Rattle.nor_files.specs.Files.{OthersStay, KeepsFile, is_lawful};
     ghost use Rattle.nor_files.specs.Files.Failure.{Printed, Shared, There, Unread, Unwritten};
-    ghost use Rattle.nor_files.specs.Calls.{Fails, Holds, LeaveNoMore, Borrows, BorrowsNone, Creates, Places, ReadsFile};
-    ghost use Rattle.nor_files.specs.Calls.{SetsLength, Syncs, TakesBack, WorksOn, WritesOver};
+    ghost use Rattle.nor_files.specs.Calls.{Fails, Holds, LeaveNoMore, Borrows, BorrowsNone, Creates, Places};
+    ghost use Rattle.nor_files.specs.Calls.{ReadsFile, SetsLength, Syncs, TakesBack, WorksOn, WritesOver};
     ghost use Rattle.nor_files.specs.Faults.{IsLockFault, IsCreateFault};
     ghost use Rattle.nor_files.specs.Disk.{IsStreamName};
     ghost use Rattle.nor_files.specs.OneFile.{NamesAreOfOne};
 
     ghost state: { Self → FilesState };
 
-    /// A vault whose bytes are in a file. On lawful files the vault is faithful (`telling`), so as soon as it is sealed,
-    /// before `return_vault` takes it back, `synced` is exactly the accepted bytes (`DurableVault`).
+    /// A vault whose bytes are in a file. On lawful files the vault is faithful (`telling`), so as soon as it is
+    /// sealed, before `return_vault` takes it back, `synced` is exactly the accepted bytes (`DurableVault`).
     type Filed: DurableVault + Drop;
 
     /// A file to which a run writes piece by piece.
