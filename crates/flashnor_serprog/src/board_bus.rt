@@ -14,8 +14,8 @@ use crate::board::{Board, Causes};
 use crate::port::DevicePort;
 use crate::rules::{Checks, Rules};
 use nor_buses::{
-    Accounted, ChangedByte, CheckedStatus, KeptQuad, KnownStatus2, OtherMakers, Paced, ReadTwice,
-    SameChip, SplittingBus, Watched,
+    Accounted, ChangedByte, CheckedStatus, ChipIds, KeptQuad, KnownStatus2, OtherMakers, Paced,
+    ReadTwice, SameChip, SplittingBus, Watched,
 };
 use nor_model::{Bus, Stopped};
 use nor_serprog::{AnyProgrammer, BatchingBus, Link};
@@ -71,9 +71,14 @@ impl<'a> BoardBus<'a> {
         let watched = Watched::new(paced);
         let splitting = SplittingBus::new(watched, programmer.longest_part(), longest_read);
         let twice = reading_twice(checking(splitting, rules.checks), image);
-        let known = KnownStatus2::new(twice, &WITH_ROW, rules.before);
-        let kept = KeptQuad::new(known, &WITH_ROW, rules.hides_quad);
-        let other = OtherMakers::new(kept, &WITH_ROW, rules.missing_unique, rules.refuses_uneven);
+        let known = KnownStatus2::new(twice, ChipIds::from(WITH_ROW), rules.before);
+        let kept = KeptQuad::new(known, ChipIds::from(WITH_ROW), rules.hides_quad);
+        let other = OtherMakers::new(
+            kept,
+            ChipIds::from(WITH_ROW),
+            rules.missing_unique,
+            rules.refuses_uneven,
+        );
         BoardBus {
             layers: Accounted::new(SameChip::new(other)),
             longest_read,

@@ -12,7 +12,7 @@ abbrev pub kept_by : {B : Type 0} {over : Ghosts B} → KeptQuad B over → B
 kept_by kept = kept.bus
 
 abbrev pub rows_of : {B : Type 0} {over : Ghosts B} → KeptQuad B over → List (List ℕ)
-rows_of kept = kept.rows.now
+rows_of kept = kept.rows.items
 
 -- True if the bus found that bit 6 of status 1 is QE, and therefore hides this bit.
 abbrev pub has_quad : {B : Type 0} {over : Ghosts B} → KeptQuad B over → Bool

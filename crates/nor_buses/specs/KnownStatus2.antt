@@ -15,7 +15,7 @@ abbrev pub has_status2 : {B : Type 0} {over : Ghosts B} → KnownStatus2 B over 
 has_status2 known = known.is_known
 
 abbrev pub ids_of : {B : Type 0} {over : Ghosts B} → KnownStatus2 B over → List (List ℕ)
-ids_of known = known.ids.now
+ids_of known = known.ids.items
 
 abbrev pub before_of : {B : Type 0} {over : Ghosts B} → KnownStatus2 B over → Option (List ℕ)
 before_of known = known.before

@@ -12,7 +12,7 @@ abbrev pub adapted_by : {B : Type 0} → OtherMakers B → B
 adapted_by other = other.bus
 
 abbrev pub rows_of : {B : Type 0} → OtherMakers B → List (List ℕ)
-rows_of other = other.rows.now
+rows_of other = other.rows.items
 
 abbrev pub missing_as : {B : Type 0} → OtherMakers B → ℕ
 missing_as other = other.missing

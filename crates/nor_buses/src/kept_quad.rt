@@ -9,6 +9,7 @@ ghost use Rattle.nor_buses.specs.Keeps.{KeepsAll, StopsUnread, MakesStep};
 ghost use Rattle.nor_buses.specs.SomeChips.{chip_id};
 ghost use Rattle.nor_buses.specs.Bit6.{names_bit6, is_bit6, without_quad, OnlyReadsOn, ShowsWithoutQuad, IsPlain};
 
+use crate::chip_ids::ChipIds;
 use crate::known_status2::{is_id_listed, word_15_in};
 use nor_model::opcodes::{READ_ID, READ_SFDP, READ_STATUS1, WRITE_STATUS};
 use nor_model::{Bus, History, Stopped};
@@ -35,14 +36,14 @@ const FIRST_TABLE: [u8; 5] = [READ_SFDP, 0, 0, 8, 0];
 pub struct KeptQuad<B: Bus + Drop> {
     bus: B,
     // The IDs of the chips that have a row in the table of known chips. Their bit 6 is SEC.
-    rows: &'static [[u8; 3]],
+    rows: ChipIds,
     // True if this bus hides bit 6 of a chip on which bit 6 is QE.
     hides: bool,
     has_quad: bool,
     // True if it is decided whether bit 6 is hidden: QE was looked up, or this bus hides nothing.
     is_judged: bool,
     history: History,
-    ghost plain: { IsPlain rows.now hides has_quad is_judged (B.state bus) },
+    ghost plain: { IsPlain rows.items hides has_quad is_judged (B.state bus) },
 }
 
 impl<B: Bus + Drop> KeptQuad<B> {
@@ -50,9 +51,9 @@ impl<B: Bus + Drop> KeptQuad<B> {
 
     /// Returns a bus over `bus`. The chips with the IDs `rows` have SEC as bit 6. If `hides` is false, each transaction
     /// is passed on unchanged.
-    pub fn new(bus: B, rows: &'static [[u8; 3]], hides: bool) -> KeptQuad<B>
+    pub fn new(bus: B, rows: ChipIds, hides: bool) -> KeptQuad<B>
         ensures bus { kept_by result ≡ bus }
-        ensures rows { rows_of result ≡ rows.now }
+        ensures rows { rows_of result ≡ rows.items }
         ensures hides { hides_of result ≡ hides }
         ensures quad { has_quad result ≡ false }
         ensures judged { is_judged result ≡ not hides }
@@ -131,7 +132,7 @@ impl<B: Bus + Drop> KeptQuad<B> {
     {
         let mut id = [0; 3];
         self.bus.transfer(&[READ_ID], &mut id)?;
-        if is_id_listed(self.rows, id) {
+        if is_id_listed(self.rows.as_slice(), id) {
             return Ok(false);
         }
         let mut header = [0; 8];

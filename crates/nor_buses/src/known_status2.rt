@@ -8,6 +8,7 @@ ghost use Rattle.nor_buses.specs.Keeps.{KeepsAll, StopsUnread, MakesStep};
 ghost use Rattle.nor_buses.specs.Listed.{asks_none, is_id_listed, is_same, shows_id, shows_known};
 ghost use Rattle.nor_buses.specs.Listed.{is_readable, names_status2, IsKnownOnceRead, RepliesId};
 
+use crate::chip_ids::ChipIds;
 use nor_model::opcodes::{READ_ID, READ_SFDP, READ_STATUS2};
 use nor_model::{Bus, History, Stopped};
 
@@ -39,7 +40,7 @@ const WORD_15: u32 = 56;
 pub struct KnownStatus2<B: Bus + Drop> {
     bus: B,
     // The IDs of the chips that return status 2 for 35h.
-    ids: &'static [[u8; 3]],
+    ids: ChipIds,
     // The ID of a chip whose status 2 an earlier run read, if this ID is given.
     before: Option<[u8; 3]>,
     is_known: bool,
@@ -48,7 +49,7 @@ pub struct KnownStatus2<B: Bus + Drop> {
     // The address of double word 15, if the table's header gave it and double word 15 wasn't read yet.
     word_15: Option<u32>,
     history: History,
-    ghost judged: { IsKnownOnceRead ids.now before has_id is_known (B.state bus) },
+    ghost judged: { IsKnownOnceRead ids.items before has_id is_known (B.state bus) },
 }
 
 impl<B: Bus + Drop> KnownStatus2<B> {
@@ -56,10 +57,10 @@ impl<B: Bus + Drop> KnownStatus2<B> {
 
     /// Returns a bus over `bus`. The chips with an ID of `ids` return status 2 for 35h. If `before` is given, so does
     /// the chip with this ID, because an earlier run read its status 2.
-    pub fn new(bus: B, ids: &'static [[u8; 3]], before: Option<[u8; 3]>) -> KnownStatus2<B>
+    pub fn new(bus: B, ids: ChipIds, before: Option<[u8; 3]>) -> KnownStatus2<B>
         ensures bus { known_by result ≡ bus }
         ensures known { has_status2 result ≡ false }
-        ensures ids { ids_of result ≡ ids.now }
+        ensures ids { ids_of result ≡ ids.items }
         ensures before { before_of result ≡ before }
         ensures history { history_of result ≡ [] }
     {
@@ -175,7 +176,8 @@ impl<B: Bus + Drop> KnownStatus2<B> {
         ensures known { has_status2 self.new
             ≡ (has_status2 self.old || shows_known (ids_of self.old) (before_of self.old) out.now reply.now) }
     {
-        self.is_known = self.is_known || is_known_chip(self.ids, self.before, out, reply);
+        self.is_known = self.is_known
+            || is_known_chip(self.ids.as_slice(), self.before, out, reply);
         self.has_id = self.has_id || is_id(out, reply);
         if let [READ_SFDP, 0, 0, 8, _] = out {
             self.word_15 = word_15_in(reply);

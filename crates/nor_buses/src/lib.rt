@@ -11,6 +11,7 @@
 mod accounted;
 mod again;
 mod ahead;
+mod chip_ids;
 mod counts;
 mod kept_quad;
 mod known;
@@ -27,6 +28,7 @@ mod watched;
 
 pub use accounted::Accounted;
 pub use ahead::ReadAhead;
+pub use chip_ids::ChipIds;
 pub use counts::ChangedByte;
 pub use kept_quad::KeptQuad;
 pub use known::CheckFault;

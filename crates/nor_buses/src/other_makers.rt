@@ -12,6 +12,7 @@ ghost use Rattle.nor_buses.specs.OtherMakers.{ShowsUnique, ShowsTable, ShowsJudg
 ghost use Rattle.nor_buses.specs.Adapted.{has_no_row, is_missing, is_table_read, is_unique_read, is_uneven};
 ghost use Rattle.nor_buses.specs.Adapted.{IsIdOf, cleared, is_small_page, shares, shown_table, judged_table};
 
+use crate::chip_ids::ChipIds;
 use crate::known_status2::is_id_listed;
 use nor_model::opcodes::{READ_ID, READ_SFDP, READ_UNIQUE};
 use nor_model::{Bus, History, Stopped};
@@ -54,7 +55,7 @@ const WORDS: u8 = 11;
 pub struct OtherMakers<B> {
     bus: B,
     // The IDs of the chips that have a row in the table of known chips.
-    rows: &'static [[u8; 3]],
+    rows: ChipIds,
     missing: u8,
     refuses_uneven: bool,
     // True if, by the last read of the header of the SFDP table, the table has a double word 11.
@@ -66,9 +67,9 @@ pub struct OtherMakers<B> {
 impl<B: Bus + Drop> OtherMakers<B> {
     /// Returns a bus over `bus`. `rows` are the IDs of the chips that have a row in the table of known chips. The
     /// description of this type explains `missing` and `refuses`.
-    pub fn new(bus: B, rows: &'static [[u8; 3]], missing: u8, refuses: bool) -> OtherMakers<B>
+    pub fn new(bus: B, rows: ChipIds, missing: u8, refuses: bool) -> OtherMakers<B>
         ensures bus { adapted_by result ≡ bus }
-        ensures rows { rows_of result ≡ rows.now }
+        ensures rows { rows_of result ≡ rows.items }
         ensures missing { missing_as result ≡ missing }
         ensures uneven { refuses_uneven result ≡ refuses }
         ensures word_11 { has_word_11 result ≡ false }
@@ -177,7 +178,7 @@ impl<B: Bus> OtherMakers<B> {
             (AtStop out.now (B.state (adapted_by self.old)) (B.state (adapted_by self.new))) }
     {
         let id = self.read_id()?;
-        if !has_no_row(self.rows, id) {
+        if !has_no_row(self.rows.as_slice(), id) {
             return self.bus.transfer(out, reply);
         }
         if self.refuses_uneven && self.has_word_11 {

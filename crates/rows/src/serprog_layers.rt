@@ -5,8 +5,8 @@ use crate::held::assert_held;
 use crate::row::{Row, Start};
 use crate::serprog_wrappers::Timer;
 use nor_buses::{
-    CheckedStatus, KeptQuad, KnownStatus2, OtherMakers, Paced, ReadAhead, ReadTwice, SameChip,
-    SplittingBus, Watched,
+    CheckedStatus, ChipIds, KeptQuad, KnownStatus2, OtherMakers, Paced, ReadAhead, ReadTwice,
+    SameChip, SplittingBus, Watched,
 };
 use nor_chip::{Config, SimBus};
 use nor_journal::{Journal, MemVault, Vault};
@@ -27,7 +27,12 @@ const LONGEST_READ: u32 = 4096;
 const SERIAL_BUFFER: u16 = 512;
 
 // The IDs of TINY64 and W25Q64FV. The layers treat both chips as listed in the table of chips.
-const IDS: [[u8; 3]; 2] = [[0xFE, 0x10, 0x10], [0xEF, 0x40, 0x17]];
+fn ids() -> ChipIds {
+    let mut ids = ChipIds::new();
+    ids.push([0xFE, 0x10, 0x10]);
+    ids.push([0xEF, 0x40, 0x17]);
+    ids
+}
 
 // The unique ID of the chip. `OtherMakers` doesn't replace it, because its bytes are neither all FFh nor all 00h.
 const UNIQUE: [u8; 8] = [0xD1, 0x62, 0x10, 0xFF, 0x00, 0x5A, 0xA5, 0x08];
@@ -244,10 +249,10 @@ fn open<'a>(rt: &impl Abort, now: &'a Cell<u64>, port: SimPort, job: Job) -> Lay
         Job::Change => CheckedStatus::guarding(splitting),
         Job::Backup | Job::Undo => CheckedStatus::new(splitting),
     };
-    let known = KnownStatus2::new(ReadTwice::new(checked), &IDS, None);
-    let kept = KeptQuad::new(known, &IDS, true);
+    let known = KnownStatus2::new(ReadTwice::new(checked), ids(), None);
+    let kept = KeptQuad::new(known, ids(), true);
     let refuses = matches!(job, Job::Change | Job::Backup);
-    let other = OtherMakers::new(kept, &IDS, 0x00, refuses);
+    let other = OtherMakers::new(kept, ids(), 0x00, refuses);
     ReadAhead::new(SameChip::new(other), LONGEST_READ)
 }
 
