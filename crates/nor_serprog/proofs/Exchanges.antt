@@ -8,6 +8,9 @@ use Rattle.nor_model.specs.Step.{Step}
 use Rattle.nor_serprog.specs.Frame.{IsFrame, ReadsAs, out_in, replies_in}
 use Rattle.nor_serprog.specs.declared.command.Command.{Command}
 use Rattle.nor_serprog.specs.declared.command.Command.TheVariants.{Operate}
+use Rattle.nor_serprog.specs.declared.link.Failure.{Failure}
+use Rattle.nor_serprog.specs.declared.link.Failure.TheVariants.{Port, Refused, Strange, TooLong, OutOfStep, CutFrame, NoSync}
+use Rattle.nor_serprog.specs.Replies.{IsNoRefusal, IsPortFailure}
 use Rattle.nor_serprog.specs.Device.{Device, PortState, IsIdle, IfOperates, StepsOnce, IsCut, OperatesFrame, IsWithinLimits, CompletesOperation, AnswerBegins, IsSent, IsCutOff, TakesAnswer, MissesAnswer, Exchanged, Interrupted}
 
 pub operated : (frame : List ℕ) (old sent : PortState) → IsIdle old.device → IsFrame frame
@@ -47,6 +50,7 @@ exchanged frame out replies reply old sent new idle whole opcode goes comes s t 
     record {
       left = omega (arith, s.left, t.left);
       idle = record { begun = t.begun ∙ o.begun; pending = rest };
+      firmware = t.firmware ∙ s.firmware;
       settings = t.settings ∙ o.settings;
       steps = steps_then out reply old.device sent.device new.device t.chip t.worn (subst Q got (subst P goes o.steps));
     }
@@ -128,6 +132,28 @@ missed_by (Operate out replies) frame wanted old sent new idle whole reads s m =
     missed frame out.now replies wanted old sent new idle whole reads.0 reads.1 reads.2 s
     (m (begins_with_ack frame old sent idle (operated frame old sent idle whole reads.0 s)))
 missed_by _ frame wanted old sent new idle whole reads s m = tt
+
+pub no_refusal : {C : Type 0} (failure : Failure C) → IsPortFailure failure → IsNoRefusal failure
+no_refusal (Refused opcode) failed = failed
+no_refusal (Port cause) failed = tt
+no_refusal (Strange byte) failed = tt
+no_refusal TooLong failed = tt
+no_refusal OutOfStep failed = tt
+no_refusal CutFrame failed = tt
+no_refusal NoSync failed = tt
+
+pub unrefused_by : {C : Type 0} (command : Command) (frame : List ℕ) (failure : Failure C) (old sent : PortState)
+    → IsIdle old.device → IsFrame frame → ReadsAs frame command → IsSent frame old sent
+    → (AnswerBegins sent → IsPortFailure failure)
+    → IfOperates command (λ out replies. IsNoRefusal failure)
+unrefused_by (Operate out replies) frame failure old sent idle whole reads s fails =
+    no_refusal failure (fails (begins_with_ack frame old sent idle (operated frame old sent idle whole reads.0 s)))
+unrefused_by _ frame failure old sent idle whole reads s fails = tt
+
+pub unrefused_at : {C : Type 0} (command : Command) (failure : Failure C) → IsPortFailure failure
+    → IfOperates command (λ out replies. IsNoRefusal failure)
+unrefused_at (Operate out replies) failure failed = no_refusal failure failed
+unrefused_at _ failure failed = tt
 
 pub on_err : {T E : Type 0} (result : Result T E) (P : Type 0) → P → OnErr result P
 on_err (Ok x) P p = tt

@@ -44,6 +44,10 @@ abbrev pub IsRefusal : {C : Type 0} → (opcode : ℕ) → Failure C → Type 0
 IsRefusal opcode (Refused refused) = refused ≡ opcode
 IsRefusal opcode _ = ⊥
 
+abbrev pub IsNoRefusal : {C : Type 0} → Failure C → Type 0
+IsNoRefusal (Refused refused) = ⊥
+IsNoRefusal _ = ⊤
+
 abbrev pub IsRefused : {C : Type 0} → (opcode calls left : ℕ) → Failure C → Type 0
 IsRefused opcode calls left failure = IsRefusal opcode failure ⊎ (IsPortFailure failure × (left < calls))
 

@@ -8,7 +8,7 @@ ghost use Rattle.nor_serprog.specs.Frame.{frame_of, FitsFrame, IsFrame, ReadsAs}
 ghost use Rattle.nor_serprog.specs.Link.{port_of, sync_of, is_in_step, is_cut};
 ghost use Rattle.nor_serprog.specs.Asked.{acks, AsksSync};
 ghost use Rattle.nor_serprog.specs.Harmless.{ModifiesNothing, StaysHarmless};
-ghost use Rattle.nor_serprog.specs.Replies.{AwaitsCommand, EndsExchange, IsPortFailure, IsRefused, AsksUnlessFew};
+ghost use Rattle.nor_serprog.specs.Replies.{AwaitsCommand, EndsExchange, IsNoRefusal, IsPortFailure, IsRefused, AsksUnlessFew};
 
 use crate::skipping::{ROW_ANSWERS_LEN, skip_past};
 use crate::{Answer, Command, Frame, Port};
@@ -106,7 +106,7 @@ impl<P: Port + Drop> Link<P> {
     /// fit into one frame. After any other error no exchange sends anything until `synchronize` returns `Ok`.
     ///
     /// If the port is well-behaved, the link is in step and the programmer is idle, `EndsExchange` states the reply to
-    /// each command that satisfies `HasReply`, except SYNCNOP.
+    /// each command that satisfies `HasReply`, except SYNCNOP. Then the programmer refuses no O_SPIOP.
     pub fn exchange(
         &mut self,
         command: Command<'_>,
@@ -136,6 +136,8 @@ impl<P: Port + Drop> Link<P> {
             → HasReply (P.state (port_of self.old)).device.firmware command.entry → EndsExchange command.entry
             (length reply.old) reply.new result (P.state (port_of self.old)) (P.state (port_of self.new)) }
         ensures unread { (P.state (port_of self.old)).honest ≡ true → OnErr result (reply.new ≡ reply.old) }
+        ensures unrefused { (P.state (port_of self.old)).honest ≡ true → IsIdle (P.state (port_of self.old)).device
+            → IfErr result (λ failure. IfOperates command.entry (λ out replies. IsNoRefusal failure)) }
         ensures harmless { ModifiesNothing command.entry
             → StaysHarmless (P.state (port_of self.old)).asked (P.state (port_of self.new)).asked }
     {
@@ -182,6 +184,8 @@ impl<P: Port + Drop> Link<P> {
             → HasReply (P.state (port_of self.old)).device.firmware command.entry → EndsExchange command.entry
             (length reply.old) reply.new result (P.state (port_of self.old)) (P.state (port_of self.new)) }
         ensures unread { (P.state (port_of self.old)).honest ≡ true → OnErr result (reply.new ≡ reply.old) }
+        ensures unrefused { (P.state (port_of self.old)).honest ≡ true → IsIdle (P.state (port_of self.old)).device
+            → IfErr result (λ failure. IfOperates command.entry (λ out replies. IsNoRefusal failure)) }
     {
         let frame = encode(command)?;
         self.sync = Sync::Cut;
@@ -277,6 +281,7 @@ fn encode<C>(command: Command<'_>) -> Result<Frame, Failure<C>>
     ensures exact { IfOk result (λ frame. frame.items ≡ frame_of command.entry) }
     ensures whole { IfOk result (λ frame. IsFrame frame.items) }
     ensures reads { IfOk result (λ frame. ReadsAs frame.items command.entry) }
+    ensures unrefused { IfErr result IsNoRefusal }
 {
     command.encode().map_err(|_| Failure::TooLong)
 }

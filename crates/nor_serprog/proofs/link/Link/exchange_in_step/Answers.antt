@@ -1,6 +1,6 @@
 use Rattle.std.proofs.Common.{◌∙◌, length, inr, rules}
 use Rattle.std.proofs.lemmas.Result.{err_from_is_err_and}
-use Rattle.nor_serprog.proofs.Exchanges.{exchanged_by, cut_off_by, missed_by, on_err}
+use Rattle.nor_serprog.proofs.Exchanges.{exchanged_by, cut_off_by, missed_by, on_err, unrefused_at, unrefused_by}
 use Rattle.nor_serprog.proofs.Replied.{answered_ok, answered_cut_off, answered_missed}
 use Rattle.nor_serprog.proofs.link.Link.exchange_in_step.Goals as goal
 
@@ -55,3 +55,17 @@ returns-in_err-receive_answer-clause-answered g c awaits has =
     (c.in_err-receive_answer.ensures.missed honest) (c.in_err-receive_answer.ensures.cause honest)
     (λ naks. (c.in_err-receive_answer.ensures.refused honest naks).1) (search rules)
     (c.in_err-receive_answer.ensures.power honest))
+
+pub returns-in_err-send-clause-unrefused : goal.returns-in_err-send-clause-unrefused
+returns-in_err-send-clause-unrefused g c honest idle =
+    let p = err_from_is_err_and c.from_residual-in_err-send.result c.from_residual-in_err-send.ensures.1 in
+    rw (p.1, p.2) (unrefused_at c.args.command _ c.in_err-send.ensures.cause)
+
+pub returns-in_err-receive_answer-clause-unrefused : goal.returns-in_err-receive_answer-clause-unrefused
+returns-in_err-receive_answer-clause-unrefused g c honest idle =
+    let p = err_from_is_err_and c.from_residual-in_err-receive_answer.result
+    c.from_residual-in_err-receive_answer.ensures.1 in
+    rw (p.1, p.2)
+    (unrefused_by c.args.command c.in_ok-frame.frame.items _ (g.P.Port.state c.args.self.now.port)
+    (g.P.Port.state c.send.new.port) idle c.in_ok-frame.ensures.whole c.in_ok-frame.ensures.reads
+    (c.in_ok-send.ensures.sent honest) (c.in_err-receive_answer.ensures.cause (c.send.ensures.nature ∙ honest)))
