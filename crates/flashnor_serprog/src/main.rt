@@ -14,6 +14,7 @@ mod help;
 mod lock_job;
 mod port;
 mod preparing;
+mod reaching;
 mod reports;
 mod rules;
 mod run;

@@ -1,0 +1,110 @@
+//! Reaches the chip at a programmer: identifies the programmer, wakes the chip, and looks for it.
+ghost use Rattle.nor_serprog.specs.Harmless.{StaysHarmless};
+ghost use Rattle.flashnor_serprog.specs.Ports.{asked_over};
+
+use crate::board::Unconnected;
+use crate::contact::{Contact, look_for_chip};
+use crate::port::PortFault;
+use crate::run_fault::ProgrammerFault;
+use crate::setting::Setting;
+use crate::trial_reads::try_reads;
+use crate::waking::wake;
+use board_progress::Terminal;
+use nor_serprog::{AnyProgrammer, Failure, HandshakeFault, Link, Port};
+use std::fmt;
+
+/// Identifies the programmer over a new link. Sets its clock and its chip select if `setting` has them. Wakes the chip,
+/// makes trial reads (`try_reads`), and looks for the chip after each of the two (`expect_chip`). Before the first
+/// exchange, logs and shows what to do if no reply ever arrives.
+///
+/// Returns a programmer fault from 4 to 12, 14 or 15 if a step fails, or an error of `expect_chip`. The port is asked
+/// for no transaction that may modify a chip.
+pub fn reach_chip<P: Port<Cause = PortFault> + Drop>(
+    rt: &HostRuntime,
+    link: &mut Link<P>,
+    terminal: Terminal<'_>,
+    setting: &Setting<'_>,
+) -> Result<AnyProgrammer, Unconnected>
+    ensures harmless { StaysHarmless (asked_over P.state link.old) (asked_over P.state link.new) }
+{
+    terminal.print_waiting();
+    let programmer = identify(link, setting.hertz)?;
+    report_higher_clock(terminal, setting.hertz, programmer.frequency());
+    if let Some(chip_select) = setting.chip_select {
+        programmer
+            .select_chip(link, chip_select)
+            .map_err(ProgrammerFault::Handshake)?;
+    }
+    let woken = wake(link, &programmer)?;
+    expect_chip(rt, link, &woken)?;
+    try_reads(link, &programmer)?;
+    // If the contact was lost since the chip woke, the job's first poll would wait for a chip that isn't there.
+    expect_chip(rt, link, &[])?;
+    Ok(programmer)
+}
+
+// The length in bytes of a unique ID, which must be read in one transaction.
+const UNIQUE_LEN: u32 = 8;
+
+// Identifies the programmer. Returns the fault of `AnyProgrammer::identify`, or `ReadLimit` if a transaction can't read
+// the eight bytes of a unique ID.
+fn identify<P: Port<Cause = PortFault> + Drop>(
+    link: &mut Link<P>,
+    hertz: Option<u32>,
+) -> Result<AnyProgrammer, ProgrammerFault>
+    ensures harmless { StaysHarmless (asked_over P.state link.old) (asked_over P.state link.new) }
+{
+    let programmer = AnyProgrammer::identify(link, hertz).map_err(ProgrammerFault::Handshake)?;
+    match programmer.longest_read() {
+        most if most < UNIQUE_LEN => {
+            Err(ProgrammerFault::Handshake(HandshakeFault::ReadLimit(most)))
+        }
+        _ => Ok(programmer),
+    }
+}
+
+// Prints a line if the clock that the programmer set is higher than that of `spispeed=`. Both are in hertz.
+fn report_higher_clock(terminal: Terminal<'_>, asked: Option<u32>, set: Option<u32>) {
+    match (asked, set) {
+        (Some(asked), Some(set)) if set > asked => {
+            terminal.print_shown(&HigherClock { asked, set });
+        }
+        _ => {}
+    }
+}
+
+#[derive(Clone, Copy)]
+struct HigherClock {
+    asked: u32,
+    set: u32,
+}
+
+impl fmt::Display for HigherClock {
+    fn fmt<W: fmt::Write>(&self, f: &mut fmt::Formatter<W>) -> fmt::Result {
+        write!(
+            f,
+            "The programmer set its clock to {} Hz, above the {} Hz of spispeed=.",
+            self.set, self.asked
+        )
+    }
+}
+
+// Returns `NoChip` if no chip replies, `NoStatus` if a device has an ID, but neither status 1 nor SFDP, or the fault of
+// an exchange that failed.
+fn expect_chip<P: Port<Cause = PortFault> + Drop>(
+    rt: &HostRuntime,
+    link: &mut Link<P>,
+    woken: &[u8],
+) -> Result<(), Unconnected>
+    ensures harmless { StaysHarmless (asked_over P.state link.old) (asked_over P.state link.new) }
+{
+    match look_for_chip(rt, link, woken).map_err(|failure| of_failure(failure))? {
+        Contact::Present => Ok(()),
+        Contact::Missing => Err(Unconnected::NoChip),
+        Contact::NoStatus => Err(Unconnected::NoStatus),
+    }
+}
+
+fn of_failure(failure: Failure<PortFault>) -> ProgrammerFault {
+    ProgrammerFault::Handshake(HandshakeFault::Failure(failure))
+}
