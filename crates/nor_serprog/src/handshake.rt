@@ -36,6 +36,7 @@ pub(crate) fn offers(commands: &Map, opcode: u8) -> bool
 pub(crate) fn synchronize<P: Port + Drop>(
     link: &mut Link<P>,
 ) -> Result<(), HandshakeFault<P::Cause>>
+    ensures nature { (P.state (port_of link.new)).honest ≡ (P.state (port_of link.old)).honest }
     ensures in_step { OnOk result (is_in_step link.new ≡ true) }
     ensures concludes { AwaitsCommand (P.state (port_of link.old)) → is_cut link.old ≡ false
         → Concludes 28 None (λ _. ⊤) result (P.state (port_of link.old)) (P.state (port_of link.new)) }
@@ -52,6 +53,7 @@ pub(crate) fn ask<P: Port + Drop>(
     command: Command<'_>,
     reply: &mut [u8],
 ) -> Result<(), HandshakeFault<P::Cause>>
+    ensures nature { (P.state (port_of link.new)).honest ≡ (P.state (port_of link.old)).honest }
     ensures in_step { OnOk result (is_in_step link.new ≡ true) }
     ensures asked { (firmware : Firmware) → IsInStepWith P.state firmware link.old → HasReply firmware command.entry
         → Asked firmware command.entry (length reply.old) reply.new result
@@ -72,6 +74,7 @@ fn query<P: Port + Drop, const LEN: usize>(
     query: Command<'_>,
     opcode: u8,
 ) -> Result<Option<[u8; LEN]>, HandshakeFault<P::Cause>>
+    ensures nature { (P.state (port_of link.new)).honest ≡ (P.state (port_of link.old)).honest }
     ensures in_step { is_in_step link.old ≡ true → OnOk result (is_in_step link.new ≡ true) }
     ensures concludes { (firmware : Firmware) (bytes : List ℕ) → IsInStepWith P.state firmware link.old
         → commands.now ≡ firmware.commands → HasReply firmware query.entry
@@ -97,6 +100,7 @@ pub(crate) fn set<P: Port + Drop>(
     setting: Command<'_>,
     opcode: u8,
 ) -> Result<(), HandshakeFault<P::Cause>>
+    ensures nature { (P.state (port_of link.new)).honest ≡ (P.state (port_of link.old)).honest }
     ensures in_step { is_in_step link.old ≡ true → OnOk result (is_in_step link.new ≡ true) }
     ensures concludes { (firmware : Firmware) (accepts : Bool) → IsInStepWith P.state firmware link.old
         → commands.now ≡ firmware.commands → (has_command firmware opcode ≡ true → HasReply firmware setting.entry)
@@ -116,6 +120,7 @@ pub(crate) fn set<P: Port + Drop>(
 pub(crate) fn require_version<P: Port + Drop>(
     link: &mut Link<P>,
 ) -> Result<(), HandshakeFault<P::Cause>>
+    ensures nature { (P.state (port_of link.new)).honest ≡ (P.state (port_of link.old)).honest }
     ensures in_step { is_in_step link.old ≡ true → OnOk result (is_in_step link.new ≡ true) }
     ensures concludes { (firmware : Firmware) → IsInStepWith P.state firmware link.old
         → Concludes 3 (version_fault firmware) (λ _. ⊤) result
@@ -134,6 +139,7 @@ pub(crate) fn require_version<P: Port + Drop>(
 pub(crate) fn query_commands<P: Port + Drop>(
     link: &mut Link<P>,
 ) -> Result<Map, HandshakeFault<P::Cause>>
+    ensures nature { (P.state (port_of link.new)).honest ≡ (P.state (port_of link.old)).honest }
     ensures in_step { is_in_step link.old ≡ true → OnOk result (is_in_step link.new ≡ true) }
     ensures concludes { (firmware : Firmware) → IsInStepWith P.state firmware link.old
         → Concludes 3 (operation_fault firmware) (λ commands. commands ≡ firmware.commands) result
@@ -152,6 +158,7 @@ pub(crate) fn require_spi<P: Port + Drop>(
     link: &mut Link<P>,
     commands: &Map,
 ) -> Result<(), HandshakeFault<P::Cause>>
+    ensures nature { (P.state (port_of link.new)).honest ≡ (P.state (port_of link.old)).honest }
     ensures in_step { is_in_step link.old ≡ true → OnOk result (is_in_step link.new ≡ true) }
     ensures concludes { (firmware : Firmware) → IsInStepWith P.state firmware link.old
         → commands.now ≡ firmware.commands → Concludes 3 (buses_fault firmware) (λ _. ⊤) result
@@ -169,6 +176,7 @@ fn query_buses<P: Port + Drop>(
     link: &mut Link<P>,
     commands: &Map,
 ) -> Result<u8, HandshakeFault<P::Cause>>
+    ensures nature { (P.state (port_of link.new)).honest ≡ (P.state (port_of link.old)).honest }
     ensures in_step { is_in_step link.old ≡ true → OnOk result (is_in_step link.new ≡ true) }
     ensures concludes { (firmware : Firmware) → IsInStepWith P.state firmware link.old
         → commands.now ≡ firmware.commands → Concludes 3 None (λ buses. buses ≡ buses_of firmware) result
@@ -193,6 +201,7 @@ pub(crate) fn query_write_limit<P: Port + Drop>(
     commands: &Map,
     least: u32,
 ) -> Result<u32, HandshakeFault<P::Cause>>
+    ensures nature { (P.state (port_of link.new)).honest ≡ (P.state (port_of link.old)).honest }
     ensures enough { IfOk result (λ limit. least ≤ limit) }
     ensures in_step { is_in_step link.old ≡ true → OnOk result (is_in_step link.new ≡ true) }
     ensures concludes { (firmware : Firmware) → IsInStepWith P.state firmware link.old
@@ -213,6 +222,7 @@ pub(crate) fn query_read_limit<P: Port + Drop>(
     commands: &Map,
     least: u32,
 ) -> Result<u32, HandshakeFault<P::Cause>>
+    ensures nature { (P.state (port_of link.new)).honest ≡ (P.state (port_of link.old)).honest }
     ensures enough { IfOk result (λ limit. least ≤ limit) }
     ensures in_step { is_in_step link.old ≡ true → OnOk result (is_in_step link.new ≡ true) }
     ensures concludes { (firmware : Firmware) → IsInStepWith P.state firmware link.old
@@ -250,6 +260,7 @@ pub(crate) fn query_buffer<P: Port + Drop>(
     commands: &Map,
     least: u16,
 ) -> Result<u16, HandshakeFault<P::Cause>>
+    ensures nature { (P.state (port_of link.new)).honest ≡ (P.state (port_of link.old)).honest }
     ensures in_step { is_in_step link.old ≡ true → OnOk result (is_in_step link.new ≡ true) }
     ensures concludes { (firmware : Firmware) → IsInStepWith P.state firmware link.old
         → commands.now ≡ firmware.commands → Concludes 3 (buffer_fault firmware least)
@@ -274,6 +285,7 @@ pub(crate) fn query_name<P: Port + Drop>(
     link: &mut Link<P>,
     commands: &Map,
 ) -> Result<[u8; 16], HandshakeFault<P::Cause>>
+    ensures nature { (P.state (port_of link.new)).honest ≡ (P.state (port_of link.old)).honest }
     ensures in_step { is_in_step link.old ≡ true → OnOk result (is_in_step link.new ≡ true) }
     ensures concludes { (firmware : Firmware) → IsInStepWith P.state firmware link.old
         → commands.now ≡ firmware.commands → Concludes 3 None
@@ -290,6 +302,7 @@ pub(crate) fn set_frequency<P: Port + Drop>(
     commands: &Map,
     hertz: Option<u32>,
 ) -> Result<Option<u32>, HandshakeFault<P::Cause>>
+    ensures nature { (P.state (port_of link.new)).honest ≡ (P.state (port_of link.old)).honest }
     ensures in_step { is_in_step link.old ≡ true → OnOk result (is_in_step link.new ≡ true) }
     ensures concludes { (firmware : Firmware) → IsInStepWith P.state firmware link.old
         → commands.now ≡ firmware.commands → Concludes 3 (clock_fault firmware hertz)

@@ -36,6 +36,7 @@ impl AnyProgrammer {
         link: &mut Link<P>,
         hertz: Option<u32>,
     ) -> Result<AnyProgrammer, HandshakeFault<P::Cause>>
+        ensures nature { (P.state (port_of link.new)).honest ≡ (P.state (port_of link.old)).honest }
         ensures in_step { OnOk result (is_in_step link.new ≡ true) }
         ensures identifies { AwaitsCommand (P.state (port_of link.old)) → is_cut link.old ≡ false
             → Concludes 58 (narrow_fault (P.state (port_of link.old)).device.firmware hertz)
@@ -61,6 +62,7 @@ impl AnyProgrammer {
         link: &mut Link<P>,
         number: u8,
     ) -> Result<(), HandshakeFault<P::Cause>>
+        ensures nature { (P.state (port_of link.new)).honest ≡ (P.state (port_of link.old)).honest }
         ensures unsent { self.now.selects ≡ false → link.new ≡ link.old }
         ensures lacks { self.now.selects ≡ false → IsErr result }
         ensures ok { OnOk result (is_in_step link.new ≡ true) }
@@ -100,6 +102,7 @@ impl Programmer {
         link: &mut Link<P>,
         hertz: Option<u32>,
     ) -> Result<Programmer, HandshakeFault<P::Cause>>
+        ensures nature { (P.state (port_of link.new)).honest ≡ (P.state (port_of link.old)).honest }
         ensures in_step { OnOk result (is_in_step link.new ≡ true) }
         ensures identifies { AwaitsCommand (P.state (port_of link.old)) → is_cut link.old ≡ false
             → Concludes 58 (identify_fault (P.state (port_of link.old)).device.firmware hertz)
@@ -122,6 +125,7 @@ impl Programmer {
         link: &mut Link<P>,
         number: u8,
     ) -> Result<(), HandshakeFault<P::Cause>>
+        ensures nature { (P.state (port_of link.new)).honest ≡ (P.state (port_of link.old)).honest }
         ensures unsent { has_chip_selects self.now ≡ false → link.new ≡ link.old }
         ensures lacks { has_chip_selects self.now ≡ false → IsErr result }
         ensures ok { OnOk result (is_in_step link.new ≡ true) }
@@ -142,6 +146,7 @@ fn identify_for<P: Port + Drop>(
 ) -> Result<AnyProgrammer, HandshakeFault<P::Cause>>
     requires write { 5 ≤ least.write }
     requires read { 1 ≤ least.read }
+    ensures nature { (P.state (port_of link.new)).honest ≡ (P.state (port_of link.old)).honest }
     ensures in_step { OnOk result (is_in_step link.new ≡ true) }
     ensures writes { IfOk result (λ programmer. least.write ≤ programmer.longest_write) }
     ensures reads { IfOk result (λ programmer. least.read ≤ programmer.longest_read) }
