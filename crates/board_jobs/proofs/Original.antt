@@ -24,10 +24,7 @@ use Rattle.nor_session.specs.Headline.{CanRestore, open_addresses}
 use Rattle.nor_session.specs.Restore.{IsOfTypeFound}
 use Rattle.nor_session.proofs.RestoredOriginal.{within_after_reads}
 use Rattle.nor_jobs.specs.Finding.{HasIdentified, IsProbed}
-
-pub record HasOnlyLooked (old new : BusState) : Type 0 where
-  pub most : ℕ
-  pub only_reads : OnlyReads most old new
+use Rattle.board_jobs.specs.Looked.{HasOnlyLooked}
 
 pub looked_by : {most : ℕ} {old new : BusState} → OnlyReads most old new → HasOnlyLooked old new
 looked_by {most} only_reads = record { most = most; only_reads = only_reads }

@@ -5,8 +5,9 @@ use Rattle.std.specs.Prelude.{◌&&◌, nat_lt, OnOk, if◌then◌else◌}
 use Rattle.std.specs.Borrow.{Bor}
 use Rattle.std.proofs.lemmas.Bool.{cases_lt}
 use Rattle.std.proofs.lemmas.List.{get_or_past}
-use Rattle.nor_model.specs.Bus.{BusState}
+use Rattle.nor_model.specs.Bus.{BusState, KeepsNature}
 use Rattle.nor_model.specs.Chip.{Chip, IsSame}
+use Rattle.nor_model.proofs.Nature.{nature_then}
 use Rattle.nor_driver.specs.OnlyReads.{IsSteadyOrIdle}
 use Rattle.nor_driver.specs.StatusWrites.{fixed_of, with_code}
 use Rattle.nor_files.specs.Files.{FilesState, View, is_lawful}
@@ -39,11 +40,11 @@ use Rattle.board_files.specs.Tasks.{is_compared}
 use Rattle.board_jobs.specs.Following.{ranges_if}
 use Rattle.board_jobs.specs.Jobs.{DoesTask, EndsJob, FailsChange, FailsPerform, HasChangedAndCompared, HasChangedBy}
 use Rattle.board_jobs.specs.Jobs.{HasRunChange, IsBufferOf, ranges_of}
+use Rattle.board_jobs.specs.Looked.{HasOnlyLooked}
 use Rattle.board_jobs.specs.Original.{ChangeKeepsOriginal, IsChangedAsAsked, CanRestoreFromFile, IsUntouched}
 use Rattle.board_jobs.specs.declared.chip_faults.JobFault.{JobFault}
 use Rattle.board_jobs.specs.declared.chip_faults.JobFault.TheVariants as ended
-use Rattle.board_jobs.proofs.Original.{HasOnlyLooked, can_restore_after, looked_by, looked_then, modelled_after}
-use Rattle.board_jobs.proofs.Original.{same_after}
+use Rattle.board_jobs.proofs.Original.{can_restore_after, looked_by, looked_then, modelled_after, same_after}
 use Rattle.board_jobs.proofs.OriginalLooked.{buffer_looked, can_restore_same, change_fails_looked}
 use Rattle.board_jobs.proofs.OriginalLooked.{follow_fails_looked, follow_looked}
 
@@ -110,7 +111,7 @@ module _ (old found changed new : BusState) (modelled : IsModelled old) (settled
         → IsUntouched old new ⊎ CanRestoreFromFile file old.chip new after
     by_seal false is =
         let all = looked_then before (looked_then (looked_by (ran.ran.always.only_reads is)) later) in
-        inl (record { same = same_after all modelled.honest settled; unsent = all.only_reads.sent })
+        inl (record { looked = all; same = same_after all modelled.honest settled; unsent = all.only_reads.sent })
     by_seal true is =
         let kept = ran.kept_in lawful in
         let can = ran.ran.keeps.restorable is kept.telling there in
@@ -178,7 +179,11 @@ module _ (operation : Operation) (change : Change) (ranges : Option (List Span))
   Restorable = IsUntouched old new ⊎ CanRestoreFromFile file.now old.chip new after
 
   untouched : HasOnlyLooked old new → Restorable
-  untouched looked = inl (record { same = same_after looked modelled.honest settled; unsent = looked.only_reads.sent })
+  untouched looked = inl (record {
+    looked = looked;
+    same = same_after looked modelled.honest settled;
+    unsent = looked.only_reads.sent;
+  })
 
   module _ (changed : BusState) (outcome : Result Answer Refusal)
       (ran : HasRunChange operation change ranges bytes file.now view after old changed outcome)
@@ -186,6 +191,10 @@ module _ (operation : Operation) (change : Change) (ranges : Option (List Span))
     before_run : HasOnlyLooked old ran.found
     before_run = buffer_looked operation.named change.wanted (ranges_of operation change ranges) bytes old ran.found
         ran.image ran.buffer
+
+    session_nature : KeepsNature old new
+    session_nature = nature_then old changed new later.only_reads.nature
+        (nature_then old ran.found changed ran.ran.ran.always.spends.nature before_run.only_reads.nature)
 
     session_restorable : Restorable
     session_restorable = run_restorable old ran.found changed new modelled settled before_run later
@@ -199,10 +208,12 @@ module _ (operation : Operation) (change : Change) (ranges : Option (List Span))
 
   done_restorable : (outcome : Result Answer Refusal)
       → HasChangedAndCompared operation change ranges bytes file.now view after old new outcome
-      → Restorable × OnOk outcome (IsChangedAsAsked operation change ranges bytes old.chip new.chip)
+      → KeepsNature old new × Restorable
+      × OnOk outcome (IsChangedAsAsked operation change ranges bytes old.chip new.chip)
   done_restorable outcome does =
       let later = follow_looked outcome (is_compared operation change) operation.named does.session.image
       does.changed new does.followed in (
+        session_nature does.changed outcome does.session later,
         session_restorable does.changed outcome does.session later,
         session_changed does.changed outcome does.session later,
       )
@@ -210,30 +221,30 @@ module _ (operation : Operation) (change : Change) (ranges : Option (List Span))
   done_changes : (answer : Answer)
       → HasChangedBy operation change ranges bytes (uses.Journal file) view after old new (Ok answer)
       → ChangeKeepsOriginal operation change ranges bytes file.now after old new (Ok answer)
-  done_changes answer does = let both = done_restorable (Ok answer) does in
-      record { restorable = both.0; asked = both.1 }
+  done_changes answer does = let all = done_restorable (Ok answer) does in
+      record { nature = all.0; restorable = all.1; asked = all.2 }
 
   refused_changes : (refusal : Refusal)
       → HasChangedBy operation change ranges bytes (uses.Journal file) view after old new (Err refusal)
       → ChangeKeepsOriginal operation change ranges bytes file.now after old new
       (Err (ended.Fault (end.Refused refusal)))
-  refused_changes refusal does = let both = done_restorable (Err refusal) does in
-      record { restorable = both.0; asked = tt }
+  refused_changes refusal does = let all = done_restorable (Err refusal) does in
+      record { nature = all.0; restorable = all.1; asked = tt }
 
   failed_changes : (fault : JobFault)
       → FailsChange operation change ranges bytes (uses.Journal file) view after old new fault
       → ChangeKeepsOriginal operation change ranges bytes file.now after old new (Err fault)
-  failed_changes (ended.Fault fault) fails = record {
-    restorable =
-        untouched (change_fails_looked operation change ranges bytes (uses.Journal file) view old new fault fails);
-    asked = tt;
-  }
+  failed_changes (ended.Fault fault) fails =
+      let looked = change_fails_looked operation change ranges bytes (uses.Journal file) view old new fault fails in
+      record { nature = looked.only_reads.nature; restorable = untouched looked; asked = tt }
   failed_changes (ended.Protected byte id) fails =
-      record { restorable = untouched (looked_by fails.protected.identified.always.only_reads); asked = tt }
+      let looked = looked_by fails.protected.identified.always.only_reads in
+      record { nature = looked.only_reads.nature; restorable = untouched looked; asked = tt }
   failed_changes (ended.NotCompared refusal) fails =
       let later = follow_fails_looked fails.reported (is_compared operation change) operation.named fails.session.image
       fails.changed new refusal fails.fails in
       record {
+        nature = session_nature fails.changed (Ok fails.reported) fails.session later;
         restorable = session_restorable fails.changed (Ok fails.reported) fails.session later;
         asked = session_changed fails.changed (Ok fails.reported) fails.session later;
       }

@@ -4,8 +4,9 @@ use Rattle.std.proofs.Common.{refl, subst, sym}
 use Rattle.std.specs.Prelude.{IsOk, OnOk}
 use Rattle.std.specs.Borrow.{Bor}
 use Rattle.std.proofs.lemmas.Bool.{false≢true}
-use Rattle.nor_model.specs.Bus.{BusState}
+use Rattle.nor_model.specs.Bus.{BusState, KeepsNature}
 use Rattle.nor_model.specs.Chip.{Chip, IsSame}
+use Rattle.nor_model.proofs.Nature.{nature_refl, nature_then}
 use Rattle.nor_driver.proofs.ReadsInTurn.{same_then}
 use Rattle.nor_files.specs.Files.{FilesState, View}
 use Rattle.nor_journal.specs.Text.{Content as Journal, IsContent, text}
@@ -30,14 +31,14 @@ use Rattle.nor_jobs.specs.Finding.{HasIdentified}
 use Rattle.nor_jobs.specs.Restoring.{IsNoJournal}
 use Rattle.board_jobs.specs.Fitting.{HasRestoredFitting}
 use Rattle.board_jobs.specs.Jobs.{DoesTask, EndsJob, FailsPerform}
+use Rattle.board_jobs.specs.Looked.{HasOnlyLooked}
 use Rattle.board_jobs.specs.Original.{FailsAtRest, MayFail, MayRefuse, RestoreKeepsOriginal}
 use Rattle.board_jobs.specs.Restoring.{FailsBy, FailsRestOf, FailsRestore, HasReadBefore, HasRestored, HasRestoredBy}
 use Rattle.board_jobs.specs.UnsavedSectors.{FailsRest, FollowsRestore, is_compared_after}
 use Rattle.board_jobs.specs.declared.chip_faults.JobFault.{JobFault}
 use Rattle.board_jobs.specs.declared.chip_faults.JobFault.TheVariants as ended
-use Rattle.board_jobs.proofs.Original.{FailsNamed, HasOnlyLooked, can_restore_after, identified_fails}
-use Rattle.board_jobs.proofs.Original.{identified_type, looked_by, looked_none, looked_then, modelled_after}
-use Rattle.board_jobs.proofs.Original.{same_after, same_content}
+use Rattle.board_jobs.proofs.Original.{FailsNamed, can_restore_after, identified_fails, identified_type, looked_by}
+use Rattle.board_jobs.proofs.Original.{looked_none, looked_then, modelled_after, same_after, same_content}
 use Rattle.board_jobs.proofs.OriginalRestored.{CallFails, HasKeptFirst, fitting_kept}
 
 rest_looked : (followed : Bool) (journal : Journal) (rest : List ℕ) (old new : BusState)
@@ -105,17 +106,18 @@ on_success : {P : Type 0} (outcome : Result Answer Refusal) → IsOk outcome →
 on_success (Ok answer) is holds = holds
 on_success (Err refusal) is holds = absurd (false≢true is)
 
--- Holds after a job's call to the engine: the journal can still restore `first`, after success the chip equals `first`,
--- and an error is one of `MayRefuse`.
+-- Holds after a job's call to the engine: the bus kept its nature, the journal can still restore `first`, after success
+-- the chip equals `first`, and an error is one of `MayRefuse`.
 record HasEnded (operation : Operation) (journal : Journal) (first : Chip) (old new : BusState)
     (outcome : Result Answer Refusal) : Type 0 where
+  nature : KeepsNature old new
   still : CanRestore journal first new
   back : OnOk outcome (IsSame first new.chip)
   fails : IfErr outcome (MayRefuse operation.is_quick operation.named journal first old new)
 
 abbrev HasFailed : Operation → Journal → (first : Chip) → (old new : BusState) → JobFault → Type 0
 HasFailed operation journal first old new fault =
-    CanRestore journal first new × MayFail operation journal first old new fault
+    KeepsNature old new × CanRestore journal first new × MayFail operation journal first old new fault
 
 module _ (operation : Operation) (journal : Journal) (first : Chip) (old new : BusState) (modelled : IsModelled old)
     (can : CanRestore journal first old) where
@@ -129,13 +131,21 @@ module _ (operation : Operation) (journal : Journal) (first : Chip) (old new : B
     kept = fitting_kept operation.is_quick None journal first found restored outcome (modelled_after looked modelled)
         (can_restore_after looked journal first modelled.honest can) ran
 
+    restored_honest : restored.honest ≡ true
+    restored_honest = kept.nature.honest ∙ (modelled_after looked modelled).honest
+
+    nature_kept : HasOnlyLooked restored new → KeepsNature old new
+    nature_kept later = nature_then old restored new later.only_reads.nature
+        (nature_then old found restored kept.nature looked.only_reads.nature)
+
     compared_ended : FollowsRestore (is_compared_after outcome) journal rest restored new
         → HasEnded operation journal first old new outcome
     compared_ended followed =
         let later = rest_looked (is_compared_after outcome) journal rest restored new followed in
         record {
-          still = can_restore_after later journal first kept.honest kept.still;
-          back = back_followed first restored new outcome later kept.honest kept.back;
+          nature = nature_kept later;
+          still = can_restore_after later journal first restored_honest kept.still;
+          back = back_followed first restored new outcome later restored_honest kept.back;
           fails = outcome_followed operation.is_quick operation.named journal first old found restored new rest outcome
               followed kept.fails;
         }
@@ -147,10 +157,12 @@ module _ (operation : Operation) (journal : Journal) (first : Chip) (old new : B
         let later = rest_fails_looked journal rest restored new refusal fails in
         let succeeded = compared_succeeds operation.is_quick journal first found restored outcome followed
         kept.fails in (
-          can_restore_after later journal first kept.honest kept.still,
+          nature_kept later,
+          can_restore_after later journal first restored_honest kept.still,
           record {
             succeeded = succeeded;
-            back = on_success outcome succeeded (back_followed first restored new outcome later kept.honest kept.back);
+            back = on_success outcome succeeded
+                (back_followed first restored new outcome later restored_honest kept.back);
             fails = rest_fails_at journal rest restored new refusal fails;
           },
         )
@@ -158,8 +170,10 @@ module _ (operation : Operation) (journal : Journal) (first : Chip) (old new : B
   call_ended : (outcome : Result Answer Refusal)
       → HasKeptFirst operation.is_quick operation.named journal first old new outcome
       → HasEnded operation journal first old new outcome
-  call_ended (Ok answer) kept = record { still = kept.still; back = kept.back.0; fails = tt }
+  call_ended (Ok answer) kept =
+      record { nature = kept.nature; still = kept.still; back = kept.back.0; fails = tt }
   call_ended (Err refusal) kept = record {
+    nature = kept.nature;
     still = kept.still;
     back = tt;
     fails = may_refuse operation.is_quick operation.named journal first old new refusal kept.fails;
@@ -177,17 +191,20 @@ module _ (operation : Operation) (journal : Journal) (first : Chip) (old new : B
       → HasFailed operation journal first old new (ended.Fault (end.Refused refusal))
   unread OtherChip chip found identified fails =
       absurd (fails.1 (identified_type journal first operation.named old found modelled can chip identified))
-  unread Stopped chip found identified fails = (
-    can_restore_after (looked_then (looked_by identified.always.only_reads) (looked_by fails.only_reads)) journal first
-        modelled.honest can,
-    fails.stopped.last,
-  )
+  unread Stopped chip found identified fails =
+      let looked = looked_then (looked_by identified.always.only_reads) (looked_by fails.only_reads) in (
+        looked.only_reads.nature,
+        can_restore_after looked journal first modelled.honest can,
+        fails.stopped.last,
+      )
   unread _ chip found identified fails = absurd fails
 
   by_failed : (compared : Bool) (fault : JobFault) → FailsBy compared operation journal old new fault
       → HasFailed operation journal first old new fault
-  by_failed true (ended.Fault fault) (inl short) = rw short.1 (rw short.0 can, short.0)
+  by_failed true (ended.Fault fault) (inl short) =
+      rw short.1 (rw short.0 (nature_refl old), rw short.0 can, short.0)
   by_failed true (ended.Fault fault) (inr (inl failed)) = rw failed.2 (
+    failed.1.always.only_reads.nature,
     can_restore_after (looked_by failed.1.always.only_reads) journal first modelled.honest can,
     named_refuse operation.is_quick operation.named journal first old new failed.0
         (identified_fails journal first operation.named old new modelled can failed.0 failed.1),
@@ -219,17 +236,17 @@ module _ (operation : Operation) (journal : Journal) (first : Chip) (old new : B
     done : (answer : Answer) → HasRestored operation bytes old new (Ok answer)
         → RestoreKeepsOriginal operation journal first old new (Ok answer)
     done answer does = let ended' = restore_ended (Ok answer) does in
-        record { still = ended'.still; back = ended'.back; fails = tt }
+        record { nature = ended'.nature; still = ended'.still; back = ended'.back; fails = tt }
 
     refused : (refusal : Refusal) → HasRestored operation bytes old new (Err refusal)
         → RestoreKeepsOriginal operation journal first old new (Err (ended.Fault (end.Refused refusal)))
     refused refusal does = let ended' = restore_ended (Err refusal) does in
-        record { still = ended'.still; back = tt; fails = ended'.fails }
+        record { nature = ended'.nature; still = ended'.still; back = tt; fails = ended'.fails }
 
     failed : (fault : JobFault) → FailsRestore operation bytes old new fault
         → RestoreKeepsOriginal operation journal first old new (Err fault)
     failed fault fails = let kept = restore_failed fault fails in
-        record { still = kept.0; back = tt; fails = kept.1 }
+        record { nature = kept.0; still = kept.1; back = tt; fails = kept.2 }
 
     module _ (ranges : Option (List Span)) (before : View) (after : FilesState) (file : Bor Text)
         (is : operation.task ≡ task.Restore file) where

@@ -23,8 +23,9 @@ use Rattle.nor_console.specs.declared.messages.Fault.{Fault}
 use Rattle.nor_jobs.specs.Sources.{asked_bytes}
 use Rattle.board_jobs.specs.Following.{FailsToFollow, FailsToMerge, IsFollowed, IsWholeTarget}
 use Rattle.board_jobs.specs.Jobs.{FailsToChange, FailsToFill, FailsToTarget, HasTarget, IsBufferOf}
+use Rattle.board_jobs.specs.Looked.{HasOnlyLooked}
 use Rattle.board_jobs.specs.declared.chip_faults.JobFault.TheVariants as ended
-use Rattle.board_jobs.proofs.Original.{HasOnlyLooked, looked_by, looked_none, looked_then}
+use Rattle.board_jobs.proofs.Original.{looked_by, looked_none, looked_then}
 
 -- If `first` has the configuration, bytes and non-volatile status bits of `other`, a journal that can restore `first`
 -- can restore `other`.

@@ -3,9 +3,10 @@ use Rattle.std.proofs.Common.{◌≡◌, ◌≢◌, ◌∙◌, ℕ, Bool, false,
 use Rattle.std.proofs.Common.{IfOk, ap, inl, inr, refl}
 use Rattle.std.specs.Prelude.{IfSome, IsSomeAnd, OnOk, ⊤}
 use Rattle.std.proofs.lemmas.Bool.{false≢true}
-use Rattle.nor_model.specs.Bus.{BusState}
+use Rattle.nor_model.specs.Bus.{BusState, KeepsNature}
 use Rattle.nor_model.specs.Chip.{Chip, IsSame}
 use Rattle.nor_model.specs.History.{EndsStopped}
+use Rattle.nor_model.proofs.Nature.{nature_then}
 use Rattle.nor_driver.specs.StatusWrites.{fixed_of}
 use Rattle.nor_journal.specs.Text.{Content as Journal}
 use Rattle.nor_probe.specs.Found.{HasOtherName}
@@ -24,8 +25,9 @@ use Rattle.nor_console.specs.declared.answers.Answer.{Answer}
 use Rattle.nor_jobs.specs.Finding.{IsNamedFirst}
 use Rattle.nor_jobs.specs.Restoring.{HasRestoredNamed, HasRunRestore, RestoresBy, choice_of}
 use Rattle.board_jobs.specs.Fitting.{HasRestoredFitting}
-use Rattle.board_jobs.proofs.Original.{FailsNamed, HasOnlyLooked, can_restore_after, identified_fails, looked_by}
-use Rattle.board_jobs.proofs.Original.{looked_none, modelled_after}
+use Rattle.board_jobs.specs.Looked.{HasOnlyLooked}
+use Rattle.board_jobs.proofs.Original.{FailsNamed, can_restore_after, identified_fails, looked_by, looked_none}
+use Rattle.board_jobs.proofs.Original.{modelled_after}
 
 abbrev IsStopOrLock : Refusal → Type 0
 IsStopOrLock Stopped = ⊤
@@ -93,11 +95,11 @@ back_by : (quick : Bool) (journal : Journal) (first : Chip) (old new : BusState)
 back_by true journal first old new report can restores = restores.back first can
 back_by false journal first old new report can restores = restores.back first can
 
--- Holds after a call from `old` to `new`: the bus is still well-behaved, the journal can still restore `first`, and
--- after success the chip is idle and equals `first`.
+-- Holds after a call from `old` to `new`: the bus kept its nature, the journal can still restore `first`, and after
+-- success the chip is idle and equals `first`.
 pub record HasKeptFirst (quick : Bool) (named : Option ChipName) (journal : Journal) (first : Chip)
     (old new : BusState) (outcome : Result Answer Refusal) : Type 0 where
-  pub honest : new.honest ≡ true
+  pub nature : KeepsNature old new
   pub still : CanRestore journal first new
   pub back : OnOk outcome (IsSame first new.chip × (new.chip.busy ≡ 0))
   pub fails : IfErr outcome (CallFails quick named journal first old new)
@@ -105,30 +107,30 @@ pub record HasKeptFirst (quick : Bool) (named : Option ChipName) (journal : Jour
 module _ (quick : Bool) (named : Option ChipName) (journal : Journal) (first : Chip) (start old new : BusState)
     (modelled : IsModelled old) (can : CanRestore journal first old) where
   result_kept : (result : Result Report Refusal) (outcome : Result Answer Refusal)
-      → AnswersCall ReportsDone result outcome → new.honest ≡ true → RestoresBy quick journal old new result
+      → AnswersCall ReportsDone result outcome → KeepsNature start new → RestoresBy quick journal old new result
       → IfErr result (ErrorsBy (choice_of quick) journal old new)
       → IfErr result (λ refusal. EndsAtError refusal new.history)
       → IfOk result (IsRestoredBy (choice_of quick) journal old new)
       → HasKeptFirst quick named journal first start new outcome
-  result_kept (Ok report) (Ok answer) returned honest restores errors ends done = record {
-    honest = honest;
+  result_kept (Ok report) (Ok answer) returned nature restores errors ends done = record {
+    nature = nature;
     still = still_by quick journal first old new (Ok report) can restores;
     back = (back_by quick journal first old new report can restores, done.made.idle);
     fails = tt;
   }
-  result_kept (Err refusal) (Err passed) returned honest restores errors ends done = record {
-    honest = honest;
+  result_kept (Err refusal) (Err passed) returned nature restores errors ends done = record {
+    nature = nature;
     still = still_by quick journal first old new (Err refusal) can restores;
     back = tt;
     fails = rw returned (engine_fails quick named journal first start old new refusal can restores errors ends);
   }
-  result_kept (Ok report) (Err passed) returned honest restores errors ends done = absurd returned
-  result_kept (Err refusal) (Ok answer) returned honest restores errors ends done = absurd returned
+  result_kept (Ok report) (Err passed) returned nature restores errors ends done = absurd returned
+  result_kept (Err refusal) (Ok answer) returned nature restores errors ends done = absurd returned
 
-  ran_kept : (outcome : Result Answer Refusal) → HasRunRestore quick journal old new outcome
+  ran_kept : KeepsNature start old → (outcome : Result Answer Refusal) → HasRunRestore quick journal old new outcome
       → HasKeptFirst quick named journal first start new outcome
-  ran_kept outcome ran = result_kept ran.result outcome ran.returned
-      (ran.always.spends.nature.honest ∙ modelled.honest) (ran.restores_original modelled)
+  ran_kept before outcome ran = result_kept ran.result outcome ran.returned
+      (nature_then start old new ran.always.spends.nature before) (ran.restores_original modelled)
       (ran.modelled modelled).errors ran.always.last_transaction (ran.modelled modelled).done
 
 named_looked : (named : Option ChipName) (old new : BusState) → IsNamedFirst named old new → HasOnlyLooked old new
@@ -147,12 +149,12 @@ named_kept : (quick : Bool) (named : Option ChipName) (journal : Journal) (first
 named_kept quick named journal first old new outcome modelled can (inl does) =
     let looked = named_looked named old does.found does.first in
     ran_kept quick named journal first old does.found new (modelled_after looked modelled)
-    (can_restore_after looked journal first modelled.honest can) outcome does.ran
+    (can_restore_after looked journal first modelled.honest can) looked.only_reads.nature outcome does.ran
 named_kept quick None journal first old new outcome modelled can (inr failed) = absurd failed.1
 named_kept quick (Some name) journal first old new outcome modelled can (inr failed) =
     let looked = looked_by failed.1.always.only_reads in
     rw failed.2 (record {
-      honest = (modelled_after looked modelled).honest;
+      nature = looked.only_reads.nature;
       still = can_restore_after looked journal first modelled.honest can;
       back = tt;
       fails = named_call quick (Some name) journal first old new failed.0

@@ -12,3 +12,4 @@ pub mod Ending
 pub mod BoardBits
 pub mod Fitting
 pub mod Original
+pub mod Looked

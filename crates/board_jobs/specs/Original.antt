@@ -1,6 +1,6 @@
 -- The effect of a restore, a change and a backup on the original chip, on a modelled bus.
 use Rattle.std.specs.Prelude.{◌≡◌, ◌/◌, ◌⊎◌, ℕ, Bool, false, List, Option, Some, Result, Ok, Err, IfErr, IsOk, OnOk, ⊤}
-use Rattle.nor_model.specs.Bus.{BusState}
+use Rattle.nor_model.specs.Bus.{BusState, KeepsNature}
 use Rattle.nor_model.specs.Chip.{Chip, IsSame}
 use Rattle.nor_model.specs.History.{EndsStopped}
 use Rattle.nor_driver.specs.StatusWrites.{with_code}
@@ -22,6 +22,7 @@ use Rattle.nor_args.specs.declared.job.Operation.{Operation}
 use Rattle.nor_console.specs.Requests.{request_for, what_of}
 use Rattle.nor_console.specs.declared.answers.Answer.{Answer}
 use Rattle.nor_console.specs.declared.messages.Fault.TheVariants as end
+use Rattle.board_jobs.specs.Looked.{HasOnlyLooked}
 use Rattle.board_jobs.specs.Sends.{KeepsSent}
 use Rattle.board_jobs.specs.declared.chip_faults.JobFault.{JobFault}
 use Rattle.board_jobs.specs.declared.chip_faults.JobFault.TheVariants as ended
@@ -67,14 +68,17 @@ MayFail operation journal first old new _ = ⊥
 -- Holds after a restore on a modelled bus, if its journal could restore the original chip `first` at the start.
 pub record RestoreKeepsOriginal (operation : Operation) (journal : Journal) (first : Chip) (old new : BusState)
     (result : Result Answer JobFault) : Type 0 where
+  pub nature : KeepsNature old new
   -- At every exit the journal can still restore `first`.
   pub still : CanRestore journal first new
   -- After success the chip has the bytes and the non-volatile status bits of `first`.
   pub back : OnOk result (IsSame first new.chip)
   pub fails : IfErr result (MayFail operation journal first old new)
 
--- Holds if the chip has its bytes and non-volatile status bits as before, and no modifying command was sent.
+-- Holds if a job only read: the chip has its bytes and non-volatile status bits as before, and no modifying command was
+-- sent.
 pub record IsUntouched (old new : BusState) : Type 0 where
+  pub looked : HasOnlyLooked old new
   pub same : IsSame old.chip new.chip
   pub unsent : KeepsSent old new
 
@@ -108,6 +112,7 @@ EndsChangedAsAsked operation change ranges bytes old new (Err _) = ⊤
 pub record ChangeKeepsOriginal (operation : Operation) (change : Change) (ranges : Option (List Span))
     (bytes : List ℕ) (file : Text) (after : FilesState) (old new : BusState)
     (result : Result Answer JobFault) : Type 0 where
+  pub nature : KeepsNature old new
   -- At every exit the chip is untouched, or the file durably contains a journal that can restore it.
   pub restorable : IsUntouched old new ⊎ CanRestoreFromFile file old.chip new after
   pub asked : EndsChangedAsAsked operation change ranges bytes old.chip new.chip result

@@ -1,6 +1,7 @@
 //! Finds and reports sectors that this run or an earlier session changed by accident, and a journal that is lost.
 ghost use Rattle.std.specs.Prelude.{◌≡◌, ◌≤◌};
 ghost use Rattle.nor_console.specs.Printing.{Prints};
+ghost use Rattle.board_jobs.specs.Looked.{HasOnlyLooked};
 ghost use Rattle.board_jobs.specs.Strays.{IsAsBefore};
 ghost use Rattle.board_progress.specs.ProgressBus.{notes_of};
 ghost use Rattle.board_jobs.specs.Ending.{AreJobLines};
@@ -30,7 +31,8 @@ pub fn report_strays<'b, B: Bus + Drop, E: Write>(
     fault: &JobFault<'_>,
     operation: &Operation<'_>,
 )
-    ensures { (⟦<ProgressBus<'b, B> as Bus>⟧.state bus.new).sent ≡ (⟦<ProgressBus<'b, B> as Bus>⟧.state bus.old).sent }
+    ensures { HasOnlyLooked (⟦<ProgressBus<'b, B> as Bus>⟧.state bus.old)
+        (⟦<ProgressBus<'b, B> as Bus>⟧.state bus.new) }
 {
     if !is_examined(fault, operation) {
         return;
@@ -64,7 +66,7 @@ fn is_examined(fault: &JobFault<'_>, operation: &Operation<'_>) -> bool {
 }
 
 fn find_strays<B: Bus>(bus: &mut B, notes: &Notes) -> Result<Changed, Stopped>
-    ensures { (B.state bus.new).sent ≡ (B.state bus.old).sent }
+    ensures { HasOnlyLooked (B.state bus.old) (B.state bus.new) }
 {
     let mut strays = Changed::default();
     let mut bytes = [0; SECTOR_LEN as usize];
