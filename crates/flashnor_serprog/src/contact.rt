@@ -2,6 +2,9 @@
 
 ghost use Rattle.std.specs.Prelude.{◌≡◌, true};
 ghost use Rattle.nor_serprog.specs.Harmless.{StaysHarmless, begins_harmless};
+ghost use Rattle.nor_serprog.specs.Link.{is_in_step, port_of};
+ghost use Rattle.nor_serprog.specs.Replies.{AwaitsCommand};
+ghost use Rattle.flashnor_serprog.specs.Looking.{EndsLooking};
 ghost use Rattle.flashnor_serprog.specs.Ports.{asked_over};
 
 use crate::port::PortFault;
@@ -44,6 +47,9 @@ pub fn look_for_chip<P: Port<Cause = PortFault> + Drop>(
     heard: &[u8],
 ) -> Result<Contact, Failure<PortFault>>
     ensures harmless { StaysHarmless (asked_over P.state link.old) (asked_over P.state link.new) }
+    ensures nature { (P.state (port_of link.new)).honest ≡ (P.state (port_of link.old)).honest }
+    ensures looks { AwaitsCommand (P.state (port_of link.old)) → is_in_step link.old ≡ true
+        → EndsLooking P.state result link.old link.new }
 {
     if !is_idle(heard) {
         return Ok(Contact::Present);
@@ -86,6 +92,9 @@ fn leave_modes<P: Port<Cause = PortFault> + Drop>(
     link: &mut Link<P>,
 ) -> Result<(), Failure<PortFault>>
     ensures harmless { StaysHarmless (asked_over P.state link.old) (asked_over P.state link.new) }
+    ensures nature { (P.state (port_of link.new)).honest ≡ (P.state (port_of link.old)).honest }
+    ensures looks { AwaitsCommand (P.state (port_of link.old)) → is_in_step link.old ≡ true
+        → EndsLooking P.state result link.old link.new }
 {
     send(link, &[0xFF])?;
     send(link, &[0xFF, 0xFF])
@@ -97,6 +106,9 @@ fn send<P: Port<Cause = PortFault> + Drop>(
 ) -> Result<(), Failure<PortFault>>
     requires reads { begins_harmless out.now ≡ true }
     ensures harmless { StaysHarmless (asked_over P.state link.old) (asked_over P.state link.new) }
+    ensures nature { (P.state (port_of link.new)).honest ≡ (P.state (port_of link.old)).honest }
+    ensures looks { AwaitsCommand (P.state (port_of link.old)) → is_in_step link.old ≡ true
+        → EndsLooking P.state result link.old link.new }
 {
     link.exchange(Command::Operate { out, replies: 0 }, &mut [])
 }
@@ -106,6 +118,9 @@ fn returns_id<P: Port<Cause = PortFault> + Drop>(
     link: &mut Link<P>,
 ) -> Result<bool, Failure<PortFault>>
     ensures harmless { StaysHarmless (asked_over P.state link.old) (asked_over P.state link.new) }
+    ensures nature { (P.state (port_of link.new)).honest ≡ (P.state (port_of link.old)).honest }
+    ensures looks { AwaitsCommand (P.state (port_of link.old)) → is_in_step link.old ≡ true
+        → EndsLooking P.state result link.old link.new }
 {
     let mut id = [0; 3];
     let read_id = Command::Operate {
@@ -121,6 +136,9 @@ fn returns_status<P: Port<Cause = PortFault> + Drop>(
     link: &mut Link<P>,
 ) -> Result<bool, Failure<PortFault>>
     ensures harmless { StaysHarmless (asked_over P.state link.old) (asked_over P.state link.new) }
+    ensures nature { (P.state (port_of link.new)).honest ≡ (P.state (port_of link.old)).honest }
+    ensures looks { AwaitsCommand (P.state (port_of link.old)) → is_in_step link.old ≡ true
+        → EndsLooking P.state result link.old link.new }
 {
     let mut status = [0; 1];
     let read_status = Command::Operate {
@@ -136,6 +154,9 @@ fn returns_sfdp<P: Port<Cause = PortFault> + Drop>(
     link: &mut Link<P>,
 ) -> Result<bool, Failure<PortFault>>
     ensures harmless { StaysHarmless (asked_over P.state link.old) (asked_over P.state link.new) }
+    ensures nature { (P.state (port_of link.new)).honest ≡ (P.state (port_of link.old)).honest }
+    ensures looks { AwaitsCommand (P.state (port_of link.old)) → is_in_step link.old ≡ true
+        → EndsLooking P.state result link.old link.new }
 {
     let mut signature = [0; 4];
     let read_sfdp = Command::Operate {

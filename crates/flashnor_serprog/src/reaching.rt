@@ -1,5 +1,10 @@
 //! Reaches the chip at a programmer: identifies the programmer, wakes the chip, and looks for it.
+ghost use Rattle.std.specs.Prelude.{◌≡◌, ℕ, true, false, IfOk, Option};
 ghost use Rattle.nor_serprog.specs.Harmless.{StaysHarmless};
+ghost use Rattle.nor_serprog.specs.Identify.{IsAnyProgrammerOf};
+ghost use Rattle.nor_serprog.specs.Link.{is_cut, is_in_step, port_of};
+ghost use Rattle.nor_serprog.specs.Replies.{AwaitsCommand};
+ghost use Rattle.flashnor_serprog.specs.Looking.{EndsLooking};
 ghost use Rattle.flashnor_serprog.specs.Ports.{asked_over};
 
 use crate::board::Unconnected;
@@ -19,6 +24,10 @@ use std::fmt;
 ///
 /// Returns a programmer fault from 4 to 12, 14 or 15 if a step fails, or an error of `expect_chip`. The port is asked
 /// for no transaction that may modify a chip.
+///
+/// If the port is well-behaved, the programmer is idle and the link isn't `Sync::Cut`, each journal that could restore
+/// the original chip before this call still can, even if a step fails or the chip loses its power (`OnlyLooks`). After
+/// success the programmer is idle, the link is in step, and the values returned are those of the programmer's firmware.
 pub fn reach_chip<P: Port<Cause = PortFault> + Drop>(
     rt: &HostRuntime,
     link: &mut Link<P>,
@@ -26,15 +35,16 @@ pub fn reach_chip<P: Port<Cause = PortFault> + Drop>(
     setting: &Setting<'_>,
 ) -> Result<AnyProgrammer, Unconnected>
     ensures harmless { StaysHarmless (asked_over P.state link.old) (asked_over P.state link.new) }
+    ensures nature { (P.state (port_of link.new)).honest ≡ (P.state (port_of link.old)).honest }
+    ensures looks { AwaitsCommand (P.state (port_of link.old)) → is_cut link.old ≡ false
+        → EndsLooking P.state result link.old link.new }
+    ensures reported { AwaitsCommand (P.state (port_of link.old)) → is_cut link.old ≡ false
+        → IfOk result (IsAnyProgrammerOf (P.state (port_of link.old)).device.firmware setting.now.hertz) }
 {
     terminal.print_waiting();
     let programmer = identify(link, setting.hertz)?;
     report_higher_clock(terminal, setting.hertz, programmer.frequency());
-    if let Some(chip_select) = setting.chip_select {
-        programmer
-            .select_chip(link, chip_select)
-            .map_err(ProgrammerFault::Handshake)?;
-    }
+    select(link, &programmer, setting.chip_select)?;
     let woken = wake(link, &programmer)?;
     expect_chip(rt, link, &woken)?;
     try_reads(link, &programmer)?;
@@ -53,6 +63,11 @@ fn identify<P: Port<Cause = PortFault> + Drop>(
     hertz: Option<u32>,
 ) -> Result<AnyProgrammer, ProgrammerFault>
     ensures harmless { StaysHarmless (asked_over P.state link.old) (asked_over P.state link.new) }
+    ensures nature { (P.state (port_of link.new)).honest ≡ (P.state (port_of link.old)).honest }
+    ensures looks { AwaitsCommand (P.state (port_of link.old)) → is_cut link.old ≡ false
+        → EndsLooking P.state result link.old link.new }
+    ensures reported { AwaitsCommand (P.state (port_of link.old)) → is_cut link.old ≡ false
+        → IfOk result (IsAnyProgrammerOf (P.state (port_of link.old)).device.firmware hertz) }
 {
     let programmer = AnyProgrammer::identify(link, hertz).map_err(ProgrammerFault::Handshake)?;
     match programmer.longest_read() {
@@ -60,6 +75,26 @@ fn identify<P: Port<Cause = PortFault> + Drop>(
             Err(ProgrammerFault::Handshake(HandshakeFault::ReadLimit(most)))
         }
         _ => Ok(programmer),
+    }
+}
+
+// Sets the chip select of the programmer, if one is given. Returns the fault of `AnyProgrammer::select_chip`.
+fn select<P: Port<Cause = PortFault> + Drop>(
+    link: &mut Link<P>,
+    programmer: &AnyProgrammer,
+    chip_select: Option<u8>,
+) -> Result<(), ProgrammerFault>
+    ensures harmless { StaysHarmless (asked_over P.state link.old) (asked_over P.state link.new) }
+    ensures nature { (P.state (port_of link.new)).honest ≡ (P.state (port_of link.old)).honest }
+    ensures looks { (hertz : Option ℕ) → AwaitsCommand (P.state (port_of link.old)) → is_in_step link.old ≡ true
+        → IsAnyProgrammerOf (P.state (port_of link.old)).device.firmware hertz programmer.now
+        → EndsLooking P.state result link.old link.new }
+{
+    match chip_select {
+        Some(number) => programmer
+            .select_chip(link, number)
+            .map_err(ProgrammerFault::Handshake),
+        None => Ok(()),
     }
 }
 
@@ -97,6 +132,9 @@ fn expect_chip<P: Port<Cause = PortFault> + Drop>(
     woken: &[u8],
 ) -> Result<(), Unconnected>
     ensures harmless { StaysHarmless (asked_over P.state link.old) (asked_over P.state link.new) }
+    ensures nature { (P.state (port_of link.new)).honest ≡ (P.state (port_of link.old)).honest }
+    ensures looks { AwaitsCommand (P.state (port_of link.old)) → is_in_step link.old ≡ true
+        → EndsLooking P.state result link.old link.new }
 {
     match look_for_chip(rt, link, woken).map_err(|failure| of_failure(failure))? {
         Contact::Present => Ok(()),

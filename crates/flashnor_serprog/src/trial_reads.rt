@@ -1,6 +1,9 @@
 //! Reads that detect, before a job begins, a chip in four-byte mode or a programmer that changes long frames.
-ghost use Rattle.std.specs.Prelude.{◌≡◌, ◌≤◌, ◌<◌, ◌^◌, true, IfOk, IfSome, length};
+ghost use Rattle.std.specs.Prelude.{◌≡◌, ◌≤◌, ◌<◌, ◌^◌, true, false, IfErr, IfOk, IfSome, length};
 ghost use Rattle.nor_serprog.specs.Harmless.{StaysHarmless, begins_harmless};
+ghost use Rattle.nor_serprog.specs.Link.{is_cut, is_in_step, port_of};
+ghost use Rattle.nor_serprog.specs.Replies.{AwaitsCommand, IsNoRefusal};
+ghost use Rattle.flashnor_serprog.specs.Looking.{EndsLooking};
 ghost use Rattle.flashnor_serprog.specs.Ports.{asked_over};
 
 use crate::port::PortFault;
@@ -50,6 +53,9 @@ pub fn try_reads<P: Port<Cause = PortFault> + Drop>(
     programmer: &AnyProgrammer,
 ) -> Result<(), ProgrammerFault>
     ensures harmless { StaysHarmless (asked_over P.state link.old) (asked_over P.state link.new) }
+    ensures nature { (P.state (port_of link.new)).honest ≡ (P.state (port_of link.old)).honest }
+    ensures looks { AwaitsCommand (P.state (port_of link.old)) → is_in_step link.old ≡ true
+        → EndsLooking P.state result link.old link.new }
 {
     let most = programmer.longest_read();
     compare_overlaps(link, shorter(MOST, most))?;
@@ -88,6 +94,9 @@ fn compare_overlaps<P: Port<Cause = PortFault> + Drop>(
     requires some { 1 ≤ len }
     requires most { len ≤ 32 }
     ensures harmless { StaysHarmless (asked_over P.state link.old) (asked_over P.state link.new) }
+    ensures nature { (P.state (port_of link.new)).honest ≡ (P.state (port_of link.old)).honest }
+    ensures looks { AwaitsCommand (P.state (port_of link.old)) → is_in_step link.old ≡ true
+        → EndsLooking P.state result link.old link.new }
 {
     let mut differs_in_most = false;
     let mut always_differs = true;
@@ -118,6 +127,9 @@ fn try_overlap<P: Port<Cause = PortFault> + Drop>(
     requires some { 1 ≤ len }
     requires most { len ≤ 32 }
     ensures harmless { StaysHarmless (asked_over P.state link.old) (asked_over P.state link.new) }
+    ensures nature { (P.state (port_of link.new)).honest ≡ (P.state (port_of link.old)).honest }
+    ensures looks { AwaitsCommand (P.state (port_of link.old)) → is_in_step link.old ≡ true
+        → EndsLooking P.state result link.old link.new }
 {
     let mut first = [0; MOST];
     let mut second = [0; MOST];
@@ -164,6 +176,9 @@ fn find_place<P: Port<Cause = PortFault> + Drop>(
     requires most { padding ≤ 256 }
     ensures place { IfOk result (λ place. IfSome place (λ address. address ≤ 0xFFFEF0)) }
     ensures harmless { StaysHarmless (asked_over P.state link.old) (asked_over P.state link.new) }
+    ensures nature { (P.state (port_of link.new)).honest ≡ (P.state (port_of link.old)).honest }
+    ensures looks { AwaitsCommand (P.state (port_of link.old)) → is_in_step link.old ≡ true
+        → EndsLooking P.state result link.old link.new }
 {
     for place in 0..=PLACES {
         let address = if place < PLACES { place * STEP } else { TOP };
@@ -187,6 +202,9 @@ fn is_telling<P: Port<Cause = PortFault> + Drop>(
     requires some { 1 ≤ padding }
     requires most { padding ≤ 256 }
     ensures harmless { StaysHarmless (asked_over P.state link.old) (asked_over P.state link.new) }
+    ensures nature { (P.state (port_of link.new)).honest ≡ (P.state (port_of link.old)).honest }
+    ensures looks { AwaitsCommand (P.state (port_of link.old)) → is_in_step link.old ≡ true
+        → EndsLooking P.state result link.old link.new }
 {
     let few = shorter(FEW, most);
     let mut bytes = [0; FEW];
@@ -219,6 +237,9 @@ fn try_long_frame<P: Port<Cause = PortFault> + Drop>(
     requires most { len ≤ 260 }
     requires few { replies ≤ 4 }
     ensures harmless { StaysHarmless (asked_over P.state link.old) (asked_over P.state link.new) }
+    ensures nature { (P.state (port_of link.new)).honest ≡ (P.state (port_of link.old)).honest }
+    ensures looks { AwaitsCommand (P.state (port_of link.old)) → is_in_step link.old ≡ true
+        → EndsLooking P.state result link.old link.new }
 {
     let mut behind = [0; FEW];
     let mut direct = [0; FEW];
@@ -255,6 +276,9 @@ fn read_behind<P: Port<Cause = PortFault> + Drop>(
     requires most { len ≤ 260 }
     requires few { length reply.old ≤ 4 }
     ensures harmless { StaysHarmless (asked_over P.state link.old) (asked_over P.state link.new) }
+    ensures nature { (P.state (port_of link.new)).honest ≡ (P.state (port_of link.old)).honest }
+    ensures looks { AwaitsCommand (P.state (port_of link.old)) → is_in_step link.old ≡ true
+        → EndsLooking P.state result link.old link.new }
 {
     let out = long_frame(place);
     match operate(link, &out[..len], reply) {
@@ -292,6 +316,9 @@ fn send_only<P: Port<Cause = PortFault> + Drop>(
 ) -> Result<(), ProgrammerFault>
     requires reads { begins_harmless out.now ≡ true }
     ensures harmless { StaysHarmless (asked_over P.state link.old) (asked_over P.state link.new) }
+    ensures nature { (P.state (port_of link.new)).honest ≡ (P.state (port_of link.old)).honest }
+    ensures looks { AwaitsCommand (P.state (port_of link.old)) → is_cut link.old ≡ false
+        → EndsLooking P.state result link.old link.new }
 {
     synchronize(link).map_err(|failure| of_long(failure))?;
     operate(link, out, &mut []).map_err(|failure| of_long(failure))
@@ -301,6 +328,9 @@ fn synchronize<P: Port<Cause = PortFault> + Drop>(
     link: &mut Link<P>,
 ) -> Result<(), Failure<PortFault>>
     ensures harmless { StaysHarmless (asked_over P.state link.old) (asked_over P.state link.new) }
+    ensures nature { (P.state (port_of link.new)).honest ≡ (P.state (port_of link.old)).honest }
+    ensures looks { AwaitsCommand (P.state (port_of link.old)) → is_cut link.old ≡ false
+        → EndsLooking P.state result link.old link.new }
 {
     link.synchronize()
 }
@@ -316,6 +346,9 @@ fn read_direct<P: Port<Cause = PortFault> + Drop>(
     requires most { len ≤ 260 }
     requires few { length reply.old ≤ 4 }
     ensures harmless { StaysHarmless (asked_over P.state link.old) (asked_over P.state link.new) }
+    ensures nature { (P.state (port_of link.new)).honest ≡ (P.state (port_of link.old)).honest }
+    ensures looks { AwaitsCommand (P.state (port_of link.old)) → is_in_step link.old ≡ true
+        → EndsLooking P.state result link.old link.new }
 {
     match place {
         Some(address) => read(link, address + (len - 4) as u32, reply),
@@ -330,6 +363,9 @@ fn read<P: Port<Cause = PortFault> + Drop>(
 ) -> Result<(), ProgrammerFault>
     requires { length reply.old ≤ 256 }
     ensures harmless { StaysHarmless (asked_over P.state link.old) (asked_over P.state link.new) }
+    ensures nature { (P.state (port_of link.new)).honest ≡ (P.state (port_of link.old)).honest }
+    ensures looks { AwaitsCommand (P.state (port_of link.old)) → is_in_step link.old ≡ true
+        → EndsLooking P.state result link.old link.new }
 {
     exchange(link, &read_at(address), reply)
 }
@@ -342,6 +378,9 @@ fn exchange<P: Port<Cause = PortFault> + Drop>(
     requires few { length reply.old ≤ 256 }
     requires reads { begins_harmless out.now ≡ true }
     ensures harmless { StaysHarmless (asked_over P.state link.old) (asked_over P.state link.new) }
+    ensures nature { (P.state (port_of link.new)).honest ≡ (P.state (port_of link.old)).honest }
+    ensures looks { AwaitsCommand (P.state (port_of link.old)) → is_in_step link.old ≡ true
+        → EndsLooking P.state result link.old link.new }
 {
     operate(link, out, reply).map_err(|failure| {
         ProgrammerFault::Handshake(HandshakeFault::Failure(failure))
@@ -356,6 +395,10 @@ fn operate<P: Port<Cause = PortFault> + Drop>(
     requires few { length reply.old ≤ 256 }
     requires reads { begins_harmless out.now ≡ true }
     ensures harmless { StaysHarmless (asked_over P.state link.old) (asked_over P.state link.new) }
+    ensures nature { (P.state (port_of link.new)).honest ≡ (P.state (port_of link.old)).honest }
+    ensures looks { AwaitsCommand (P.state (port_of link.old)) → is_in_step link.old ≡ true
+        → EndsLooking P.state result link.old link.new }
+    ensures unrefused { AwaitsCommand (P.state (port_of link.old)) → IfErr result IsNoRefusal }
 {
     let command = Command::Operate {
         out,

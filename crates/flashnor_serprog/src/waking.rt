@@ -1,6 +1,10 @@
 //! Wakes the chip, and finds out whether the port changes bytes that are sent.
 
+ghost use Rattle.std.specs.Prelude.{◌≡◌, true, length};
 ghost use Rattle.nor_serprog.specs.Harmless.{ModifiesNothing, StaysHarmless};
+ghost use Rattle.nor_serprog.specs.Link.{is_in_step, port_of};
+ghost use Rattle.nor_serprog.specs.Replies.{AwaitsCommand};
+ghost use Rattle.flashnor_serprog.specs.Looking.{EndsLooking, IsLook};
 ghost use Rattle.flashnor_serprog.specs.Ports.{asked_over};
 
 use crate::port::PortFault;
@@ -26,6 +30,9 @@ pub fn wake<P: Port<Cause = PortFault> + Drop>(
     programmer: &AnyProgrammer,
 ) -> Result<[u8; WAKE_REPLIES as usize], ProgrammerFault>
     ensures harmless { StaysHarmless (asked_over P.state link.old) (asked_over P.state link.new) }
+    ensures nature { (P.state (port_of link.new)).honest ≡ (P.state (port_of link.old)).honest }
+    ensures looks { AwaitsCommand (P.state (port_of link.old)) → is_in_step link.old ≡ true
+        → EndsLooking P.state result link.old link.new }
 {
     let mut reply = [0xFF; WAKE_REPLIES as usize];
     if programmer.longest_part() < WAKE.len() as u32 || programmer.longest_read() < WAKE_REPLIES {
@@ -56,6 +63,9 @@ fn exchange<P: Port<Cause = PortFault> + Drop>(
 ) -> Result<(), HandshakeFault<PortFault>>
     requires reads { ModifiesNothing command }
     ensures harmless { StaysHarmless (asked_over P.state link.old) (asked_over P.state link.new) }
+    ensures nature { (P.state (port_of link.new)).honest ≡ (P.state (port_of link.old)).honest }
+    ensures looks { AwaitsCommand (P.state (port_of link.old)) → is_in_step link.old ≡ true
+        → IsLook command.entry (length reply.old) → EndsLooking P.state result link.old link.new }
 {
     link.exchange(command, reply)
         .map_err(HandshakeFault::Failure)
