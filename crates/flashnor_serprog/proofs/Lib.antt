@@ -6,3 +6,9 @@ pub mod LogMade
 pub mod RegionsKept
 pub mod SealedRuns
 pub mod ReadLayouts
+pub mod BoardFits
+pub mod Reached
+pub mod StillRestorable
+pub mod Looking
+pub mod Undone
+pub mod Ahead

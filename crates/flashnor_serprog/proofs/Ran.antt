@@ -12,17 +12,17 @@ use Rattle.nor_layout.specs.declared.ranges.Span.{Span}
 use Rattle.nor_args.specs.Text.{Text}
 use Rattle.nor_args.specs.Words.{arguments_of}
 use Rattle.nor_args.specs.declared.job.Operation.{Operation}
-use Rattle.flashnor_serprog.specs.Connected.{device_of}
+use Rattle.flashnor_serprog.specs.Connected.{Seen, device_of}
 use Rattle.flashnor_serprog.specs.Run.{HasRunBy, HasRunJob, HasRunOperation, HasSucceeded, IsAskedFor}
 use Rattle.flashnor_serprog.specs.declared.connected.Connected.{Connected}
 use Rattle.board_files.specs.declared.region_files.RegionFile.{RegionFile}
 
-module _ {B : Type 0} (state : Connected B → BusState) (expected : Connected B → Option (List ℕ)) (files after : FilesState) (words : List Text) (name : Bor Text)
+module _ {B : Type 0} (seen : Seen B) (files after : FilesState) (words : List Text) (name : Bor Text)
     (operation : Operation) (asked : IsAskedFor words name operation) (out out' : Option (List ℕ)) (status : ℕ) where
   pub job_ran : (used : Option (Connected B))
-      → IfSome used (λ connected. HasRunOperation state expected files after name operation (device_of connected)
-      (state connected) out out' status)
-      → IfSome used (λ connected. HasRunJob state expected files after words (device_of connected) (state connected) out out'
+      → IfSome used (λ connected. HasRunOperation seen files after name operation (device_of connected)
+      (seen.state connected) out out' status)
+      → IfSome used (λ connected. HasRunJob seen files after words (device_of connected) (seen.state connected) out out'
       status)
   job_ran None ran = ran
   job_ran (Some connected) ran = record { name = name; operation = operation; asked = asked; run = ran }
@@ -54,25 +54,25 @@ few_after operation files ranges bytes before after old new out out' status None
 few_after operation files ranges bytes before after old new out out' status (Some srp0) run = run.0.few
 
 -- If `given` is `Ok args` and `words` are the arguments in `args`, `HasSucceeded` for `words` also holds for `given`.
-pub succeeded_given : {B E : Type 0} (state : Connected B → BusState) (expected : Connected B → Option (List ℕ)) (files after : FilesState) (words : List Text)
+pub succeeded_given : {B E : Type 0} (seen : Seen B) (files after : FilesState) (words : List Text)
     (given : Result (IntoIter (String Global) Global) E) (args : IntoIter (String Global) Global)
     (used : Option (Connected B)) (out out' : Option (List ℕ)) (status : ℕ) → given ≡ Ok args → words ≡ arguments_of args
-    → (status ≡ 0 → HasSucceeded state expected files after words used out out')
-    → IfOk given (λ args. status ≡ 0 → HasSucceeded state expected files after (arguments_of args) used out out')
-succeeded_given {E = E} state expected files after words given args used out out' status is same succeeded =
+    → (status ≡ 0 → HasSucceeded seen files after words used out out')
+    → IfOk given (λ args. status ≡ 0 → HasSucceeded seen files after (arguments_of args) used out out')
+succeeded_given {E = E} seen files after words given args used out out' status is same succeeded =
     subst (λ (given : Result (IntoIter (String Global) Global) E). IfOk given (λ args. status ≡ 0
-    → HasSucceeded state expected files after (arguments_of args) used out out')) (sym is)
-    (λ zero. subst (λ (words : List Text). HasSucceeded state expected files after words used out out') same (succeeded zero))
+    → HasSucceeded seen files after (arguments_of args) used out out')) (sym is)
+    (λ zero. subst (λ (words : List Text). HasSucceeded seen files after words used out out') same (succeeded zero))
 
-pub ran_given : {B E : Type 0} (state : Connected B → BusState) (expected : Connected B → Option (List ℕ)) (files after : FilesState) (words : List Text)
+pub ran_given : {B E : Type 0} (seen : Seen B) (files after : FilesState) (words : List Text)
     (given : Result (IntoIter (String Global) Global) E) (args : IntoIter (String Global) Global)
     (used : Option (Connected B)) (out out' : Option (List ℕ)) (status : ℕ) → given ≡ Ok args → words ≡ arguments_of args
-    → IfSome used (λ connected. HasRunJob state expected files after words (device_of connected) (state connected) out out' status)
-    → IfOk given (λ args. IfSome used (λ connected. HasRunJob state expected files after (arguments_of args)
-    (device_of connected) (state connected) out out' status))
-ran_given {E = E} state expected files after words given args used out out' status is same ran =
+    → IfSome used (λ connected. HasRunJob seen files after words (device_of connected) (seen.state connected) out out' status)
+    → IfOk given (λ args. IfSome used (λ connected. HasRunJob seen files after (arguments_of args)
+    (device_of connected) (seen.state connected) out out' status))
+ran_given {E = E} seen files after words given args used out out' status is same ran =
     subst (λ (given : Result (IntoIter (String Global) Global) E). IfOk given (λ args. IfSome used
-    (λ connected. HasRunJob state expected files after (arguments_of args) (device_of connected) (state connected) out out'
+    (λ connected. HasRunJob seen files after (arguments_of args) (device_of connected) (seen.state connected) out out'
     status))) (sym is)
-    (subst (λ (words : List Text). IfSome used (λ connected. HasRunJob state expected files after words (device_of connected)
-    (state connected) out out' status)) same ran)
+    (subst (λ (words : List Text). IfSome used (λ connected. HasRunJob seen files after words (device_of connected)
+    (seen.state connected) out out' status)) same ran)

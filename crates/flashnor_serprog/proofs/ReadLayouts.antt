@@ -11,7 +11,7 @@ use Rattle.nor_args.specs.declared.job.LayoutForm.{LayoutForm}
 use Rattle.nor_args.specs.declared.job.LayoutForm.TheVariants as form
 use Rattle.nor_jobs.specs.Finding.{HasIdentified}
 use Rattle.flashnor_serprog.specs.ChipLayouts.{AreReadFor, HasFoundFirst, HasReadLayout, IsReadFirst, IsShown, descriptor_span}
-use Rattle.flashnor_serprog.specs.declared.connected.Connected.{Connected}
+use Rattle.flashnor_serprog.specs.Connected.{Seen}
 use Rattle.board_jobs.specs.Sends.{KeepsSent}
 
 is_set : IsSetOf (descriptor_span ∷ []) (descriptor_span ∷ [])
@@ -44,13 +44,13 @@ pub layout_reads : (named : Option ChipName) (layout : LayoutForm) (old new : Bu
 layout_reads named layout old new bytes read =
     read.read.always.only_reads.sent ∙ read.first.identified.always.only_reads.sent
 
-pub shown_read : {B : Type 0} (state : Connected B → BusState) (expected : Connected B → Option (List ℕ)) (device : Text) (named : Option ChipName) (found : Option LayoutForm)
-    (layout : LayoutForm) (bytes : List ℕ) → found ≡ Some layout → IsReadFirst state expected device named layout bytes
-    → IsShown state expected device named found (Some bytes)
-shown_read state expected device named found layout bytes is read =
-    subst (λ (found : Option LayoutForm). IsShown state expected device named found (Some bytes)) (sym is) read
+pub shown_read : {B : Type 0} (seen : Seen B) (device : Text) (named : Option ChipName) (found : Option LayoutForm)
+    (layout : LayoutForm) (bytes : List ℕ) → found ≡ Some layout → IsReadFirst seen device named layout bytes
+    → IsShown seen device named found (Some bytes)
+shown_read seen device named found layout bytes is read =
+    subst (λ (found : Option LayoutForm). IsShown seen device named found (Some bytes)) (sym is) read
 
-pub shown_none : {B : Type 0} (state : Connected B → BusState) (expected : Connected B → Option (List ℕ)) (device : Text) (named : Option ChipName) (found : Option LayoutForm)
-    → found ≡ None → IsShown state expected device named found None
-shown_none state expected device named found is =
-    subst (λ (found : Option LayoutForm). IsShown state expected device named found None) (sym is) refl
+pub shown_none : {B : Type 0} (seen : Seen B) (device : Text) (named : Option ChipName) (found : Option LayoutForm)
+    → found ≡ None → IsShown seen device named found None
+shown_none seen device named found is =
+    subst (λ (found : Option LayoutForm). IsShown seen device named found None) (sym is) refl

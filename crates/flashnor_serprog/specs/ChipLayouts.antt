@@ -15,7 +15,7 @@ use Rattle.nor_args.specs.declared.job.Regions.{Regions}
 use Rattle.nor_console.specs.declared.messages.Fault.{Fault}
 use Rattle.nor_console.specs.declared.messages.Fault.TheVariants as end
 use Rattle.nor_jobs.specs.Finding.{FailsToFind, HasIdentified}
-use Rattle.flashnor_serprog.specs.Connected.{device_of}
+use Rattle.flashnor_serprog.specs.Connected.{Seen, device_of}
 use Rattle.flashnor_serprog.specs.Unused.{IsUnused}
 use Rattle.board_jobs.specs.Following.{FailsInMemory, HasReadToMemory}
 use Rattle.board_jobs.specs.Sends.{KeepsSent}
@@ -65,21 +65,20 @@ FailsToReadShown named layout old new fault = FailsToFind named old new fault �
 
 -- Holds if `bytes` were read for a layout of this form over a new bus to `device`. The state of this bus was first that
 -- of `start` and then `last`. This bus expects no image, and no modifying command was sent over this bus.
-pub record IsReadFirst {B : Type 0} (state : Connected B → BusState) (expected : Connected B → Option (List ℕ))
-    (device : Text) (named : Option ChipName) (layout : LayoutForm)
+pub record IsReadFirst {B : Type 0} (seen : Seen B) (device : Text) (named : Option ChipName) (layout : LayoutForm)
     (bytes : List ℕ) : Type 0 where
   pub start : Connected B
   pub same_device : device_of start ≡ device
-  pub fresh : IsUnused (state start)
-  pub unexpecting : expected start ≡ None
+  pub fresh : IsUnused (seen.state start)
+  pub finds : seen.finds start
+  pub unexpecting : seen.expected start ≡ None
   pub last : BusState
-  pub read : HasReadLayout named layout (state start) last bytes
-  pub sends : KeepsSent (state start) last
+  pub read : HasReadLayout named layout (seen.state start) last bytes
+  pub sends : KeepsSent (seen.state start) last
 
 -- With a layout on the chip: holds if `shown` are the bytes read for it. Otherwise: holds if `shown` is `None`.
-abbrev pub IsShown : {B : Type 0} (state : Connected B → BusState) (expected : Connected B → Option (List ℕ))
-    (device : Text) → Option ChipName → Option LayoutForm
+abbrev pub IsShown : {B : Type 0} → Seen B → (device : Text) → Option ChipName → Option LayoutForm
     → (shown : Option (List ℕ)) → Type 0
-IsShown state expected device named None shown = shown ≡ None
-IsShown state expected device named (Some layout) None = ⊥
-IsShown state expected device named (Some layout) (Some bytes) = IsReadFirst state expected device named layout bytes
+IsShown seen device named None shown = shown ≡ None
+IsShown seen device named (Some layout) None = ⊥
+IsShown seen device named (Some layout) (Some bytes) = IsReadFirst seen device named layout bytes

@@ -3,8 +3,11 @@ pub mod BoardBus
 pub mod Setting
 pub mod Connected
 pub mod Unused
+pub mod Looking
+pub mod Reached
 pub mod Wired
 pub mod Run
 pub mod Sealed
 pub mod ChipLayouts
 pub mod RunFaults
+pub mod Undone

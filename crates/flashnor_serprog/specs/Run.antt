@@ -16,13 +16,14 @@ use Rattle.nor_args.specs.declared.job.Task.TheVariants as task
 use Rattle.nor_console.specs.Printing.{AsksForVersion, IsAnswered, Prints}
 use Rattle.nor_console.specs.declared.answers.Answer.{Answer}
 use Rattle.flashnor_serprog.specs.ChipLayouts.{IsShown, form_on_chip}
-use Rattle.flashnor_serprog.specs.Connected.{device_of}
+use Rattle.flashnor_serprog.specs.Connected.{IsAhead, Seen, device_of}
 use Rattle.flashnor_serprog.specs.Unused.{IsUnused}
 use Rattle.board_jobs.specs.Ending.{AreJobLines}
 use Rattle.board_files.specs.Images.{HasDescribed}
 use Rattle.board_jobs.specs.Jobs.{EndsJob}
 use Rattle.board_progress.specs.Logging.{StayButLog}
-use Rattle.board_jobs.specs.Sends.{KeepsSent, SendsOnly}
+use Rattle.board_jobs.specs.Looked.{HasOnlyLooked}
+use Rattle.board_jobs.specs.Sends.{SendsOnly}
 use Rattle.board_jobs.specs.StatusLocks.{HasRunLock}
 use Rattle.flashnor_serprog.specs.Setting.{IsDeviceOf}
 use Rattle.board_files.specs.RegionCopies.{AreCopied}
@@ -55,11 +56,10 @@ IsAskedByArguments words (asked.Chip setting operation) = IsAskedFor words setti
 -- Holds if no file of the operation has two roles (but one file may be the layout and the image), `ranges` are the
 -- included addresses, `bytes` are the bytes that the job uses, and `files` are the regions with a file. The fields say
 -- more.
-pub record IsPrepared {B : Type 0} (state : Connected B → BusState)
-    (expected : Connected B → Option (List ℕ)) (view : View) (device : Bor Text) (operation : Operation)
+pub record IsPrepared {B : Type 0} (seen : Seen B) (view : View) (device : Bor Text) (operation : Operation)
     (files : List RegionFile) (ranges : Option (List Span)) (bytes : List ℕ) : Type 0 where
   pub shown : Option (List ℕ)
-  pub source : IsShown state expected device.now operation.named (form_on_chip (regions_of operation.task)) shown
+  pub source : IsShown seen device.now operation.named (form_on_chip (regions_of operation.task)) shown
   pub roles : HaveOneRole view.nature device operation.task
   pub own_log : HasOwnLog view.nature device operation.task operation.log
   pub regions : AreJobRegions view shown operation.task files ranges
@@ -71,10 +71,10 @@ abbrev pub HasPrintedAnswer : Operation → Result Answer JobFault → (out out'
 HasPrintedAnswer operation (Ok found) out out' = Prints (AreJobLines operation found) out out'
 HasPrintedAnswer operation (Err fault) out out' = ⊥
 
--- Holds if nothing was sent after a job that returned an answer, and no modifying command after a job that failed.
+-- Holds if nothing was sent after a job that returned an answer, and only reads after a job that failed.
 abbrev pub LooksAfter : Result Answer JobFault → (ended new : BusState) → Type 0
 LooksAfter (Ok found) ended new = new ≡ ended
-LooksAfter (Err fault) ended new = KeepsSent ended new
+LooksAfter (Err fault) ended new = HasOnlyLooked ended new
 
 -- Holds if a job ended with `outcome` and sent only what its task may send. `ended` is the bus after the job. If the
 -- exit status is 0, the answer was printed and, after a read, the bytes of regions were copied into their files.
@@ -111,32 +111,33 @@ AsksForHelp _ = ⊥
 abbrev pub IsHelpAskedBy : List Text → RunFault → Type 0
 IsHelpAskedBy words ended = AsksForHelp ended → ArgumentsAskForHelp words
 
--- Holds if an operation was run on a new bus to the device `name`. The state of the bus was first that of `start` and
--- then `last`. `made` are the files after the log was created.
-pub record HasRunOperation {B : Type 0} (state : Connected B → BusState)
-    (expected : Connected B → Option (List ℕ)) (files after : FilesState) (name : Bor Text)
+-- Holds if an operation was run on a new bus to the device `name`. The connector found this bus (`finds`); it reads
+-- ahead over the board's bus (`ahead`). Its state was first that of `start` and then `last`. `made` are the files after
+-- the log was created.
+pub record HasRunOperation {B : Type 0} (seen : Seen B) (files after : FilesState) (name : Bor Text)
     (operation : Operation) (device : Text) (last : BusState) (out out' : Option (List ℕ)) (status : ℕ)
     : Type 0 where
   pub start : Connected B
   pub same_device : device_of start ≡ device
   pub named : device ≡ name.now
-  pub fresh : IsUnused (state start)
+  pub fresh : IsUnused (seen.state start)
+  pub finds : seen.finds start
+  pub ahead : IsAhead (seen.inside start) (seen.state start)
   pub regions : List RegionFile
   pub ranges : Option (List Span)
   pub bytes : List ℕ
-  pub image : MayExpectImage operation bytes (expected start)
-  pub prepared : IsPrepared state expected files.view name operation regions ranges bytes
+  pub image : MayExpectImage operation bytes (seen.expected start)
+  pub prepared : IsPrepared seen files.view name operation regions ranges bytes
   pub made : View
   pub logged : StayButLog operation.log files.view made
-  pub ran : HasRunBy operation.srp0 operation regions ranges bytes made after (state start) last out out' status
+  pub ran : HasRunBy operation.srp0 operation regions ranges bytes made after (seen.state start) last out out' status
 
-pub record HasRunJob {B : Type 0} (state : Connected B → BusState)
-    (expected : Connected B → Option (List ℕ)) (files after : FilesState) (words : List Text) (device : Text)
+pub record HasRunJob {B : Type 0} (seen : Seen B) (files after : FilesState) (words : List Text) (device : Text)
     (last : BusState) (out out' : Option (List ℕ)) (status : ℕ) : Type 0 where
   pub name : Bor Text
   pub operation : Operation
   pub asked : IsAskedFor words name operation
-  pub run : HasRunOperation state expected files after name operation device last out out' status
+  pub run : HasRunOperation seen files after name operation device last out out' status
 
 -- Holds if the journal `file` is sealed and undamaged and, if an image was requested, the image was written.
 pub record HasChecked (before after : View) (words : List Text) : Type 0 where
@@ -147,11 +148,10 @@ pub record HasChecked (before after : View) (words : List Text) : Type 0 where
 
 -- Holds in each case in which a run may end with exit status 0: the help, the version or the list was requested,
 -- `--check-journal` found a sealed and undamaged journal, or a job ended with status 0 on the bus `used`.
-abbrev pub HasSucceeded : {B : Type 0} (state : Connected B → BusState)
-    (expected : Connected B → Option (List ℕ)) → (files after : FilesState) → List Text
+abbrev pub HasSucceeded : {B : Type 0} → Seen B → (files after : FilesState) → List Text
     → (used : Option (Connected B)) → (out out' : Option (List ℕ)) → Type 0
-HasSucceeded state expected files after words used out out' = (ArgumentsAskForHelp words
+HasSucceeded seen files after words used out out' = (ArgumentsAskForHelp words
     ⊎ IsHardwareJob program words hardware.List)
     ⊎ (HasChecked files.view after.view words
     ⊎ IsSomeAnd used (λ connected.
-    HasRunJob state expected files after words (device_of connected) (state connected) out out' 0))
+    HasRunJob seen files after words (device_of connected) (seen.state connected) out out' 0))

@@ -1,5 +1,6 @@
 //! The traits of a bus to a chip on a board that also knows why a transaction failed, and of a connector to it.
-ghost use Rattle.std.specs.Prelude.{◌≡◌, [], IfOk, List, Option, option_map, ℕ};
+ghost use Rattle.std.specs.Prelude.{◌≡◌, ◌+◌, ◌≤◌, [], IfOk, List, Option, option_map, ℕ};
+ghost use Rattle.nor_args.specs.Text.{Text};
 ghost use Rattle.nor_serprog.specs.Harmless.{IsHarmlessSince};
 ghost use Rattle.flashnor_serprog.specs.Unused.{IsUnused};
 ghost use Rattle.flashnor_serprog.specs.Wired.{AsksOnly};
@@ -35,8 +36,12 @@ pub trait Board: Bus {
     // The bytes that the port was asked to send: one list for each call, with the last call first.
     ghost asked: { Self → List (List ℕ) };
 
+    // The greatest number of bytes that a transaction may read.
+    ghost reads_most: { Self → ℕ };
+
     /// Returns the greatest number of bytes that a transaction may read.
-    fn longest_read(&self) -> u32;
+    fn longest_read(&self) -> u32
+        ensures { result ≡ reads_most self.now };
 
     /// Returns whether the chip's SFDP says that its pages have fewer than 256 bytes.
     fn has_small_pages(&self) -> bool;
@@ -85,9 +90,13 @@ impl From<ProgrammerFault> for Unconnected {
 pub trait Connector {
     type Board: Board + Drop;
 
+    // Holds if `connect` may return this bus for the device with this name.
+    ghost finds: { Text → Self.Board → Type 0 };
+
     /// Connects to the chip at the programmer that `-p` describes. The bus has carried out no transaction yet, and its
-    /// port was asked for no transaction that may modify a chip. The bus expects `image`, which must be that of `-v` or
-    /// of a write whose result is compared.
+    /// port was asked for no transaction that may modify a chip. If the bus is well-behaved, it takes reads of up to
+    /// `longest_read` bytes (`blocks`). The bus expects `image`, which must be that of `-v` or of a write whose result
+    /// is compared.
     fn connect(
         &mut self,
         terminal: Terminal<'_>,
@@ -96,6 +105,9 @@ pub trait Connector {
         rules: Rules,
     ) -> Result<Self::Board, Unconnected>
         ensures fresh { IfOk result (λ board. IsUnused (Self.Board.state board)) }
+        ensures finds { IfOk result (λ board. finds setting.now.device.now board) }
+        ensures blocks { IfOk result (λ board.
+            Self.Board.reads_most board ≤ 4096 + (Self.Board.state board).longer) }
         ensures expects { IfOk result (λ board.
             Self.Board.expected board ≡ option_map (λ image. image.items) image) }
         ensures harmless { IfOk result (λ board. IsHarmlessSince [] (Self.Board.asked board)) };

@@ -1,8 +1,7 @@
 //! A layout on the chip itself (`--fmap`, `--ifd`): reads the part of the chip with the layout, before the job.
 ghost use Rattle.std.specs.Prelude.{◌≡◌, IfErr, IfOk, option_map};
-ghost use Rattle.nor_buses.specs.Ahead.{ahead_of};
 ghost use Rattle.nor_journal.specs.MemVault.{held_by};
-ghost use Rattle.board_progress.specs.ProgressBus.{shown_bus};
+ghost use Rattle.flashnor_serprog.specs.Connected.{seen_over};
 ghost use Rattle.flashnor_serprog.specs.ChipLayouts.{AreReadFor, FailsToReadShown, HasReadLayout, IsReadFirst};
 ghost use Rattle.flashnor_serprog.specs.ChipLayouts.{IsShown, form_on_chip};
 ghost use Rattle.board_files.specs.Regions.{regions_of};
@@ -45,8 +44,8 @@ pub fn read_chip_layout<'a, 'b, D: Connector, E: Write>(
     operation: &Operation<'a>,
     errors: &mut E,
 ) -> Result<Option<MemVault>, RunFault<'a>>
-    ensures { IfOk result (λ shown. IsShown (λ connected. ⟦<ChipBus<'b, D::Board> as Bus>⟧.state connected.bus)
-        (λ connected. D.Board.expected (ahead_of (shown_bus connected.bus)))
+    ensures { IfOk result (λ shown. IsShown
+        (seen_over ⟦<ChipBus<'b, D::Board> as Bus>⟧.state D.Board.state D.Board.expected D.finds)
         setting.now.device.now operation.now.named (form_on_chip (regions_of operation.now.task))
         (option_map (λ chip. (held_by chip).bytes) shown)) }
 {
@@ -84,8 +83,8 @@ fn read_first<'a, 'b, D: Connector, E: Write>(
     form: LayoutForm,
     errors: &mut E,
 ) -> Result<MemVault, RunFault<'a>>
-    ensures { IfOk result (λ chip. IsReadFirst (λ connected. ⟦<ChipBus<'b, D::Board> as Bus>⟧.state connected.bus)
-        (λ connected. D.Board.expected (ahead_of (shown_bus connected.bus)))
+    ensures { IfOk result (λ chip. IsReadFirst
+        (seen_over ⟦<ChipBus<'b, D::Board> as Bus>⟧.state D.Board.state D.Board.expected D.finds)
         setting.now.device.now operation.now.named form (held_by chip).bytes) }
 {
     let mut connected = connect_by(connector, alloc, terminal, setting, None, Rules::reading())?;

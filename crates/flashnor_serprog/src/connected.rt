@@ -2,7 +2,7 @@
 ghost use Rattle.std.specs.Prelude.{◌≡◌, IfOk, option_map, string_bytes};
 ghost use Rattle.nor_buses.specs.Ahead.{ahead_of};
 ghost use Rattle.board_progress.specs.ProgressBus.{shown_bus};
-ghost use Rattle.flashnor_serprog.specs.Connected.{device_of};
+ghost use Rattle.flashnor_serprog.specs.Connected.{IsAhead, device_of};
 ghost use Rattle.flashnor_serprog.specs.Unused.{IsUnused};
 
 use crate::board::{Board, ChipBus, Connector, Unconnected};
@@ -42,6 +42,9 @@ pub fn connect_by<'a, 'b, D: Connector>(
     rules: Rules,
 ) -> Result<Connected<ChipBus<'b, D::Board>>, RunFault<'a>>
     ensures fresh { IfOk result (λ connected. IsUnused (⟦<ChipBus<'b, D::Board> as Bus>⟧.state connected.bus)) }
+    ensures finds { IfOk result (λ connected. D.finds (device_of connected) (ahead_of (shown_bus connected.bus))) }
+    ensures ahead { IfOk result (λ connected. IsAhead (D.Board.state (ahead_of (shown_bus connected.bus)))
+        (⟦<ChipBus<'b, D::Board> as Bus>⟧.state connected.bus)) }
     ensures named { IfOk result (λ connected. device_of connected ≡ setting.now.device.now) }
     ensures expects { IfOk result (λ connected. D.Board.expected (ahead_of (shown_bus connected.bus))
         ≡ option_map (λ image. image.items) image) }

@@ -5,29 +5,33 @@
 mod asked;
 mod board;
 mod board_bus;
+mod carrier;
 mod chip_layouts;
 mod chip_list;
 mod connect;
 mod connected;
 mod contact;
 mod help;
+mod laws;
 mod lock_job;
 mod port;
 mod preparing;
 mod reaching;
+mod reader;
 mod reports;
 mod rules;
 mod run;
 mod run_fault;
+mod serial;
 mod setting;
 mod stop_line;
 mod trial_reads;
 mod waking;
 
 use board_progress::{Logged, Screen};
-use connect::Serprog;
 use nor_console::{keep_streams, line_buffered};
 use run::{end_without_descriptors, run_words};
+use serial::Serprog;
 use std::env;
 use std::process::ExitCode;
 

@@ -4,7 +4,7 @@ ghost use Rattle.nor_files.specs.Files.{AreUntouched};
 ghost use Rattle.nor_journal.specs.MemVault.{held_by};
 ghost use Rattle.nor_buses.specs.Ahead.{ahead_of};
 ghost use Rattle.board_progress.specs.ProgressBus.{shown_bus};
-ghost use Rattle.flashnor_serprog.specs.Connected.{device_of};
+ghost use Rattle.flashnor_serprog.specs.Connected.{IsAhead, device_of, seen_over};
 ghost use Rattle.flashnor_serprog.specs.Unused.{IsUnused};
 ghost use Rattle.board_progress.specs.Logging.{CreatesLog};
 ghost use Rattle.board_files.specs.Regions.{regions_of};
@@ -57,12 +57,17 @@ pub fn prepare<'a, 'b, D: Connector, R: Store<Log = LogFile<File>>, E: Write>(
 ) -> Result<Prepared<'a, ChipBus<'b, D::Board>>, RunFault<'a>>
     requires { ArePlainNames (regions_of operation.now.task) names.now }
     ensures logged { CreatesLog operation.now.log (R.state files.old) (R.state files.new) }
-    ensures ok { IfOk result (λ prepared. IsPrepared (λ connected. ⟦<ChipBus<'b, D::Board> as Bus>⟧.state connected.bus)
-        (λ connected. D.Board.expected (ahead_of (shown_bus connected.bus)))
+    ensures ok { IfOk result (λ prepared. IsPrepared
+        (seen_over ⟦<ChipBus<'b, D::Board> as Bus>⟧.state D.Board.state D.Board.expected D.finds)
         (R.state files.old).view setting.now.device operation.now
         prepared.regions.items prepared.sources.included prepared.sources.bytes.items) }
     ensures named { IfOk result (λ prepared. device_of prepared.connected ≡ setting.now.device.now) }
     ensures fresh { IfOk result (λ prepared. IsUnused (⟦<ChipBus<'b, D::Board> as Bus>⟧.state prepared.connected.bus)) }
+    ensures finds { IfOk result (λ prepared. D.finds (device_of prepared.connected)
+        (ahead_of (shown_bus prepared.connected.bus))) }
+    ensures ahead { IfOk result (λ prepared. IsAhead
+        (D.Board.state (ahead_of (shown_bus prepared.connected.bus)))
+        (⟦<ChipBus<'b, D::Board> as Bus>⟧.state prepared.connected.bus)) }
     ensures expected { IfOk result (λ prepared. MayExpectImage operation.now prepared.sources.bytes.items
         (D.Board.expected (ahead_of (shown_bus prepared.connected.bus)))) }
 {
@@ -110,8 +115,8 @@ fn read_files<'a, 'b, D: Connector, R: Store<Log = LogFile<File>>, E: Write>(
 ) -> Result<JobFiles<'a>, RunFault<'a>>
     requires { ArePlainNames (regions_of operation.now.task) names.now }
     ensures same { AreUntouched (R.state files.old) (R.state files.new) }
-    ensures ok { IfOk result (λ read. IsPrepared (λ connected. ⟦<ChipBus<'b, D::Board> as Bus>⟧.state connected.bus)
-        (λ connected. D.Board.expected (ahead_of (shown_bus connected.bus)))
+    ensures ok { IfOk result (λ read. IsPrepared
+        (seen_over ⟦<ChipBus<'b, D::Board> as Bus>⟧.state D.Board.state D.Board.expected D.finds)
         (R.state files.old).view setting.now.device operation.now
         read.regions.items read.sources.included read.sources.bytes.items) }
 {

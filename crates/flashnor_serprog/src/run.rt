@@ -6,7 +6,7 @@ ghost use Rattle.nor_args.specs.Words.{arguments_of};
 ghost use Rattle.nor_console.specs.Printing.{Prints};
 ghost use Rattle.nor_buses.specs.Ahead.{ahead_of};
 ghost use Rattle.board_progress.specs.ProgressBus.{shown_bus};
-ghost use Rattle.flashnor_serprog.specs.Connected.{device_of};
+ghost use Rattle.flashnor_serprog.specs.Connected.{device_of, seen_over};
 ghost use Rattle.board_jobs.specs.Ending.{AreJobLines};
 ghost use Rattle.flashnor_serprog.specs.Run.{AsksForHelp, HasRun, HasRunBy, HasRunJob};
 ghost use Rattle.flashnor_serprog.specs.Run.{HasRunOperation, HasSucceeded};
@@ -68,13 +68,12 @@ pub fn run_words<'b, D: Connector, O: Write, E: Write>(
     requires { used.old ≡ None }
     ensures few { result ≤ 1 }
     ensures done { IfOk given (λ args. result ≡ 0 → HasSucceeded
-        (λ connected. ⟦<ChipBus<'b, D::Board> as Bus>⟧.state connected.bus)
-        (λ connected. D.Board.expected (ahead_of (shown_bus connected.bus)))
+        (seen_over ⟦<ChipBus<'b, D::Board> as Bus>⟧.state D.Board.state D.Board.expected D.finds)
         unknown unknown (arguments_of args) used.new
         (O.contents output.old) (O.contents output.new)) }
     ensures ran { IfOk given (λ args. IfSome used.new (λ connected. HasRunJob
-        (λ connected. ⟦<ChipBus<'b, D::Board> as Bus>⟧.state connected.bus)
-        (λ connected. D.Board.expected (ahead_of (shown_bus connected.bus))) unknown unknown (arguments_of args)
+        (seen_over ⟦<ChipBus<'b, D::Board> as Bus>⟧.state D.Board.state D.Board.expected D.finds)
+        unknown unknown (arguments_of args)
         (device_of connected) (⟦<ChipBus<'b, D::Board> as Bus>⟧.state connected.bus)
         (O.contents output.old) (O.contents output.new) result)) }
     ensures wired { IfSome used.new (λ connected. AsksOnly (D.Board.asked (ahead_of (shown_bus connected.bus)))
@@ -121,13 +120,12 @@ pub fn run_over<'b, D: Connector, R: Store<Log = LogFile<File>>, O: Write, E: Wr
 ) -> u8
     requires { used.old ≡ None }
     ensures few { result ≤ 1 }
-    ensures done { result ≡ 0 → HasSucceeded (λ connected. ⟦<ChipBus<'b, D::Board> as Bus>⟧.state connected.bus)
-        (λ connected. D.Board.expected (ahead_of (shown_bus connected.bus)))
+    ensures done { result ≡ 0 → HasSucceeded
+        (seen_over ⟦<ChipBus<'b, D::Board> as Bus>⟧.state D.Board.state D.Board.expected D.finds)
         (R.state files.old) (R.state files.new) (map string_bytes words.now) used.new
         (O.contents output.old) (O.contents output.new) }
     ensures ran { IfSome used.new (λ connected. HasRunJob
-        (λ connected. ⟦<ChipBus<'b, D::Board> as Bus>⟧.state connected.bus)
-        (λ connected. D.Board.expected (ahead_of (shown_bus connected.bus)))
+        (seen_over ⟦<ChipBus<'b, D::Board> as Bus>⟧.state D.Board.state D.Board.expected D.finds)
         (R.state files.old) (R.state files.new) (map string_bytes words.now) (device_of connected)
         (⟦<ChipBus<'b, D::Board> as Bus>⟧.state connected.bus) (O.contents output.old) (O.contents output.new) result) }
     ensures sealed { is_lawful (R.state files.old).view ≡ true → IfSome used.new (λ connected.
@@ -177,8 +175,8 @@ fn run_on_chip<'a, 'b, D: Connector, R: Store<Log = LogFile<File>>, O: Write, E:
     ensures few { result ≤ 1 }
     ensures used { result ≡ 0 → is_some used.new ≡ true }
     ensures ran { IfSome used.new (λ connected. HasRunOperation
-        (λ connected. ⟦<ChipBus<'b, D::Board> as Bus>⟧.state connected.bus)
-        (λ connected. D.Board.expected (ahead_of (shown_bus connected.bus))) (R.state files.old) (R.state files.new)
+        (seen_over ⟦<ChipBus<'b, D::Board> as Bus>⟧.state D.Board.state D.Board.expected D.finds)
+        (R.state files.old) (R.state files.new)
         setting.now.device operation.now (device_of connected) (⟦<ChipBus<'b, D::Board> as Bus>⟧.state connected.bus)
         (O.contents output.old) (O.contents output.new) result) }
     ensures sealed { is_lawful (R.state files.old).view ≡ true → IfSome used.new (λ connected.

@@ -8,7 +8,7 @@ returns-in_err-chip-in-Some g c = none_ok _ _ c.from_residual.result c.from_resi
 
 pub returns-in_ok-chip-in-Some : goal.returns-in_ok-chip-in-Some
 returns-in_ok-chip-in-Some g c =
-    shown_read _ _ _ _ _ _ _ (sym c.form_on_chip.ensures ∙ c.in-Some.is) c.in_ok-chip-in-Some.ensures
+    shown_read _ _ _ _ _ _ (sym c.form_on_chip.ensures ∙ c.in-Some.is) c.in_ok-chip-in-Some.ensures
 
 pub returns-in-None : goal.returns-in-None
-returns-in-None g c = shown_none _ _ _ _ _ (sym c.form_on_chip.ensures ∙ c.in-None.is)
+returns-in-None g c = shown_none _ _ _ _ (sym c.form_on_chip.ensures ∙ c.in-None.is)

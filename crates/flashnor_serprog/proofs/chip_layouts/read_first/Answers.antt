@@ -8,6 +8,7 @@ returns g c = IfOk-weaker c.read_and_report.result _ _ (λ chip read. record {
   start = c.in_ok-connected.connected;
   same_device = c.in_ok-connected.ensures.named;
   fresh = c.in_ok-connected.ensures.fresh;
+  finds = c.in_ok-connected.ensures.finds;
   unexpecting = c.in_ok-connected.ensures.expects;
   last = _;
   read = read;

@@ -70,5 +70,6 @@ pub returns-in-Ok-2-clause-sealed : goal.returns-in-Ok-2-clause-sealed
 returns-in-Ok-2-clause-sealed g c = rw (c.begin_notes.ensures, c.set_progress_job.ensures) at c.end_job.ensures.sealed
 
 pub returns-clause-sealed : goal.returns-clause-sealed
-returns-clause-sealed g c = λ lawful. seals_later _ _ _ _ _ _ c.report_strays.ensures c.args.operation.now.task
+returns-clause-sealed g c = λ lawful. seals_later _ _ _ _ _ _ c.report_strays.ensures.only_reads.sent
+    c.args.operation.now.task
     ((rw (c.begin_notes.ensures, c.set_progress_job.ensures) at c.end_job.ensures.sealed) lawful)

@@ -4,7 +4,7 @@ use Rattle.flashnor_serprog.proofs.SealedRuns.{job_sealed}
 use Rattle.flashnor_serprog.proofs.run.run_over.Goals as goal
 
 pub returns-in-Ok-clause-ran : goal.returns-in-Ok-clause-ran
-returns-in-Ok-clause-ran g c = job_ran _ _ _ _ _ _ _ (rw c.in-Ok-Chip.field-0-is at c.in-Ok-Chip.ensures.ok) _ _ _ _ c.run_on_chip.ensures.ran
+returns-in-Ok-clause-ran g c = job_ran _ _ _ _ _ _ (rw c.in-Ok-Chip.field-0-is at c.in-Ok-Chip.ensures.ok) _ _ _ _ c.run_on_chip.ensures.ran
 
 pub returns-in-Ok-clause-done : goal.returns-in-Ok-clause-done
 returns-in-Ok-clause-done g c = λ zero. inr (inr (is_used _ _ (c.run_on_chip.ensures.used zero)

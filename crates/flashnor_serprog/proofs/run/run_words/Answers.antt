@@ -3,11 +3,11 @@ use Rattle.flashnor_serprog.proofs.Ran.{never_zero, ran_given, succeeded_given, 
 use Rattle.flashnor_serprog.proofs.run.run_words.Goals as goal
 
 pub returns-in-Ok-arguments_after_name-clause-done : goal.returns-in-Ok-arguments_after_name-clause-done
-returns-in-Ok-arguments_after_name-clause-done g c = succeeded_given _ _ _ _ _ _ _ _ _ _ _ c.in-Ok.is
+returns-in-Ok-arguments_after_name-clause-done g c = succeeded_given _ _ _ _ _ _ _ _ _ _ c.in-Ok.is
     (ap (map string_bytes) c.as_slice.ensures.value ∙ c.in-Ok-arguments_after_name.ensures) c.run_over.ensures.done
 
 pub returns-in-Ok-arguments_after_name-clause-ran : goal.returns-in-Ok-arguments_after_name-clause-ran
-returns-in-Ok-arguments_after_name-clause-ran g c = ran_given _ _ _ _ _ _ _ _ _ _ _ c.in-Ok.is
+returns-in-Ok-arguments_after_name-clause-ran g c = ran_given _ _ _ _ _ _ _ _ _ _ c.in-Ok.is
     (ap (map string_bytes) c.as_slice.ensures.value ∙ c.in-Ok-arguments_after_name.ensures) c.run_over.ensures.ran
 
 pub returns-in-Err-arguments_after_name-clause-ran : goal.returns-in-Err-arguments_after_name-clause-ran
