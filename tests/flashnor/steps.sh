@@ -123,9 +123,9 @@ count_writes() {
 starts() { python3 "$top/tests/flashnor/starts.py"; }
 
 # `make ..`: runs a target of the repository's Makefile with the program that is tested, even if the sources are newer.
-# flashnor-serprog may not be built: its stand-in in tests/serprog takes its place.
+# flashnor-serprog may not be built: the script server.py takes its place.
 make() {
-    command make --no-print-directory -s -C "$top" PROGRAM="$program" HARDWARE="$top/tests/serprog/stand_in.py" \
+    command make --no-print-directory -s -C "$top" PROGRAM="$program" HARDWARE="$top/tests/serprog/server.py" \
         SOURCES= "$@"
 }
 

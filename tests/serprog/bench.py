@@ -12,8 +12,8 @@ import reference
 from chip import DEVICE, Chip
 from server import ARGUMENTS, O_SPIOP, Server, Traits, trace_line
 
-# Some cases that disturb a job at each transaction try only every STRIDE-th transaction. STRIDE is 1, except in the
-# runs of self.py, whose program (stand_in.py) is slow.
+# Some cases that disturb a job at each transaction try only every STRIDE-th transaction. STRIDE is 1, except in
+# self.py.
 STRIDE = int(os.environ.get("STRIDE", "1"))
 
 # The longest time of a run in seconds. A run that takes longer is taken to hang, even on a busy machine.

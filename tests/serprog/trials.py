@@ -13,13 +13,14 @@ from faults import FIRMWARE, SOON
 from losses import FEW, chip_images
 from narrow import check_parts
 from options import FREE, SIZE, images
-from stand_in_link import ROW
 
 # These jobs must be refused. The journal `saved` has other bytes than the chip.
 JOBS = ((), ("-r", "out"), ("-v", "new"), ("-w", "new", "--journal", "j"), ("-E", "--journal", "j"),
         ("--backup", "out"), ("--restore", "saved"), ("--restore", "saved", "-N"))
 # These jobs don't use the image `new`. They are also tried on a chip of 8 MiB.
 WITHOUT_IMAGE = [it for it in JOBS if "new" not in it]
+# To synchronize, a run sends a NOP (00h), and then these NOPs and SYNCNOPs (10h).
+ROW = bytes.fromhex("00000000000000000010100010000010101000")
 # A transaction may send at most this number of bytes to a programmer that doesn't report the limit.
 LIMIT = 128
 
