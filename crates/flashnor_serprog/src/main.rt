@@ -1,37 +1,15 @@
 //! `flashnor_serprog` performs the jobs of `flashnor`, except rehearsals, on a SPI NOR chip at a serial programmer
-//! (serprog protocol). It uses the same engine, and prints the same error numbers and mostly the same lines.
+//! (serprog protocol). It uses the same engine, and prints the same error numbers and mostly the same lines. `serprog_runs`
+//! has the run, and `serprog_board` the bus to the chip; this crate has the system's serial port.
 #![tactic(auto)]
 
-mod asked;
-mod board;
-mod board_bus;
-mod carrier;
-mod chip_layouts;
-mod chip_list;
-mod connect;
-mod connected;
-mod contact;
-mod help;
-mod laws;
-mod lock_job;
 mod port;
-mod preparing;
-mod reaching;
-mod reader;
-mod reports;
-mod rules;
-mod run;
-mod run_fault;
 mod serial;
-mod setting;
-mod stop_line;
-mod trial_reads;
-mod waking;
 
 use board_progress::{Logged, Screen};
 use nor_console::{keep_streams, line_buffered};
-use run::{end_without_descriptors, run_words};
 use serial::Serprog;
+use serprog_runs::{end_without_descriptors, run_words};
 use std::env;
 use std::process::ExitCode;
 

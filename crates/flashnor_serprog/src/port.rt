@@ -5,26 +5,9 @@ ghost use Rattle.nor_serprog.specs.Device.{unknown_port};
 ghost use Rattle.nor_serprog.specs.Wire.{asked_on, received_on};
 
 use nor_serprog::{Port, Wire};
+use serprog_board::PortFault;
 use std::fs::File;
 use std::io::{ErrorKind, Read, Write};
-use std::{fmt, io};
-
-/// The reason why a port failed.
-#[derive(Debug, Drop)]
-pub enum PortFault {
-    /// A read returned no byte within the time that was set with `stty`.
-    Silent,
-    System(io::Error),
-}
-
-impl fmt::Display for PortFault {
-    fn fmt<W: fmt::Write>(&self, f: &mut fmt::Formatter<W>) -> fmt::Result {
-        match self {
-            PortFault::Silent => f.write_str("no byte arrived"),
-            PortFault::System(error) => write!(f, "{error}"),
-        }
-    }
-}
 
 /// A port over the device of a programmer. Its contract assumes nothing about the device.
 #[derive(Drop)]

@@ -1,21 +1,19 @@
 //! The connector of the program: programmers that speak serprog, at the serial ports of the system.
 ghost use Rattle.std.proofs.Math.Logic.{∥∥₁_map};
 ghost use Rattle.std.proofs.lemmas.Bool.{false≢true};
-ghost use Rattle.flashnor_serprog.specs.Reached.{IsReachedAt};
+ghost use Rattle.serprog_board.specs.Reached.{IsReachedAt};
 
-use crate::board::{Board, Causes, Connector, Unconnected};
-use crate::board_bus::{BoardBus, Layers};
-use crate::connect::connect_over;
 use crate::port::DevicePort;
-use crate::rules::Rules;
-use crate::run_fault::ProgrammerFault;
-use crate::setting::Setting;
 use board_progress::Terminal;
 use nor_buses::ChangedByte;
 use nor_console::SystemReason;
 use nor_files::LockFile;
 use nor_model::{Bus, Stopped};
 use nor_serprog::Port;
+use serprog_board::{
+    Board, BoardBus, Causes, Connector, Layers, ProgrammerFault, Rules, Setting, Unconnected,
+    connect_over,
+};
 use std::fs::{File, OpenOptions};
 use std::os::unix::fs::FileTypeExt;
 use std::{fs, io};

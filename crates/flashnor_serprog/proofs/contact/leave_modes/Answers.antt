@@ -1,5 +1,0 @@
-use Rattle.flashnor_serprog.proofs.Looking.{goes_on, looked}
-use Rattle.flashnor_serprog.proofs.contact.leave_modes.Goals as goal
-
-pub returns-clause-looks : goal.returns-clause-looks
-returns-clause-looks g c awaits was = goes_on (looked (c.in_ok-send.ensures.looks awaits was)) c.send-2.ensures.looks

@@ -1,6 +1,0 @@
-use Rattle.flashnor_serprog.proofs.Undone.{backup_kept}
-use Rattle.flashnor_serprog.proofs.laws.backup_runs_restore_original.Goals as goal
-
-pub returns : goal.returns
-returns g c = λ run file regions is backup modelled lawful zero.
-    backup_kept run file regions is backup modelled lawful zero

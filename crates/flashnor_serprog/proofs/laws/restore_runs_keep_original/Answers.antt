@@ -1,6 +1,0 @@
-use Rattle.flashnor_serprog.proofs.Undone.{restore_kept}
-use Rattle.flashnor_serprog.proofs.laws.restore_runs_keep_original.Goals as goal
-
-pub returns : goal.returns
-returns g c = λ run file journal first is sound read modelled can.
-    restore_kept run file journal first is sound read modelled can

@@ -1,6 +1,0 @@
-use Rattle.flashnor_serprog.proofs.Undone.{run_undone}
-use Rattle.flashnor_serprog.proofs.laws.runs_restore_original.Goals as goal
-
-pub returns : goal.returns
-returns g c = λ run change file is journalled modelled board idle lawful.
-    run_undone run change file is journalled modelled board idle lawful
