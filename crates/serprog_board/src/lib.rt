@@ -10,6 +10,8 @@ mod board_bus;
 mod carrier;
 mod connect;
 mod contact;
+mod long_frames;
+mod overlaps;
 mod port_fault;
 mod programmer_fault;
 mod reaching;

@@ -1,5 +1,5 @@
 use Rattle.serprog_board.proofs.Looking.{fails, goes_on, looked, returns_any}
-use Rattle.serprog_board.proofs.trial_reads.try_overlap.Goals as goal
+use Rattle.serprog_board.proofs.overlaps.try_overlap.Goals as goal
 
 pub returns-in_err-read-2-clause-looks : goal.returns-in_err-read-2-clause-looks
 returns-in_err-read-2-clause-looks g c awaits was =

@@ -1,6 +1,6 @@
 use Rattle.std.proofs.Common.{rules}
 use Rattle.serprog_board.proofs.Looking.{fails, goes_on, looked, returns_any}
-use Rattle.serprog_board.proofs.trial_reads.compare_overlaps.Goals as goal
+use Rattle.serprog_board.proofs.overlaps.compare_overlaps.Goals as goal
 
 pub returns-in_err-try_overlap-clause-looks : goal.returns-in_err-try_overlap-clause-looks
 returns-in_err-try_overlap-clause-looks g c awaits was =

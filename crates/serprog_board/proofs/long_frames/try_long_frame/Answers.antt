@@ -1,6 +1,6 @@
 use Rattle.std.proofs.Common.{rules}
 use Rattle.serprog_board.proofs.Looking.{fails, goes_on, looked, returns_any}
-use Rattle.serprog_board.proofs.trial_reads.try_long_frame.Goals as goal
+use Rattle.serprog_board.proofs.long_frames.try_long_frame.Goals as goal
 
 pub returns-in_err-read_direct-clause-looks : goal.returns-in_err-read_direct-clause-looks
 returns-in_err-read_direct-clause-looks g c awaits was =

@@ -4,7 +4,7 @@ use Rattle.nor_serprog.specs.Link.{is_in_step}
 use Rattle.nor_serprog.specs.Replies.{AwaitsCommand}
 use Rattle.serprog_board.specs.Looking.{EndsLooking}
 use Rattle.serprog_board.specs.Ports.{asked_over}
-use Rattle.serprog_board.proofs.trial_reads.compare_overlaps.Given as goal
+use Rattle.serprog_board.proofs.long_frames.find_place.Given as goal
 
 abbrev pub invariant-loop-place : goal.invariant-loop-place
 invariant-loop-place g l = record {

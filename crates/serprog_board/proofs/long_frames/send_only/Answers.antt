@@ -1,5 +1,5 @@
 use Rattle.serprog_board.proofs.Looking.{goes_on, mapped, passed}
-use Rattle.serprog_board.proofs.trial_reads.send_only.Goals as goal
+use Rattle.serprog_board.proofs.long_frames.send_only.Goals as goal
 
 pub returns-clause-looks : goal.returns-clause-looks
 returns-clause-looks g c awaits whole =

@@ -1,6 +1,6 @@
 use Rattle.nor_serprog.proofs.Harmless.{harmless_sync}
 use Rattle.serprog_board.proofs.Looking.{synchronized_looks}
-use Rattle.serprog_board.proofs.trial_reads.synchronize.Goals as goal
+use Rattle.serprog_board.proofs.long_frames.synchronize.Goals as goal
 
 pub returns : goal.returns
 returns g c = record {
