@@ -18,6 +18,7 @@ mod reaching;
 mod reader;
 mod rules;
 mod setting;
+mod transactions;
 mod trial_reads;
 mod waking;
 mod wrong_setting;

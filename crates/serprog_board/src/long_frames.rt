@@ -8,7 +8,8 @@ ghost use Rattle.serprog_board.specs.Ports.{asked_over};
 
 use crate::port_fault::PortFault;
 use crate::programmer_fault::ProgrammerFault;
-use crate::trial_reads::{FEW, PLACES, PROGRAM, STEP, exchange, operate, read, read_at, shorter};
+use crate::transactions::operate;
+use crate::trial_reads::{FEW, PLACES, PROGRAM, STEP, exchange, read, read_at, shorter};
 use nor_serprog::{Failure, HandshakeFault, Link, Port};
 
 // Read Status Register-1 (05h) returns status 1 until the chip is deselected (W25Q64FV datasheet, Instructions).

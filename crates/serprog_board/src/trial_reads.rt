@@ -1,8 +1,8 @@
 //! Reads that detect, before a job begins, a chip in four-byte mode or a programmer that changes long frames.
-ghost use Rattle.std.specs.Prelude.{◌≡◌, ◌≤◌, true, IfErr, length};
+ghost use Rattle.std.specs.Prelude.{◌≡◌, ◌≤◌, true, length};
 ghost use Rattle.nor_serprog.specs.Harmless.{StaysHarmless, begins_harmless};
 ghost use Rattle.nor_serprog.specs.Link.{is_in_step, port_of};
-ghost use Rattle.nor_serprog.specs.Replies.{AwaitsCommand, IsNoRefusal};
+ghost use Rattle.nor_serprog.specs.Replies.{AwaitsCommand};
 ghost use Rattle.serprog_board.specs.Looking.{EndsLooking};
 ghost use Rattle.serprog_board.specs.Ports.{asked_over};
 
@@ -10,7 +10,8 @@ use crate::long_frames::{find_place, try_long_frame};
 use crate::overlaps::compare_overlaps;
 use crate::port_fault::PortFault;
 use crate::programmer_fault::ProgrammerFault;
-use nor_serprog::{AnyProgrammer, Command, Failure, HandshakeFault, Link, Port};
+use crate::transactions::operate;
+use nor_serprog::{AnyProgrammer, HandshakeFault, Link, Port};
 
 // Read Data (03h) takes three address bytes (W25Q64FV datasheet, Instructions).
 const READ: u8 = 0x03;
@@ -93,26 +94,6 @@ pub fn exchange<P: Port<Cause = PortFault> + Drop>(
     operate(link, out, reply).map_err(|failure| {
         ProgrammerFault::Handshake(HandshakeFault::Failure(failure))
     })
-}
-
-pub fn operate<P: Port<Cause = PortFault> + Drop>(
-    link: &mut Link<P>,
-    out: &[u8],
-    reply: &mut [u8],
-) -> Result<(), Failure<PortFault>>
-    requires few { length reply.old ≤ 256 }
-    requires reads { begins_harmless out.now ≡ true }
-    ensures harmless { StaysHarmless (asked_over P.state link.old) (asked_over P.state link.new) }
-    ensures nature { (P.state (port_of link.new)).honest ≡ (P.state (port_of link.old)).honest }
-    ensures looks { AwaitsCommand (P.state (port_of link.old)) → is_in_step link.old ≡ true
-        → EndsLooking P.state result link.old link.new }
-    ensures unrefused { AwaitsCommand (P.state (port_of link.old)) → IfErr result IsNoRefusal }
-{
-    let command = Command::Operate {
-        out,
-        replies: reply.len() as u32,
-    };
-    link.exchange(command, reply)
 }
 
 /// Returns the bytes that a read sends. `address` must be below 2^24.

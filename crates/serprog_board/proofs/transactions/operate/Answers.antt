@@ -1,6 +1,6 @@
 use Rattle.std.proofs.Common.{refl}
 use Rattle.serprog_board.proofs.Looking.{exchange_looks}
-use Rattle.serprog_board.proofs.trial_reads.operate.Goals as goal
+use Rattle.serprog_board.proofs.transactions.operate.Goals as goal
 
 pub returns-clause-looks : goal.returns-clause-looks
 returns-clause-looks g c awaits was =
