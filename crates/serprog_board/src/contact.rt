@@ -1,14 +1,15 @@
 //! Finds out whether a chip replies, and tries to free a chip that was left in QPI mode.
 
 ghost use Rattle.std.specs.Prelude.{◌≡◌, true};
-ghost use Rattle.nor_serprog.specs.Harmless.{StaysHarmless, begins_harmless};
+ghost use Rattle.nor_serprog.specs.Harmless.{StaysHarmless};
 ghost use Rattle.nor_serprog.specs.Link.{is_in_step, port_of};
 ghost use Rattle.nor_serprog.specs.Replies.{AwaitsCommand};
 ghost use Rattle.serprog_board.specs.Looking.{EndsLooking};
 ghost use Rattle.serprog_board.specs.Ports.{asked_over};
 
 use crate::port_fault::PortFault;
-use nor_serprog::{Command, Failure, Link, Port};
+use crate::transactions::operate;
+use nor_serprog::{Failure, Link, Port};
 use std::thread;
 use std::time::Duration;
 
@@ -96,21 +97,8 @@ fn leave_modes<P: Port<Cause = PortFault> + Drop>(
     ensures looks { AwaitsCommand (P.state (port_of link.old)) → is_in_step link.old ≡ true
         → EndsLooking P.state result link.old link.new }
 {
-    send(link, &[0xFF])?;
-    send(link, &[0xFF, 0xFF])
-}
-
-fn send<P: Port<Cause = PortFault> + Drop>(
-    link: &mut Link<P>,
-    out: &[u8],
-) -> Result<(), Failure<PortFault>>
-    requires reads { begins_harmless out.now ≡ true }
-    ensures harmless { StaysHarmless (asked_over P.state link.old) (asked_over P.state link.new) }
-    ensures nature { (P.state (port_of link.new)).honest ≡ (P.state (port_of link.old)).honest }
-    ensures looks { AwaitsCommand (P.state (port_of link.old)) → is_in_step link.old ≡ true
-        → EndsLooking P.state result link.old link.new }
-{
-    link.exchange(Command::Operate { out, replies: 0 }, &mut [])
+    operate(link, &[0xFF], &mut [])?;
+    operate(link, &[0xFF, 0xFF], &mut [])
 }
 
 // Returns whether the reply to 9Fh has a byte other than FFh.
@@ -123,11 +111,7 @@ fn returns_id<P: Port<Cause = PortFault> + Drop>(
         → EndsLooking P.state result link.old link.new }
 {
     let mut id = [0; 3];
-    let read_id = Command::Operate {
-        out: &[0x9F],
-        replies: 3,
-    };
-    link.exchange(read_id, &mut id)?;
+    operate(link, &[0x9F], &mut id)?;
     Ok(!is_idle(&id))
 }
 
@@ -141,11 +125,7 @@ fn returns_status<P: Port<Cause = PortFault> + Drop>(
         → EndsLooking P.state result link.old link.new }
 {
     let mut status = [0; 1];
-    let read_status = Command::Operate {
-        out: &[0x05],
-        replies: 1,
-    };
-    link.exchange(read_status, &mut status)?;
+    operate(link, &[0x05], &mut status)?;
     Ok(!is_idle(&status))
 }
 
@@ -159,11 +139,7 @@ fn returns_sfdp<P: Port<Cause = PortFault> + Drop>(
         → EndsLooking P.state result link.old link.new }
 {
     let mut signature = [0; 4];
-    let read_sfdp = Command::Operate {
-        out: &[0x5A, 0, 0, 0, 0],
-        replies: 4,
-    };
-    link.exchange(read_sfdp, &mut signature)?;
+    operate(link, &[0x5A, 0, 0, 0, 0], &mut signature)?;
     Ok(signature == SIGNATURE)
 }
 
