@@ -1,22 +1,20 @@
 -- What a bus over a link that reached the chip of a well-behaved port is.
-use Rattle.std.proofs.Common.{◌≡◌, ◌∙◌, ◌≤◌, ◌<◌, ℕ, Bool, true, false, Option, ap, arith, refl, subst, sym}
+use Rattle.std.proofs.Common.{◌≡◌, ◌∙◌, ℕ, true, false, Option, ap, arith, subst, sym}
 use Rattle.std.proofs.lemmas.Bool.{false≢true}
 use Rattle.nor_model.specs.Bus.{BusState}
 use Rattle.nor_model.specs.Chip.{Chip, IsSame}
 use Rattle.nor_model.specs.declared.config.Config.{Config}
 use Rattle.nor_buses.specs.Adapted.{keeps_replies}
-use Rattle.nor_buses.specs.Splitting.{takes_whole}
 use Rattle.nor_serprog.specs.Batch.{IsSettledFor}
 use Rattle.nor_serprog.specs.Device.{PortState, IsIdle}
 use Rattle.nor_serprog.specs.Firmware.{Firmware, buffer_at}
-use Rattle.nor_serprog.specs.Identify.{IsAnyProgrammerOf, part_limit_of, read_limit, write_limit}
-use Rattle.nor_serprog.specs.Link.{is_in_step}
+use Rattle.nor_serprog.specs.Identify.{IsAnyProgrammerOf}
 use Rattle.nor_serprog.specs.Replies.{AwaitsCommand}
 use Rattle.nor_serprog.specs.declared.link.Link.{Link}
 use Rattle.nor_serprog.specs.declared.programmer.AnyProgrammer.{AnyProgrammer}
 use Rattle.serprog_board.specs.BoardBus.{FitsBoard, ids_with_row}
 use Rattle.serprog_board.specs.Looking.{IsRestorableChip, LooksAndAwaits, OnlyLooks}
-use Rattle.serprog_board.specs.Reached.{FitsPort, ReachesChip, TakesSectors}
+use Rattle.serprog_board.specs.Reached.{ReachesChip}
 
 -- The link over the port `opened` was `first` and is now `link`.
 module _ {P C : Type 0} (state : P → PortState) (opened : P) (first link : Link P C) (programmer : AnyProgrammer)

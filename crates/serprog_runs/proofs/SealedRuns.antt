@@ -1,7 +1,6 @@
 -- Lemmas: a change whose journal is durable from the seal on still is if its run then sends no modifying command.
-use Rattle.std.proofs.Common.{◌≡◌, ◌∙◌, Bool, IfSome, List, None, Option, Some, ap, inl, inr, true, false}
+use Rattle.std.proofs.Common.{◌≡◌, ◌∙◌, IfSome, List, None, Option, Some, ap, inl, inr, true}
 use Rattle.std.specs.Borrow.{Bor}
-use Rattle.std.proofs.lemmas.Bool.{false≢true}
 use Rattle.nor_model.specs.Bus.{BusState}
 use Rattle.nor_files.specs.Files.{FilesState, Found, is_lawful}
 use Rattle.nor_journal.specs.Vault.{VaultState}

@@ -1,5 +1,5 @@
 -- A run of flashnor-serprog: what its arguments ask for, how its job ends, what it prints, and its exit status.
-use Rattle.std.specs.Prelude.{◌≡◌, ◌≤◌, ◌⊎◌, ◌++◌, ℕ, Bool, true, false, List, [], ◌∷◌, IsSomeAnd, Option, None, Some, Result, Ok, Err}
+use Rattle.std.specs.Prelude.{◌≡◌, ◌≤◌, ◌⊎◌, ℕ, Bool, List, IsSomeAnd, Option, None, Some, Result, Ok, Err}
 use Rattle.std.specs.Prelude.{codes}
 use Rattle.std.specs.Borrow.{Bor}
 use Rattle.clap.specs.Words.{IsAmong}
@@ -11,7 +11,6 @@ use Rattle.nor_args.specs.Text.{Text}
 use Rattle.nor_args.specs.Words.{IsHardwareJob, hardware_refusals_of}
 use Rattle.nor_args.specs.declared.job.HardwareJob.TheVariants as hardware
 use Rattle.nor_args.specs.declared.job.Operation.{Operation}
-use Rattle.nor_args.specs.declared.job.Task.{Task}
 use Rattle.nor_args.specs.declared.job.Task.TheVariants as task
 use Rattle.nor_console.specs.Printing.{AsksForVersion, IsAnswered, Prints}
 use Rattle.nor_console.specs.declared.answers.Answer.{Answer}
