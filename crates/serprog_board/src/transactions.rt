@@ -9,6 +9,10 @@ ghost use Rattle.serprog_board.specs.Ports.{asked_over};
 use crate::port_fault::PortFault;
 use nor_serprog::{Command, Failure, Link, Port};
 
+/// Makes one SPI transaction that sends `out` and then fills `reply`, and returns the failure of `Link::exchange` if it
+/// fails. `out` must begin with an opcode that only reads, wakes a chip or ends a mode (`is_harmless_opcode`).
+///
+/// If the port is well-behaved and the programmer is idle, the programmer doesn't refuse the transaction.
 pub fn operate<P: Port<Cause = PortFault> + Drop>(
     link: &mut Link<P>,
     out: &[u8],

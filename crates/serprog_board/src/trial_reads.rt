@@ -16,17 +16,20 @@ use nor_serprog::{AnyProgrammer, HandshakeFault, Link, Port};
 // Read Data (03h) takes three address bytes (W25Q64FV datasheet, Instructions).
 const READ: u8 = 0x03;
 
-// The greatest number of bytes that are compared: `MOST` in overlapping reads, and `FEW` behind a long frame.
+/// The greatest number of bytes that are compared in overlapping reads.
 pub const MOST: usize = 32;
 
+/// The greatest number of bytes that are compared after the padding of a long frame.
 pub const FEW: usize = 4;
 
-// The trial addresses are `PLACES` multiples of `STEP`. A chip in four-byte mode reads at about 256 times the address.
+/// The number of trial addresses, which are multiples of `STEP`. A chip in four-byte mode reads at about 256 times the
+/// address.
 pub const PLACES: u32 = 8;
 
+/// The distance between two trial addresses.
 pub const STEP: u32 = 0x1110;
 
-// The number of bytes that a page program sends, including its opcode and its address.
+/// The number of bytes that a page program sends, including its opcode and its address.
 pub const PROGRAM: usize = 260;
 
 /// Makes trial reads, and compares their data. Returns one of these faults:
@@ -57,6 +60,7 @@ pub fn try_reads<P: Port<Cause = PortFault> + Drop>(
     try_long_frame(link, place, len, shorter(FEW, most))
 }
 
+/// Returns the lesser of a length and a limit of the programmer.
 pub fn shorter(len: usize, most: u32) -> usize
     ensures most { result ≤ len }
     ensures some { 1 ≤ len → 1 ≤ most → 1 ≤ result }
@@ -65,6 +69,7 @@ pub fn shorter(len: usize, most: u32) -> usize
     len.min(most as usize)
 }
 
+/// Reads the bytes from `address` on into `reply`. `address` must be below 2^24.
 pub fn read<P: Port<Cause = PortFault> + Drop>(
     link: &mut Link<P>,
     address: u32,
@@ -79,6 +84,7 @@ pub fn read<P: Port<Cause = PortFault> + Drop>(
     exchange(link, &read_at(address), reply)
 }
 
+/// Makes one transaction (`operate`), and returns `Handshake` if it fails.
 pub fn exchange<P: Port<Cause = PortFault> + Drop>(
     link: &mut Link<P>,
     out: &[u8],
