@@ -155,7 +155,8 @@ def take_numbers(page):
             only(f"{kind} faults for hardware", "the program", numbers, HARDWARE=re.findall(
                 rf"(?i){kind} fault (\d+)", read("docs/HARDWARE.md")))
     most = int(re.search(r"ensures few \{ result ≤ (\d+) \}", code("flashnor_serprog/src/run.rt"))[1])
-    same("exit statuses for hardware", sources=map(str, range(most + 1)), manual=rows(page, "EXIT STATUS"))
+    same("exit statuses for hardware", sources=[str(status) for status in range(most + 1)],
+         manual=rows(page, "EXIT STATUS"))
 
 
 def main():

@@ -73,6 +73,7 @@ PLANTS = {
         "crates/flashnor_serprog/src/run_fault.rt", r"Version\(_\) => 6", "Version(_) => 16",
         "sources has '16', manual"),
     "an exit status that the program lacks": (PAGE, r"(?m)^1\tThere was", "2\tThere was", "manual has '2'"),
+    "an exit status less": (PAGE, r"(?m)^1\tThere was.*\n", "", "sources has '1', manual hasn't"),
 }
 
 
