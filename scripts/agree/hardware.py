@@ -14,7 +14,7 @@ from words import completed, in_bytes
 NAME = "flashnor-serprog"
 PAGE = "man/flashnor-serprog.8"
 # Only flashnor-serprog prints the lines of these crates.
-OWN = "board_progress", "board_files", "board_jobs", "flashnor_serprog"
+OWN = "board_progress", "board_files", "board_jobs", "serprog_board", "serprog_runs", "flashnor_serprog"
 # This program can't cause these faults of an exchange and of a handshake, because it sends no frame that is too long,
 # reports only the first failure, and reads through a bus that splits reads.
 IMPOSSIBLE = "TooLong", "OutOfStep", "CutFrame", "ReadLimit"
@@ -76,23 +76,23 @@ def take_chips(_):
              for name, number, size in re.findall(r"winbond!\((\w+), \[0x([^]]+)\], ([\d_]+)\)", text)]
     listed = rows_of("docs/SPECIFICATION.md", "Name") + rows_of("docs/SPECIFICATION.md", "Further name")
     same("rows for hardware", sources=table, SPECIFICATION=[(row[0], row[1], in_bytes(row[2])) for row in listed])
-    block = re.search(r"(?s)const WITH_ROW: .*?\n\];", code("flashnor_serprog/src/board_bus.rt"))
+    block = re.search(r"(?s)const WITH_ROW: .*?\n\];", code("serprog_board/src/board_bus.rt"))
     known = re.findall(r"\[0x(\w\w), 0x(\w\w), 0x(\w\w)\]", block[0] if block else "")
     same("chips with a row", sources={number for _, number, _ in table}, connect={" ".join(it) for it in known})
     others = code("nor_args/src/given/other_names.rt").partition("fn is_name_of")[2].split("ChipName::")[1:]
     names = [(texts[it.partition(" ")[0]], name) for it in others for name in re.findall(r'text == "(.*?)"', it)]
     same("names for -c for hardware", sources={"SFDP", *(row[0] for row in table), *(name for _, name in names)},
          completion=completed("-c ", NAME))
-    listed = re.findall(r"(?m)^(W25Q\S+) .*\n((?:    .*\n)*)", code("flashnor_serprog/src/chip_list.rt"))
+    listed = re.findall(r"(?m)^(W25Q\S+) .*\n((?:    .*\n)*)", code("serprog_runs/src/chip_list.rt"))
     same("other names of the rows", sources=names,
          list=[(row, name) for row, lines in listed for name in re.findall(r"W25Q[^\s,]+", lines)])
 
 
 def take_keys(page):
     """Compares the keys of `-p` and the names of their values."""
-    keys = re.findall(r"(?m)^  ([a-z]+=[A-Z]+) ", code("flashnor_serprog/src/help.rt"))
+    keys = re.findall(r"(?m)^  ([a-z]+=[A-Z]+) ", code("serprog_runs/src/help.rt"))
     same("keys for hardware", help=keys, manual=tags(page, "PROGRAMMER"))
-    words = [token.text for token in tokens("flashnor_serprog/src/setting.rt")]
+    words = [token.text for token in tokens("serprog_board/src/setting.rt")]
     same("names of keys for hardware", help={key.partition("=")[0] for key in keys},
          parser={word.strip('"') for word, after in zip(words, words[1:]) if word[0] == '"' and after in "=>|"},
          completion={word[len("serprog:") : -1] for word in completed("-p serprog:", NAME)})
@@ -103,9 +103,9 @@ def take_keys(page):
 
 def take_names(page):
     """Compares the name of the program, its version, and the setting of the port."""
-    text = code("flashnor_serprog/src/help.rt")
+    text = code("serprog_runs/src/help.rt")
     same("name of the program", help=re.findall(r'program: "(.*?)"', text), definition=re.findall(
-        r'(?m)^program = codes "(.*)"', (CRATES / "flashnor_serprog/specs/Run.antt").read_text(encoding="utf-8")),
+        r'(?m)^program = codes "(.*)"', (CRATES / "serprog_runs/specs/Run.antt").read_text(encoding="utf-8")),
          manual=[next(part.text for part in page if part.section == "NAME").split()[0]],
          completion=re.findall(r"(?m)^complete -F \w+ (\S+-\S+)$", read("completion/flashnor.bash")),
          installer=re.findall(r'(?m)^install .*/bin/(\S+-\S+)"$', read("scripts/archive/install.sh")))
@@ -114,7 +114,7 @@ def take_names(page):
          flashnor=re.findall(r'about: "flashnor ([\d.]+):', code("nor_args/src/options.rt")))
     modes = r"(?m)stty -F \S+ (raw .*?[0-9])(?:$|[`.])"
     same("setting of the port",
-         sources=re.findall(r'STTY_ARGUMENTS: &str = "(.*)"', code("flashnor_serprog/src/run_fault.rt")),
+         sources=re.findall(r'STTY_ARGUMENTS: &str = "(.*)"', code("serprog_board/src/programmer_fault.rt")),
          help=re.findall(modes, text), manual=re.findall(modes, "".join(part.text for part in page)),
          HARDWARE=re.findall(modes, read("docs/HARDWARE.md")))
 
@@ -125,7 +125,7 @@ def take_lines(page):
     steps = re.findall(r'Step::\w+ => "(.*?)(?::.*?)?"', code("board_progress/src/steps.rt"))
     output = " ".join("".join(part.text for part in page if part.section == "OUTPUT").split())
     same("steps of a job", sources=steps, manual=re.search(r"each step \((.*?)\)", output)[1].split(", "))
-    faults = code("flashnor_serprog/src/run_fault.rt")
+    faults = code("serprog_board/src/programmer_fault.rt")
     derived = [(name, text) for path in ("link", "programmer") for text, name in re.findall(
         r'#\[error\("(.*?)"\)\]\s*(\w+)', code(f"nor_serprog/src/{path}.rt"))]
     known = {blank(text) for name, text in derived if name not in IMPOSSIBLE and text != "{0}"}
@@ -139,12 +139,12 @@ def take_lines(page):
 
 def take_numbers(page):
     """Compares the numbers of each kind of fault, and the exit statuses."""
-    faults, lines = code("flashnor_serprog/src/run_fault.rt"), code("nor_console/src/messages.rt")
+    faults, lines = code("serprog_board/src/programmer_fault.rt"), code("nor_console/src/messages.rt")
     named = dict(zip(re.findall(r"(?m)^    (\w+)(?: = 1)?,$", re.search(r"(?s)enum FileFault \{(.*?)\n\}", lines)[1]),
                      rust.numbers_of_variants(tokens("nor_console/src/messages.rt"))))
     used = set(re.findall(r"FileFault::(\w+)", codes("nor_console", *OWN)))
     found = {
-        "Usage": re.findall(r"(?m)^Usage fault (\d+):", code("flashnor_serprog/src/help.rt")),
+        "Usage": re.findall(r"(?m)^Usage fault (\d+):", code("serprog_runs/src/help.rt")),
         "Layout": map(str, rust.numbers_of_variants(tokens("nor_layout/src/fault.rt"))),
         "File": {str(number) for name, number in named.items() if name in used},
         "Chip": re.findall(r"Chip fault (\d+)", codes(*OWN)),
@@ -154,7 +154,7 @@ def take_numbers(page):
         if kind in ("Chip", "Programmer"):
             only(f"{kind} faults for hardware", "the program", numbers, HARDWARE=re.findall(
                 rf"(?i){kind} fault (\d+)", read("docs/HARDWARE.md")))
-    most = int(re.search(r"ensures few \{ result ≤ (\d+) \}", code("flashnor_serprog/src/run.rt"))[1])
+    most = int(re.search(r"ensures few \{ result ≤ (\d+) \}", code("serprog_runs/src/run.rt"))[1])
     same("exit statuses for hardware", sources=[str(status) for status in range(most + 1)],
          manual=rows(page, "EXIT STATUS"))
 

@@ -9,10 +9,10 @@ import tempfile
 import unittest
 
 TOP = pathlib.Path(__file__).resolve().parent.parent.parent
-PAGE, HELP, COMPLETION = "man/flashnor-serprog.8", "crates/flashnor_serprog/src/help.rt", "completion/flashnor.bash"
+PAGE, HELP, COMPLETION = "man/flashnor-serprog.8", "crates/serprog_runs/src/help.rt", "completion/flashnor.bash"
 SOURCES = "crates/board_files crates/board_jobs crates/board_progress crates/flashnor_serprog crates/nor_args " \
-    "crates/nor_console crates/nor_layout crates/nor_probe crates/nor_request crates/nor_serprog scripts man docs " \
-    "completion"
+    "crates/nor_console crates/nor_layout crates/nor_probe crates/nor_request crates/nor_serprog " \
+    "crates/serprog_board crates/serprog_runs scripts man docs completion"
 # Each plant has a file, a pattern whose first match is replaced, the new text, and the expected message.
 PLANTS = {
     "an option that the page lacks": (
@@ -33,18 +33,18 @@ PLANTS = {
     "another ID of a further chip": (
         "docs/SPECIFICATION.md", r"\| EF 60 17 \|", "| EF 61 17 |", "'EF 61 17', 8388608)', sources hasn't"),
     "a row that isn't asked for status 2": (
-        "crates/flashnor_serprog/src/board_bus.rt", r"    \[0xEF, 0x60, 0x17\],\n", "", "connect hasn't"),
+        "crates/serprog_board/src/board_bus.rt", r"    \[0xEF, 0x60, 0x17\],\n", "", "connect hasn't"),
     "a chip that the completion lacks": (
         COMPLETION, r" W25Q32JV-M", "", "sources has 'W25Q32JV-M', completion hasn't"),
     "another name that the list lacks": (
-        "crates/flashnor_serprog/src/chip_list.rt", r"W25Q32CV, ", "", "('W25Q32FV', 'W25Q32CV')', list hasn't"),
+        "crates/serprog_runs/src/chip_list.rt", r"W25Q32CV, ", "", "('W25Q32FV', 'W25Q32CV')', list hasn't"),
     "another name in the list of another row": (
-        "crates/flashnor_serprog/src/chip_list.rt", r"or W25Q32DW", "or W25Q64BV, W25Q32DW",
+        "crates/serprog_runs/src/chip_list.rt", r"or W25Q32DW", "or W25Q64BV, W25Q32DW",
         "('W25Q32FW', 'W25Q64BV')', sources hasn't"),
     "a key that the completion lacks": (
         COMPLETION, "for key in dev spispeed cs", "for key in dev spispeed", "help has 'cs', completion hasn't"),
     "a key that the parser lacks": (
-        "crates/flashnor_serprog/src/setting.rt", '"cs" =>', '"ce" =>', "parser has 'ce', help hasn't"),
+        "crates/serprog_board/src/setting.rt", '"cs" =>', '"ce" =>', "parser has 'ce', help hasn't"),
     "a key that the page lacks": (
         PAGE, r"(?m)^\.TP\n\\fBcs=(?:.*\n)*?(?=\.SS)", "", "help has 'cs=N', manual hasn't"),
     "another name in the help": (
@@ -70,7 +70,7 @@ PLANTS = {
     "a programmer fault that HARDWARE invents": (
         "docs/HARDWARE.md", "programmer fault 8", "programmer fault 18", "HARDWARE has '18', the program hasn't"),
     "another number of a programmer fault": (
-        "crates/flashnor_serprog/src/run_fault.rt", r"Version\(_\) => 6", "Version(_) => 16",
+        "crates/serprog_board/src/programmer_fault.rt", r"Version\(_\) => 6", "Version(_) => 16",
         "sources has '16', manual"),
     "an exit status that the program lacks": (PAGE, r"(?m)^1\tThere was", "2\tThere was", "manual has '2'"),
     "an exit status less": (PAGE, r"(?m)^1\tThere was.*\n", "", "sources has '1', manual hasn't"),
