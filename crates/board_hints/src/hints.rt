@@ -2,42 +2,16 @@
 
 use crate::chip_after::ChipAfter;
 use crate::chip_names::{ChipText, Connected, Hex};
+use crate::circumstances::Circumstances;
 use crate::saved::Saved;
 use board_files::{Farthest, StatusBits, print_hint, reason_hint, regions_of};
-use board_progress::{Lock, Replies, SRP0, SRP1};
+use board_progress::{Lock, SRP0, SRP1};
 use nor_args::{Change, Operation, Regions, Task, Wanted};
-use nor_console::{Escaped, Fault, FileFault, SystemReason};
+use nor_console::{Escaped, Fault, FileFault};
 use nor_probe::{ChipName, SfdpFault, part_for};
 use nor_session::Refusal;
 use std::fmt;
 use std::io::Write;
-
-/// The facts about a chip and a job that may be printed in the line after the line of a fault.
-#[derive(Clone, Copy, Drop)]
-pub struct Circumstances<'a> {
-    pub saved: Option<Saved>,
-    pub replies: Replies,
-    /// True if the chip's SFDP says that its pages have fewer than 256 bytes.
-    pub has_small_pages: bool,
-    pub left: ChipAfter<'a>,
-    /// The system's reason why a write or sync of the journal or of the output failed, if known.
-    pub unwritten: Option<SystemReason>,
-    pub farthest: Option<Farthest<'a>>,
-}
-
-impl Circumstances<'_> {
-    /// Returns what is known before the first transaction of an operation.
-    pub fn before() -> Circumstances<'static> {
-        Circumstances {
-            saved: None,
-            replies: Replies::default(),
-            has_small_pages: false,
-            left: ChipAfter::Reading,
-            unwritten: None,
-            farthest: None,
-        }
-    }
-}
 
 /// Prints the line that follows the line of an operation's fault, if there is one.
 pub fn print_operation_hint<E: Write>(

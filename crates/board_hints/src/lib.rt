@@ -3,9 +3,11 @@
 
 mod chip_after;
 mod chip_names;
+mod circumstances;
 mod hints;
 mod saved;
 
 pub use chip_after::ChipAfter;
-pub use hints::{Circumstances, print_operation_hint, unlocks};
+pub use circumstances::Circumstances;
+pub use hints::{print_operation_hint, unlocks};
 pub use saved::Saved;
