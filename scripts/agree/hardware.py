@@ -129,9 +129,8 @@ def take_lines(page):
     derived = [(name, text) for path in ("link", "programmer") for text, name in re.findall(
         r'#\[error\("(.*?)"\)\]\s*(\w+)', code(f"nor_serprog/src/{path}.rt"))]
     known = {blank(text) for name, text in derived if name not in IMPOSSIBLE and text != "{0}"}
-    reasons = re.findall(r'ProgrammerFault::(?!Handshake)\w+(?:\([\w:]+\))? => (?:\{\s*)?"(.*?)"', faults)
-    known |= {f"_ {text}" for text in reasons} | set(re.findall(r'write_str\("(the programmer is silent)"\)', faults))
-    known |= {blank(text) for text in re.findall(r'"(the programmer .*?)\. \{advice\}"', faults)}
+    known |= {f"_ {text}" for text in re.findall(r'device_row\(\s*\d+,\s*"(.*?)"', faults)}
+    known |= {blank(text) for text in re.findall(r'"(the programmer .*?)"', faults)}
     shown = {blank(re.sub(r"\bXX(?=h\b)|text of the system", "{}", text)).removesuffix(".")
              for cell in rows(page, "Programmer faults").values() for text in cell.split("\v")}
     same("texts of programmer faults", sources=known, manual=shown)
@@ -148,7 +147,7 @@ def take_numbers(page):
         "Layout": map(str, rust.numbers_of_variants(tokens("nor_layout/src/fault.rt"))),
         "File": {str(number) for name, number in named.items() if name in used},
         "Chip": re.findall(r"Chip fault (\d+)", codes(*OWN)),
-        "Programmer": re.findall(r"Fault::\w+.* => (\d+),", faults)}
+        "Programmer": re.findall(r"(?:device_row|=> )\(\s*(\d+),", faults)}
     for kind, numbers in found.items():
         numbers = same(f"{kind} faults for hardware", sources=set(numbers), manual=rows(page, f"{kind} faults"))
         if kind in ("Chip", "Programmer"):

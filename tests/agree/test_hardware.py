@@ -70,7 +70,7 @@ PLANTS = {
     "a programmer fault that HARDWARE invents": (
         "docs/HARDWARE.md", "programmer fault 8", "programmer fault 18", "HARDWARE has '18', the program hasn't"),
     "another number of a programmer fault": (
-        "crates/serprog_board/src/programmer_fault.rt", r"Version\(_\) => 6", "Version(_) => 16",
+        "crates/serprog_board/src/programmer_fault.rt", r"Version\(_\) => \(6", "Version(_) => (16",
         "sources has '16', manual"),
     "an exit status that the program lacks": (PAGE, r"(?m)^1\tThere was", "2\tThere was", "manual has '2'"),
     "an exit status less": (PAGE, r"(?m)^1\tThere was.*\n", "", "sources has '1', manual hasn't"),
