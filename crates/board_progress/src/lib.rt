@@ -14,6 +14,7 @@ mod status_line;
 mod step_lines;
 mod step_timer;
 mod steps;
+mod tallies;
 mod terminal;
 
 pub use lock_bits::{Lock, SRP0, SRP1};

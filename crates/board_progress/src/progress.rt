@@ -12,7 +12,7 @@ use crate::lock_bits::Lock;
 use crate::notes::Notes;
 use crate::replies::Replies;
 use crate::status_line::{are_equally_protected, protects};
-use crate::step_lines::{Counts, PlainLine};
+use crate::step_lines::PlainLine;
 use crate::step_timer::StepTimer;
 use crate::steps::{Phase, Step, Total, step_of};
 use crate::terminal::{ProgressStyle, Terminal};
@@ -81,7 +81,6 @@ pub struct ProgressBus<'a, B> {
     phase: Phase,
     // the number of sectors that the present scan or comparison reads, if known
     expected: Option<usize>,
-    counts: Counts,
     timer: StepTimer,
     // when the first modifying command was passed on
     changed: Option<Instant>,
@@ -119,7 +118,6 @@ impl<'a, B: Bus + Drop> ProgressBus<'a, B> {
             journal: None,
             phase: Phase::Before,
             expected: None,
-            counts: Counts::default(),
             timer: StepTimer::new(terminal.now()),
             changed: None,
             status_write,
@@ -177,7 +175,7 @@ impl<B> ProgressBus<'_, B> {
         let Some(step) = self.step_of(out) else {
             return;
         };
-        let count = self.counts.count(step);
+        let count = self.timer.begin(step);
         if count == 1 && step.is_reading() {
             self.terminal.log_step(step.name());
         }

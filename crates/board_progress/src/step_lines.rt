@@ -1,35 +1,8 @@
-//! The counts of the steps, their plain lines, and the line that says how long a change took.
+//! The plain lines of the steps, and the line that says how long a change took.
+
 use crate::estimates::Minutes;
 use crate::steps::Step;
 use std::fmt;
-
-/// The number of transactions of each step, including one that the bus stopped. A second scan is counted from 0.
-#[derive(Clone, Copy, Default)]
-pub struct Counts {
-    pub identify: u64,
-    pub scan: u64,
-    pub erase: u64,
-    pub program: u64,
-    pub protect: u64,
-    pub read_back: u64,
-    pub compare: u64,
-}
-
-impl Counts {
-    pub fn count(&mut self, step: Step) -> u64 {
-        let count = match step {
-            Step::Identify => &mut self.identify,
-            Step::Scan => &mut self.scan,
-            Step::Erase => &mut self.erase,
-            Step::Program => &mut self.program,
-            Step::Protect => &mut self.protect,
-            Step::ReadBack => &mut self.read_back,
-            Step::Compare => &mut self.compare,
-        };
-        *count = count.saturating_add(1);
-        *count
-    }
-}
 
 /// The line of a step, as `ProgressStyle::Plain` prints it and the log receives it.
 #[derive(Clone, Copy, Drop)]

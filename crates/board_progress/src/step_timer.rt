@@ -1,6 +1,7 @@
 //! Counts and times the operations of a job, for its progress line.
 
-use crate::steps::{Step, StepLine, Tally, Total};
+use crate::steps::{Step, StepLine, Total};
+use crate::tallies::{Tallies, Tally};
 use crate::terminal::Transfer;
 use std::time::Instant;
 
@@ -8,44 +9,6 @@ use std::time::Instant;
 const BETWEEN: u64 = 100_000;
 
 const READ_STATUS: u8 = 0x05;
-
-#[derive(Clone, Copy, Default)]
-struct Tallies {
-    identify: Tally,
-    scan: Tally,
-    erase: Tally,
-    program: Tally,
-    protect: Tally,
-    read_back: Tally,
-    compare: Tally,
-}
-
-impl Tallies {
-    fn of(&self, step: Step) -> Tally {
-        match step {
-            Step::Identify => self.identify,
-            Step::Scan => self.scan,
-            Step::Erase => self.erase,
-            Step::Program => self.program,
-            Step::Protect => self.protect,
-            Step::ReadBack => self.read_back,
-            Step::Compare => self.compare,
-        }
-    }
-
-    fn add(&mut self, step: Step, bytes: u64, micros: u64) {
-        let tally = match step {
-            Step::Identify => &mut self.identify,
-            Step::Scan => &mut self.scan,
-            Step::Erase => &mut self.erase,
-            Step::Program => &mut self.program,
-            Step::Protect => &mut self.protect,
-            Step::ReadBack => &mut self.read_back,
-            Step::Compare => &mut self.compare,
-        };
-        tally.add(bytes, micros);
-    }
-}
 
 /// Counts and times the operations of a job, for its progress line. A read counts when its reply was received, any
 /// other operation when a poll shows that the chip is ready.
@@ -75,7 +38,19 @@ impl StepTimer {
     }
 
     pub fn restart_scan(&mut self) {
-        self.tallies.scan = Tally::default();
+        self.tallies.set(Step::Scan, Tally::default());
+    }
+
+    /// Counts a transaction of this step before it is passed on. Returns the number of the step's transactions.
+    pub fn begin(&mut self, step: Step) -> u64 {
+        let mut tally = self.tallies.of(step);
+        tally.begin();
+        self.tallies.set(step, tally);
+        tally.begun
+    }
+
+    pub fn begun(&self, step: Step) -> u64 {
+        self.tallies.of(step).begun
     }
 
     /// Records a transaction that ended before `now`. Returns the step whose line has changed, if there is one.
@@ -113,16 +88,15 @@ impl StepTimer {
     }
 
     fn count(&mut self, step: Step, bytes: u64, now: Option<Instant>) {
-        self.tallies
-            .add(step, bytes, micros_between(self.last, now));
+        let mut tally = self.tallies.of(step);
+        tally.finish(bytes, micros_between(self.last, now));
+        self.tallies.set(step, tally);
         self.last = now;
     }
 
     pub fn scanned(&self) -> Transfer {
-        Transfer {
-            bytes: self.tallies.scan.bytes,
-            micros: self.tallies.scan.micros,
-        }
+        let Tally { bytes, micros, .. } = self.tallies.of(Step::Scan);
+        Transfer { bytes, micros }
     }
 
     /// Returns the line of a step. The time in it includes the time of an operation that the chip is still performing.

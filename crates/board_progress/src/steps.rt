@@ -2,6 +2,7 @@
 ghost use Rattle.std.specs.Prelude.{◌≤◌};
 
 use crate::estimates::{Minutes, Rate, percent, tenths_of_kib, time_for};
+use crate::tallies::Tally;
 use std::fmt;
 
 /// The steps of a job. A job may omit a step, and the order varies. A read of a sector is a `Scan` until the change is
@@ -86,22 +87,6 @@ impl Step {
     pub fn unit(self, number: u64) -> &'static str {
         let (one, several) = self.nouns();
         if number == 1 { one } else { several }
-    }
-}
-
-/// The finished operations of a step: their number, their data bytes, and the microseconds that they took.
-#[derive(Clone, Copy, Default)]
-pub struct Tally {
-    pub done: u64,
-    pub bytes: u64,
-    pub micros: u64,
-}
-
-impl Tally {
-    pub fn add(&mut self, bytes: u64, micros: u64) {
-        self.done = self.done.saturating_add(1);
-        self.bytes = self.bytes.saturating_add(bytes);
-        self.micros = self.micros.saturating_add(micros);
     }
 }
 

@@ -14,9 +14,9 @@ impl<B> ProgressBus<'_, B> {
         if self.phase != Phase::Changing {
             return;
         }
-        self.show_last(Step::Erase, self.counts.erase);
-        self.show_last(Step::Program, self.counts.program);
-        self.show_last(Step::ReadBack, self.counts.read_back);
+        self.show_last(Step::Erase);
+        self.show_last(Step::Program);
+        self.show_last(Step::ReadBack);
         let now = self.terminal.now();
         if self.terminal.style() == ProgressStyle::Line {
             self.terminal.clear_line();
@@ -28,7 +28,8 @@ impl<B> ProgressBus<'_, B> {
     }
 
     // Shows the final number of a step's transactions, unless it is 0, or `show` has shown a line with this number.
-    fn show_last(&self, step: Step, count: u64) {
+    fn show_last(&self, step: Step) {
+        let count = self.timer.begun(step);
         if count > 0 && count % step.stride() != 1 {
             self.show_step(step, count);
         }
