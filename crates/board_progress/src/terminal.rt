@@ -254,11 +254,8 @@ impl<'a> Terminal<'a> {
 
     /// Writes a line to the log. With `ProgressStyle::Plain` and `ProgressStyle::Line`, also prints it.
     pub fn print<T: fmt::Display>(&self, text: &T) {
-        if matches!(self.style, ProgressStyle::Plain | ProgressStyle::Line) {
-            self.end_line();
-            let _ = eprintln!(self.rt; "{text}");
-        }
-        self.log().write_line(text);
+        let is_shown = matches!(self.style, ProgressStyle::Plain | ProgressStyle::Line);
+        self.print_if(is_shown, text);
     }
 
     /// Prints a line in any style, and doesn't write it to the log.
@@ -269,10 +266,7 @@ impl<'a> Terminal<'a> {
 
     /// Writes a line to the log. With `ProgressStyle::Plain`, also prints it.
     pub fn print_plain<T: fmt::Display>(&self, text: &T) {
-        if self.style == ProgressStyle::Plain {
-            let _ = eprintln!(self.rt; "{text}");
-        }
-        self.log().write_line(text);
+        self.print_if(self.style == ProgressStyle::Plain, text);
     }
 
     /// Logs that the run waits for its programmer, because a read from a port that isn't set up may wait forever. On
@@ -304,9 +298,13 @@ impl<'a> Terminal<'a> {
     /// Writes a line to the log that says how long the change will take or took. With `ProgressStyle::Line`, also
     /// prints this line.
     pub fn print_time<T: fmt::Display>(&self, text: &T) {
-        if self.style == ProgressStyle::Line {
-            self.end_line();
-            let _ = eprintln!(self.rt; "{text}");
+        self.print_if(self.style == ProgressStyle::Line, text);
+    }
+
+    // Writes a line to the log in any case, and prints it if `is_shown`.
+    fn print_if<T: fmt::Display>(&self, is_shown: bool, text: &T) {
+        if is_shown {
+            self.print_shown(text);
         }
         self.log().write_line(text);
     }
