@@ -1,17 +1,20 @@
 -- The regions of `-i` with a file of their own (`NAME:FILE`), and the replacement of an image's bytes by these files.
-use Rattle.std.specs.Prelude.{◌≡◌, ◌≢◌, ◌⊎◌, ◌++◌, ◌+◌, ◌≤◌, ◌<◌, ◌==◌, ℕ, All, List, [], ◌∷◌, Option, None, Some}
+use Rattle.std.specs.Prelude.{◌≡◌, ◌≢◌, ◌⊎◌, ◌++◌, ◌+◌, ◌≤◌, ◌<◌, ◌==◌, ℕ, true, All, List, [], ◌∷◌, Option, None, Some}
 use Rattle.std.specs.Prelude.{drop, length, map, option_map, take}
 use Rattle.std.specs.Borrow.{Bor}
 use Rattle.std.specs.List.{Any, before_first, filter_map, join_by, position, slice_split}
 use Rattle.nor_files.specs.Files.{View}
+use Rattle.nor_layout.specs.Included.{are_known, is_included}
+use Rattle.nor_layout.specs.Ranges.{contains}
 use Rattle.nor_layout.specs.declared.ranges.Span.{Span}
+use Rattle.nor_layout.specs.declared.region.Region.{Region}
 use Rattle.nor_request.specs.declared.refusal.Refusal.TheVariants.{Memory}
 use Rattle.nor_args.specs.Text.{Text}
 use Rattle.nor_args.specs.declared.job.Regions.{Regions}
 use Rattle.nor_args.specs.declared.job.Task.{Task}
 use Rattle.nor_args.specs.declared.job.Task.TheVariants as task
 use Rattle.nor_console.specs.Files.{IsReadingFault}
-use Rattle.nor_console.specs.Requests.{AreRangesOf, FailsToInclude}
+use Rattle.nor_console.specs.Requests.{AreRangesOf, FailsToReadLayout, IsLayoutOf, IsUnknown, first_unknown}
 use Rattle.nor_console.specs.Stored.{IsRead}
 use Rattle.nor_console.specs.declared.messages.Fault.{Fault}
 use Rattle.nor_console.specs.declared.messages.Fault.TheVariants as end
@@ -62,19 +65,33 @@ abbrev pub AreFilesIn : View → (shown : Option (List ℕ)) → Option Regions 
 AreFilesIn view shown None files = files ≡ []
 AreFilesIn view shown (Some regions) files = AreFilesOf view shown regions files
 
--- Holds for layout fault 8 of a region whose addresses aren't one span.
-abbrev pub HasNoSpan : View → (shown : Option (List ℕ)) → Regions → Bor Text → Fault → Type 0
-HasNoSpan view shown regions name fault = (fault ≡ end.NoRegion name)
-    × ((ranges : List Span) × AreRangesOf view shown (Some (with_names name regions)) (Some ranges)
-    × (length ranges ≢ 1))
+-- Holds if the region `name` is in the layout and has exactly the addresses in `ranges`.
+pub record AreRangesIn (layout : List Region) (name : Text) (ranges : List Span) : Type 0 where
+  pub known : are_known layout name ≡ true
+  pub union : (a : ℕ) → contains ranges a ≡ is_included layout name a
 
-abbrev pub FailsToFindSpan : View → (shown : Option (List ℕ)) → Regions → Bor Text → Fault → Type 0
-FailsToFindSpan view shown regions name fault =
-    FailsToInclude view shown (Some (with_names name regions)) fault ⊎ HasNoSpan view shown regions name fault
+-- Holds for layout fault 8 of a region that isn't in the layout, or whose addresses aren't one span.
+abbrev pub FailsToFindSpan : List Region → Bor Text → Fault → Type 0
+FailsToFindSpan layout name (end.NoRegion unknown) = (first_unknown layout name.now ≡ Some unknown.now)
+    ⊎ ((unknown ≡ name) × ((ranges : List Span) × AreRangesIn layout name.now ranges × (length ranges ≢ 1)))
+FailsToFindSpan layout name fault = ⊥
 
-abbrev pub FailsToFindFiles : View → (shown : Option (List ℕ)) → Regions → Fault → Type 0
-FailsToFindFiles view shown regions fault =
-    (fault ≡ end.Refused Memory) ⊎ ((name : Bor Text) × FailsToFindSpan view shown regions name fault)
+abbrev pub FailsToFindFiles : List Region → Fault → Type 0
+FailsToFindFiles layout fault =
+    (fault ≡ end.Refused Memory) ⊎ ((name : Bor Text) × FailsToFindSpan layout name fault)
+
+-- Holds if finding these regions may fail with this fault. `names` are the regions without their files.
+abbrev pub FailsToFindIn : View → (shown : Option (List ℕ)) → (names : Bor Text) → Regions → EarlyEnd → Type 0
+FailsToFindIn view shown names regions (early.Fault fault) = FailsToReadLayout view shown regions fault
+    ⊎ ((layout : List Region) × IsLayoutOf view shown regions layout × FailsToFindFiles layout fault)
+FailsToFindIn view shown names regions (early.NoRegion name known) =
+    IsUnknown view shown (with_names names regions) name.now
+FailsToFindIn view shown names regions _ = ⊥
+
+abbrev pub FailsToFindRegions : View → (shown : Option (List ℕ)) → (names : Bor Text) → Option Regions → EarlyEnd
+    → Type 0
+FailsToFindRegions view shown names None fault = ⊥
+FailsToFindRegions view shown names (Some regions) fault = FailsToFindIn view shown names regions fault
 
 -- Holds if the region's file is as long as the region, and `new` is `old` with the bytes of this file at the region's
 -- addresses.

@@ -1,5 +1,5 @@
 -- The files of a job: their roles, and the contents that are read before the job starts.
-use Rattle.std.specs.Prelude.{◌≡◌, ◌⊎◌, ◌&&◌, ℕ, Bool, true, false, List, [], Option, None, Some, length, option_map, ⊤}
+use Rattle.std.specs.Prelude.{◌≡◌, ◌⊎◌, ◌&&◌, ℕ, Bool, true, false, List, [], Option, None, Some, option_map, ⊤}
 use Rattle.std.specs.Borrow.{Bor}
 use Rattle.nor_files.specs.Files.{Nature, View}
 use Rattle.nor_files.specs.Files.Failure.{There}
@@ -109,11 +109,9 @@ pub record ArePreparedBytes (view : View) (is_replaced : Bool) (job : Task) (fil
   pub used : AreUsed view is_replaced job whole
   pub replaced : AreReplacedIn view (named_by job).wanted files whole bytes
 
-abbrev pub FailsToReplaceIn : View → (replaced : Bool) → (image : Option (Bor Text)) → Task → List RegionFile → EarlyEnd
-    → Type 0
-FailsToReplaceIn view replaced None job files fault = ⊥
-FailsToReplaceIn view replaced (Some image) job files fault =
-    (whole : List ℕ) × AreUsed view replaced job whole × FailsToReplace view image files (length whole) fault
+abbrev pub FailsToReplaceIn : View → (image : Option (Bor Text)) → List RegionFile → (len : ℕ) → EarlyEnd → Type 0
+FailsToReplaceIn view None files len fault = ⊥
+FailsToReplaceIn view (Some image) files len fault = FailsToReplace view image files len fault
 
 abbrev pub FailsToUse : View → (replaced : Bool) → Task → EarlyEnd → Type 0
 FailsToUse view replaced job fault =
@@ -123,9 +121,8 @@ abbrev pub FailsToReadOrCheck : View → Task → EarlyEnd → Type 0
 FailsToReadOrCheck view job (early.Fault fault) = FailsToReadBytes view job fault ⊎ FailsCheck view job fault
 FailsToReadOrCheck view job fault = ⊥
 
-abbrev pub FailsToPrepare : View → (replaced : Bool) → Task → List RegionFile → EarlyEnd → Type 0
-FailsToPrepare view replaced job files fault = FailsToReadOrCheck view job fault
-    ⊎ (FailsToUse view replaced job fault ⊎ FailsToReplaceIn view replaced (named_by job).wanted job files fault)
+abbrev pub FailsToReadSource : View → (replaced : Bool) → Task → EarlyEnd → Type 0
+FailsToReadSource view replaced job fault = FailsToReadOrCheck view job fault ⊎ FailsToUse view replaced job fault
 
 abbrev pub ArePlainNames : Option Regions → Text → Type 0
 ArePlainNames None names = ⊤

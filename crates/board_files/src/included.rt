@@ -1,10 +1,15 @@
-//! The addresses of the regions of `-i`.
-ghost use Rattle.std.specs.Prelude.{IfOk, option_map};
+//! The regions of `-i`: their addresses, and the files that some of them have.
+ghost use Rattle.std.specs.Prelude.{◌≡◌, IfErr, IfOk, Some, option_map};
+ghost use Rattle.nor_args.specs.declared.job.Regions.{Regions};
 ghost use Rattle.nor_console.specs.Requests.{AreRangesOf};
+ghost use Rattle.board_files.specs.Regions.{AreFilesIn, AreFilesOf, FailsToFindIn, FailsToFindRegions};
+ghost use Rattle.board_files.specs.Regions.{regions_of, with_names};
+ghost use Rattle.board_files.specs.Sources.{named_regions};
 
 use crate::early_ends::EarlyEnd;
 use crate::layout_lines::NamesLine;
-use nor_args::Regions;
+use crate::region_files::{RegionFile, find_files, regions_of};
+use nor_args::{Regions, Task};
 use nor_console::{include_regions, read_layout};
 use nor_files::Store;
 use nor_layout::{Ranges, Region};
@@ -16,35 +21,66 @@ pub struct Farthest<'a> {
     pub end: u32,
 }
 
-/// The addresses of the regions of `-i`, and the farthest of these regions. Both are `None` if no regions are given.
+/// The regions of `-i`. If no regions are given, `ranges` and `farthest` are `None`, and `files` is empty.
 #[derive(Drop)]
 pub struct Included<'a> {
+    /// The addresses of all these regions.
     pub ranges: Option<Ranges>,
+    /// The regions that have a file, in the order of `-i`.
+    pub files: Vec<RegionFile<'a>>,
     pub farthest: Option<Farthest<'a>>,
 }
 
-/// Returns the addresses of the named regions, and the farthest region. `shown` has the bytes of the layout if it is on
-/// the chip. Returns a fault of `read_layout`, or `NoRegion` for a name that no region of the layout has.
+/// Reads the layout of a task, and finds the task's regions in it. `names` are these regions without their files
+/// (`plain_names`). `shown` has the bytes of the layout if it is on the chip. Returns a fault of `read_layout`,
+/// `NoRegion` for a name that no region of the layout has, layout fault 8 if the addresses of a region with a file
+/// aren't a single span, or error 18 if memory runs out.
 pub fn find_included<'a, R: Store>(
     rt: &R,
-    regions: Option<Regions<'a>>,
+    task: &Task<'a>,
+    names: &'a str,
     shown: Option<&[u8]>,
 ) -> Result<Included<'a>, EarlyEnd<'a>>
-    ensures { IfOk result (λ included. AreRangesOf (R.state rt.now).view
-        (option_map (λ bytes. bytes.now) shown.entry) regions.entry included.ranges) }
+    ensures ranges { IfOk result (λ included. AreRangesOf (R.state rt.now).view
+        (option_map (λ bytes. bytes.now) shown.entry) (named_regions names.entry task.now) included.ranges) }
+    ensures files { IfOk result (λ included. AreFilesIn (R.state rt.now).view
+        (option_map (λ bytes. bytes.now) shown.entry) (regions_of task.now) included.files.items) }
+    ensures err { IfErr result (FailsToFindRegions (R.state rt.now).view
+        (option_map (λ bytes. bytes.now) shown.entry) names.entry (regions_of task.now)) }
 {
-    let Some(regions) = regions else {
-        return Ok(Included {
+    match regions_of(task) {
+        Some(regions) => find_in_layout(rt, regions, names, shown),
+        None => Ok(Included {
             ranges: None,
+            files: Vec::new(rt.alloc()),
             farthest: None,
-        });
-    };
-    let layout = read_layout(rt, regions, shown)?;
-    match include_regions(&layout, regions.names) {
-        Ok(ranges) => Ok(Included {
-            ranges: Some(ranges),
-            farthest: farthest_of(layout.regions(), regions.names),
         }),
+    }
+}
+
+fn find_in_layout<'a, R: Store>(
+    rt: &R,
+    regions: Regions<'a>,
+    names: &'a str,
+    shown: Option<&[u8]>,
+) -> Result<Included<'a>, EarlyEnd<'a>>
+    ensures ranges { IfOk result (λ included. AreRangesOf (R.state rt.now).view
+        (option_map (λ bytes. bytes.now) shown.entry) (Some (with_names names.entry regions.entry)) included.ranges) }
+    ensures files { IfOk result (λ included. AreFilesOf (R.state rt.now).view
+        (option_map (λ bytes. bytes.now) shown.entry) regions.entry included.files.items) }
+    ensures err { IfErr result (FailsToFindIn (R.state rt.now).view
+        (option_map (λ bytes. bytes.now) shown.entry) names.entry regions.entry) }
+{
+    let layout = read_layout(rt, regions, shown)?;
+    match include_regions(&layout, names) {
+        Ok(ranges) => {
+            let files = find_files(rt.alloc(), &layout, regions.names)?;
+            Ok(Included {
+                ranges: Some(ranges),
+                files,
+                farthest: farthest_of(layout.regions(), names),
+            })
+        }
         Err(name) => {
             let file = regions.layout;
             let known = NamesLine { file, layout };

@@ -1,19 +1,17 @@
 //! Finds the regions of `-i` that have a file of their own (`NAME:FILE`), and replaces the bytes of an image by the
 //! contents of these files.
-ghost use Rattle.std.specs.Prelude.{◌≡◌, IfErr, IfOk, OnOk, Some, length, map, option_map, string_bytes};
-ghost use Rattle.board_files.specs.Regions.{AreFilesIn, AreFilesOf, AreReplaced, FailsToFindFiles};
-ghost use Rattle.board_files.specs.Regions.{FailsToFindSpan, FailsToReplace, FailsToReplaceOne, IsReplaced};
-ghost use Rattle.board_files.specs.Regions.{IsSpanOf};
-ghost use Rattle.board_files.specs.Sources.{ArePlainNames, named_regions};
-ghost use Rattle.nor_args.specs.declared.job.Regions.{Regions};
-ghost use Rattle.board_files.specs.Regions.{entries_of, name_in, names_in, pair_in, regions_of};
+ghost use Rattle.std.specs.Prelude.{◌≡◌, ◌∷◌, [], All, IfErr, IfOk, OnOk, length, map, option_map, string_bytes};
+ghost use Rattle.board_files.specs.Regions.{AreRangesIn, AreReplaced, FailsToFindFiles, FailsToFindSpan};
+ghost use Rattle.board_files.specs.Regions.{FailsToReplace, FailsToReplaceOne, IsReplaced};
+ghost use Rattle.board_files.specs.Regions.{entries_of, files_in, name_in, named_file, names_in, pair_in, regions_of};
+ghost use Rattle.board_files.specs.Sources.{ArePlainNames};
 
 use crate::early_ends::EarlyEnd;
 use crate::region_faults::RegionFault;
 use nor_args::{Regions, Task};
-use nor_console::{Fault, MOST_IMAGE_BYTES, read_file, read_included};
+use nor_console::{Fault, MOST_IMAGE_BYTES, include_regions, read_file};
 use nor_files::Store;
-use nor_layout::Span;
+use nor_layout::{Layout, Span};
 use nor_session::Refusal;
 use std::alloc::{AllocError, Global};
 
@@ -34,16 +32,6 @@ pub fn regions_of<'a>(task: &Task<'a>) -> Option<Regions<'a>>
         Task::Verify { regions, .. } => *regions,
         Task::Change(change) => change.regions,
         _ => None,
-    }
-}
-
-/// Returns the regions to which a task is limited, if any, with `names` in place of the value of `-i`.
-pub fn named_regions<'a>(task: &Task<'a>, names: &'a str) -> Option<Regions<'a>>
-    ensures { result ≡ named_regions names.entry task.now }
-{
-    match regions_of(task) {
-        Some(regions) => Some(Regions { names, ..regions }),
-        None => None,
     }
 }
 
@@ -89,40 +77,24 @@ fn pair_in(entry: &str) -> Option<(&str, &str)>
     entry.split_once(':')
 }
 
-/// Returns the regions of a task that have a file, in the order of `-i`. `shown` has the bytes of the layout if it is
-/// on the chip. Returns a fault of `read_included` for one of these regions, layout fault 8 if the addresses of one
-/// aren't a single span, or error 18 if memory runs out.
-pub fn find_region_files<'a, R: Store>(
-    rt: &R,
-    task: &Task<'a>,
-    shown: Option<&[u8]>,
+/// Returns the regions in `text`, the value of `-i`, that have a file, in their order, each with its addresses in
+/// `layout`. Returns layout fault 8 if such a region isn't in the layout or its addresses aren't a single span, or
+/// error 18 if memory runs out.
+pub fn find_files<'a>(
+    alloc: Global,
+    layout: &Layout,
+    text: &'a str,
 ) -> Result<Vec<RegionFile<'a>>, Fault<'a>>
-    ensures ok { IfOk result (λ files. AreFilesIn (R.state rt.now).view
-        (option_map (λ bytes. bytes.now) shown.entry) (regions_of task.now) files.items) }
-    ensures err { IfErr result (λ fault. (regions : Regions) × (regions_of task.now ≡ Some regions)
-        × FailsToFindFiles (R.state rt.now).view (option_map (λ bytes. bytes.now) shown.entry) regions fault) }
+    ensures entries { IfOk result (λ files. map named_file files.items ≡ files_in text.now) }
+    ensures spans { IfOk result (λ files.
+        All (λ region. AreRangesIn layout.now region.name.now (region.span ∷ [])) files.items) }
+    ensures err { IfErr result (FailsToFindFiles layout.now) }
 {
-    match regions_of(task) {
-        Some(regions) => find_files_in(rt, regions, shown),
-        None => Ok(Vec::new(rt.alloc())),
-    }
-}
-
-fn find_files_in<'a, R: Store>(
-    rt: &R,
-    regions: Regions<'a>,
-    shown: Option<&[u8]>,
-) -> Result<Vec<RegionFile<'a>>, Fault<'a>>
-    ensures ok { IfOk result (λ files. AreFilesOf (R.state rt.now).view
-        (option_map (λ bytes. bytes.now) shown.entry) regions.entry files.items) }
-    ensures err { IfErr result (FailsToFindFiles (R.state rt.now).view
-        (option_map (λ bytes. bytes.now) shown.entry) regions.entry) }
-{
-    let entries = entries_in(rt.alloc(), regions.names)?;
-    let mut files = Vec::new(rt.alloc());
+    let entries = entries_in(alloc, text)?;
+    let mut files = Vec::new(alloc);
     for entry in &entries {
         if let Some((name, file)) = pair_in(entry) {
-            let span = find_span(rt, regions, name, shown)?;
+            let span = span_of(layout, name)?;
             if files.push(RegionFile { name, file, span }).is_err() {
                 return Err(Fault::Refused(Refusal::Memory));
             }
@@ -131,24 +103,14 @@ fn find_files_in<'a, R: Store>(
     Ok(files)
 }
 
-fn find_span<'a, R: Store>(
-    rt: &R,
-    regions: Regions<'a>,
-    name: &'a str,
-    shown: Option<&[u8]>,
-) -> Result<Span, Fault<'a>>
-    ensures ok { IfOk result (IsSpanOf (R.state rt.now).view
-        (option_map (λ bytes. bytes.now) shown.entry) regions.entry name.entry) }
-    ensures err { IfErr result (FailsToFindSpan (R.state rt.now).view
-        (option_map (λ bytes. bytes.now) shown.entry) regions.entry name.entry) }
+fn span_of<'a>(layout: &Layout, name: &'a str) -> Result<Span, Fault<'a>>
+    ensures ok { IfOk result (λ span. AreRangesIn layout.now name.now (span ∷ [])) }
+    ensures err { IfErr result (FailsToFindSpan layout.now name.entry) }
 {
-    let one = Regions {
-        names: name,
-        ..regions
-    };
-    match read_included(rt, Some(one), shown)? {
-        Some(ranges) if ranges.spans().len() == 1 => Ok(ranges.spans()[0]),
-        _ => Err(Fault::NoRegion { name }),
+    match include_regions(layout, name) {
+        Ok(ranges) if ranges.spans().len() == 1 => Ok(ranges.spans()[0]),
+        Ok(_) => Err(Fault::NoRegion { name }),
+        Err(unknown) => Err(Fault::NoRegion { name: unknown }),
     }
 }
 

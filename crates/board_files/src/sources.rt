@@ -1,8 +1,9 @@
 //! The image or the journal of a job, which is read and checked before the job starts.
-ghost use Rattle.std.specs.Prelude.{◌≡◌, IfErr, IfOk, option_map};
+ghost use Rattle.std.specs.Prelude.{◌≡◌, IfErr, IfOk, length, option_map};
 ghost use Rattle.nor_files.specs.Files.{AreUntouched};
-ghost use Rattle.board_files.specs.Sources.{AreBytes, ArePreparedBytes, FailsCheck, FailsToPrepare};
-ghost use Rattle.board_files.specs.Sources.{FailsToReadBytes, MayExpectImage, ends_with_image};
+ghost use Rattle.nor_console.specs.Tasks.{named_by};
+ghost use Rattle.board_files.specs.Sources.{AreBytes, AreReplacedIn, AreUsed, FailsCheck, FailsToReadBytes};
+ghost use Rattle.board_files.specs.Sources.{FailsToReadSource, FailsToReplaceIn, MayExpectImage, ends_with_image};
 
 use crate::early_ends::EarlyEnd;
 use crate::region_files::{RegionFile, replace_regions};
@@ -41,26 +42,38 @@ fn ends_with_image(operation: &Operation<'_>) -> bool
     }
 }
 
-/// Reads and checks the image or the journal of a task, adapts the bytes (`adapted`), and replaces those of `regions`
-/// in an image. Returns these bytes with `included`. `is_replaced` is true with `--replaced-chip`. Returns a fault of
-/// `read_image`, `read_file`, `read_journal`, `adapted` or `replace_regions`, error 15 for an invalid journal of a
-/// restore, or file fault 4 if the journal of a change already exists.
-pub fn prepare_sources<'a, R: Store>(
+/// Reads and checks the image or the journal of a task, and adapts the bytes (`adapted`). `is_replaced` is true with
+/// `--replaced-chip`. Returns a fault of `read_image`, `read_file`, `read_journal` or `adapted`, error 15 for an
+/// invalid journal of a restore, or file fault 4 if the journal of a change already exists.
+pub fn read_source<'a, R: Store>(
     rt: &mut R,
     task: &Task<'a>,
     is_replaced: bool,
-    included: Option<Ranges>,
-    regions: &[RegionFile<'a>],
-) -> Result<Sources, EarlyEnd<'a>>
+) -> Result<Vec<u8>, EarlyEnd<'a>>
     ensures same { AreUntouched (R.state rt.old) (R.state rt.new) }
-    ensures included { IfOk result (λ sources. sources.included ≡ included) }
-    ensures ok { IfOk result (λ sources.
-        ArePreparedBytes (R.state rt.old).view is_replaced task.now regions.now sources.bytes.items) }
-    ensures err { IfErr result (FailsToPrepare (R.state rt.old).view is_replaced task.now regions.now) }
+    ensures ok { IfOk result (λ bytes. AreUsed (R.state rt.old).view is_replaced task.now bytes.items) }
+    ensures err { IfErr result (FailsToReadSource (R.state rt.old).view is_replaced task.now) }
 {
     let whole = read_bytes(rt, task)?;
     check(rt, task, &whole)?;
-    let bytes = adapted(rt.alloc(), task, is_replaced, whole)?;
+    adapted(rt.alloc(), task, is_replaced, whole)
+}
+
+/// Replaces the bytes of `regions` in `bytes`, if these are the image of a task, by the contents of the regions' files.
+/// Returns the new bytes with `included`. Returns a fault of `replace_regions`.
+pub fn prepare_sources<'a, R: Store>(
+    rt: &R,
+    task: &Task<'a>,
+    bytes: Vec<u8>,
+    included: Option<Ranges>,
+    regions: &[RegionFile<'a>],
+) -> Result<Sources, EarlyEnd<'a>>
+    ensures included { IfOk result (λ sources. sources.included ≡ included) }
+    ensures ok { IfOk result (λ sources. AreReplacedIn (R.state rt.now).view (named_by task.now).wanted regions.now
+        bytes.items sources.bytes.items) }
+    ensures err { IfErr result (FailsToReplaceIn (R.state rt.now).view (named_by task.now).wanted regions.now
+        (length bytes.items)) }
+{
     let mut sources = Sources { included, bytes };
     if let Some(image) = named_by(task).wanted {
         replace_regions(rt, image, regions, &mut sources.bytes)?;

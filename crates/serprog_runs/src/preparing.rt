@@ -1,5 +1,5 @@
 //! The preparation of a job: a run checks and reads the files, starts the log, and identifies the programmer.
-ghost use Rattle.std.specs.Prelude.{◌≡◌, IfOk, option_map};
+ghost use Rattle.std.specs.Prelude.{◌≡◌, IfOk, IfSome, option_map};
 ghost use Rattle.nor_files.specs.Files.{AreUntouched};
 ghost use Rattle.nor_journal.specs.MemVault.{held_by};
 ghost use Rattle.nor_buses.specs.Ahead.{ahead_of};
@@ -9,15 +9,14 @@ ghost use Rattle.serprog_board.specs.Unused.{IsUnused};
 ghost use Rattle.board_progress.specs.Logging.{CreatesLog};
 ghost use Rattle.board_files.specs.Regions.{regions_of};
 ghost use Rattle.serprog_runs.specs.Run.{IsPrepared};
-ghost use Rattle.board_files.specs.Sources.{ArePlainNames, MayExpectImage};
+ghost use Rattle.board_files.specs.Sources.{ArePlainNames, AreUsed, MayExpectImage};
 
 use crate::chip_layouts::{form_on_chip, read_chip_layout};
 use crate::connected::{Connected, connect_by};
 use crate::run_fault::RunFault;
 use board_files::{
-    Farthest, Included, RegionFile, check_region_files, find_included, find_region_files,
-    has_own_log, have_one_role, image_of, is_session, named_regions, prepare_sources,
-    print_replaced,
+    Farthest, Included, RegionFile, check_region_files, find_included, has_own_log, have_one_role,
+    image_of, is_session, prepare_sources, print_replaced, read_source,
 };
 use board_jobs::check_new;
 use board_progress::{Screen, Terminal, check_log, check_started, start_log};
@@ -122,15 +121,17 @@ fn read_files<'a, 'b, D: Connector, R: Store<Log = LogFile<File>>, E: Write>(
     has_own_log(files, setting.device, operation)?;
     check_log(files, operation.log)?;
     check_new(files, operation)?;
-    reject_wrong_sources(files, operation)?;
+    let early = read_early(files, operation)?;
     let chip = read_chip_layout(connector, rt.alloc(), terminal, setting, operation, errors)?;
-    let shown = bytes_of(&chip);
-    let included = find_included(files, named_regions(&operation.task, names), shown)?;
-    let regions = find_region_files(files, &operation.task, shown)?;
+    let included = find_included(files, &operation.task, names, bytes_of(&chip))?;
+    let Included {
+        ranges,
+        files: regions,
+        farthest,
+    } = included;
     check_region_files(files, setting.device, operation, &regions)?;
-    let replaced = operation.is_replaced_chip;
-    let Included { ranges, farthest } = included;
-    let sources = prepare_sources(files, &operation.task, replaced, ranges, &regions)?;
+    let bytes = read_late(files, operation, early)?;
+    let sources = prepare_sources(files, &operation.task, bytes, ranges, &regions)?;
     Ok(JobFiles {
         regions,
         farthest,
@@ -200,23 +201,44 @@ fn keeps_log(operation: &Operation<'_>) -> bool {
     matches!(operation.task, Task::Restore { .. })
 }
 
-// Checks the image before a layout is read from the chip, because that read may take minutes.
-fn reject_wrong_sources<'a, R: Store>(
+// Reads and checks the image before a layout is read from the chip, because that read may take minutes. Returns `None`
+// if the layout isn't on the chip.
+fn read_early<'a, R: Store>(
     files: &mut R,
     operation: &Operation<'a>,
-) -> Result<(), RunFault<'a>>
-    ensures { AreUntouched (R.state files.old) (R.state files.new) }
+) -> Result<Option<Vec<u8>>, RunFault<'a>>
+    ensures same { AreUntouched (R.state files.old) (R.state files.new) }
+    ensures ok { IfOk result (λ early. IfSome early (λ bytes. AreUsed (R.state files.old).view
+        operation.now.is_replaced_chip operation.now.task bytes.items)) }
 {
-    if form_on_chip(&operation.task).is_some() {
-        prepare_sources(
-            files,
-            &operation.task,
-            operation.is_replaced_chip,
-            None,
-            &[],
-        )?;
+    match form_on_chip(&operation.task) {
+        Some(_) => {
+            let bytes = read_source(files, &operation.task, operation.is_replaced_chip)?;
+            Ok(Some(bytes))
+        }
+        None => Ok(None),
     }
-    Ok(())
+}
+
+// Returns the bytes in `early`. If it is `None`, reads and checks the image or the journal.
+fn read_late<'a, R: Store>(
+    files: &mut R,
+    operation: &Operation<'a>,
+    early: Option<Vec<u8>>,
+) -> Result<Vec<u8>, RunFault<'a>>
+    requires { IfSome early (λ bytes. AreUsed (R.state files.old).view
+        operation.now.is_replaced_chip operation.now.task bytes.items) }
+    ensures same { AreUntouched (R.state files.old) (R.state files.new) }
+    ensures ok { IfOk result (λ bytes. AreUsed (R.state files.old).view
+        operation.now.is_replaced_chip operation.now.task bytes.items) }
+{
+    match early {
+        Some(bytes) => Ok(bytes),
+        None => {
+            let bytes = read_source(files, &operation.task, operation.is_replaced_chip)?;
+            Ok(bytes)
+        }
+    }
 }
 
 fn bytes_of(vault: &Option<MemVault>) -> Option<&[u8]>

@@ -1,12 +1,12 @@
-use Rattle.std.proofs.Common.{◌∙◌, option_map, sym}
+use Rattle.std.proofs.Common.{◌∙◌, ◌∷◌, [], sym}
 use Rattle.std.proofs.lemmas.List.Elements.{All-push}
-use Rattle.board_files.specs.Regions.{IsSpanOf}
+use Rattle.board_files.specs.Regions.{AreRangesIn}
 use Rattle.board_files.proofs.RegionNames.{pairs_pushed, pairs_skipped, pushed}
-use Rattle.board_files.proofs.region_files.find_files_in.Goals as goal
-use Rattle.board_files.proofs.region_files.find_files_in.Goals.{in-Some+in_ok-span+else-is_err, in_default}
+use Rattle.board_files.proofs.region_files.find_files.Goals as goal
+use Rattle.board_files.proofs.region_files.find_files.Goals.{in-Some+in_ok-span+else-is_err, in_default}
 
 pub loop-entry-preserved : goal.loop-entry-preserved
-loop-entry-preserved g c =
+loop-entry-preserved c =
     let before = c.loop-entry.invariant.entries in
     elim c.match-pair_in.branch [
       | in-Some+in_ok-span+else-is_err w ↦
@@ -16,7 +16,7 @@ loop-entry-preserved g c =
           record {
             entries = rw (w.files-is, all) (pairs_pushed _ _ _ _ _ c.loop-entry-test.true before pair);
             spans = rw (w.files-is, all) (All-push
-                (λ region. IsSpanOf (g.R.Store.state c.args.rt.now).view (option_map (λ bytes. bytes.now) c.args.shown) c.args.regions region.name region.span)
+                (λ region. AreRangesIn c.args.layout.now region.name.now (region.span ∷ []))
                 _ _ c.loop-entry.invariant.spans w.in_ok-span.ensures.ok);
           }
       | in_default w ↦
