@@ -83,11 +83,13 @@ pub fn connections_reach_chips()
 /// States the main promise of this program, for any connector and any store of files: a change of the chip on a board
 /// can be undone, wherever its run and any number of restores end.
 ///
-/// The run must have reached the chip of a port (`ReachesChip`), as `connect_over` does over each well-behaved port to
-/// an idle programmer. The port, its programmer, its chip, and the files at the
-/// end must be as modelled (`IsModelledBoard`, `is_lawful`). Then the run found the chip as it was. Either the run left
-/// the chip untouched, or the file durably contains a journal, and the first restore from this journal with exit status
-/// 0 leaves the original chip (`IsUndoneFrom`). Between two runs the programmer may lose its power.
+/// The run must have reached the chip of a port (`ReachesChip`). The port, its programmer, its chip, and the files at
+/// the end must be as modelled (`IsModelledBoard`, `is_lawful`). Then the run found the chip as it was. Either the run
+/// left the chip untouched, or the file durably contains a journal, and the first restore from this journal with exit
+/// status 0 leaves the original chip (`IsUndoneFrom`). Between two runs the programmer may lose its power.
+///
+/// If `connect_over` returns a bus over a well-behaved port to an idle programmer, it has reached the chip. But so far
+/// it returns none: its trial reads have more bytes than opcode and address, and a modelled chip ignores such reads.
 pub fn changes_on_boards_can_be_undone<'b, D: Connector, R: Store>()
     ensures { (files after : R) (name file : Bor Text) (operation : Operation) (device : Text) (last : BusState)
         (out out' : Option (List ℕ)) (status : ℕ) (change : Change) (port : PortState)
