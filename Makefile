@@ -42,7 +42,7 @@ pack = scripts/pack.sh $(1) '$(PROGRAM)' '$(HARDWARE)' $(MANUALS) $(COMPLETION) 
 SEED := 1
 COUNT := 1000
 
-.PHONY: all help build hardware toolchain demo files bench compare storm sweep kill runs serprog wire install \
+.PHONY: all help build hardware toolchain demo files bench compare storm sweep kill runs serprog played wire install \
   uninstall dist agree statement lint quick case prove check price clean
 
 all: build hardware ## proves and builds both programs, and the crates below them
@@ -153,6 +153,11 @@ runs: $(BUILT) ## runs the program on each case of tests/flashnor/cases and on t
 
 serprog: $(BUILT_HARDWARE) ## runs flashnor-serprog on the cases of tests/serprog
 	@tests/serprog/run.py '$(HARDWARE)'
+
+# This first proves and builds simulated_runs, which prints its usage if it gets no arguments.
+played: toolchain ## plays interrupted runs of flashnor-serprog at a simulated programmer and chip
+	@cd crates/simulated_runs && { rt run > /dev/null 2>&1 || [ $$? = 2 ]; }
+	@tests/played/run.py crates/simulated_runs/out/simulated_runs
 
 wire: $(BUILT_HARDWARE) ## loses, doubles and inserts single bytes at a modelled UART: all cases, half an hour and more
 	@tests/wire/run.py '$(HARDWARE)' --all

@@ -26,8 +26,8 @@ class Gate(unittest.TestCase):
             for name in ("scripts/lint.sh", "scripts/agree.sh", "scripts/proved.sh", "tests/agree/run.py",
                          "tests/build/examples.py", "tests/build/make.py", "tests/build/clone.sh",
                          "tests/flashnor/run.py", "tests/sweep/run.sh", "tests/kill/run.sh",
-                         "tests/serprog/self.py", "tests/serprog/run.py", "tests/wire/self.py",
-                         "tests/wire/run.py"):
+                         "tests/played/self.py", "tests/played/run.py", "tests/serprog/self.py",
+                         "tests/serprog/run.py", "tests/wire/self.py", "tests/wire/run.py"):
                 self.put(top / name, "#!/bin/sh\n" + parts.get(name, PASSED))
             # The gate removes the program of the crate storm, and scripts/proved.sh builds it again.
             self.put(top / "scripts/proved.sh", "#!/bin/sh\nmkdir -p crates/storm/out && "
@@ -45,13 +45,13 @@ class Gate(unittest.TestCase):
     def test_all_passed(self):
         for environment in {}, {"CI": "true"}:
             status, lines = self.run_gate({}, **environment)
-            self.assertEqual((status, lines[-2:]), (0, ["280001 passed, 0 failed, 0 skipped", "280001 passed, 0 failed"]))
+            self.assertEqual((status, lines[-2:]), (0, ["320001 passed, 0 failed, 0 skipped", "320001 passed, 0 failed"]))
 
     def test_skipped_is_counted_and_fails_with_ci(self):
         parts = {"tests/kill/run.sh": SKIPPED, "tests/flashnor/run.py": LEFT_OUT}
         for environment, failed in ({}, 0), ({"CI": "true"}, 2):
             status, lines = self.run_gate(parts, **environment)
-            counts = f"260001 passed, {failed} failed"
+            counts = f"300001 passed, {failed} failed"
             self.assertEqual((status, lines[-2:]), (failed > 0, [f"{counts}, 2 skipped", counts]), lines)
 
     def test_failed(self):

@@ -85,7 +85,7 @@ def tried(tree, expect):
         shutil.rmtree(folder)
     tree.commit()
     status, said = tree.make("quick")
-    expect("a quick look", (status, said.splitlines()[-1]), (0, "quick: 9 passed, 0 failed"))
+    expect("a quick look", (status, said.splitlines()[-1]), (0, "quick: 10 passed, 0 failed"))
     given = {path.name: path.read_text(encoding="utf-8").strip() for path in (tree.work / "tried").iterdir()}
     programs = {path.parent.parent.name for path in tree.top.glob("crates/*/src/main.rt")}
     expect("the crates that are tried", {it for it in given if "." not in it}, programs | {"rows"})
