@@ -3,17 +3,15 @@
 use crate::circumstances::Circumstances;
 use crate::saved::Saved;
 use board_files::StatusBits;
-use board_progress::{Lock, SRP0, SRP1};
+use board_progress::Lock;
+use nor_model::bits::{BP_TB_SEC, SRP0, SRP1};
 use nor_probe::part_for;
 use std::io::{self, Write};
-
-// Bits 2 to 6 of status 1.
-const PROTECTION: u8 = 0x7C;
 
 /// Prints the hint for error 6.
 pub fn print_unknown_protection<E: Write>(errors: &mut E, status: [u8; 2]) -> io::Result<()> {
     match status[0] {
-        status1 if status1 & PROTECTION != 0 => writeln!(
+        status1 if status1 & BP_TB_SEC != 0 => writeln!(
             errors,
             "Status 1 of this chip is {status1:02X}h. On nearly every chip its bits 2 to 6 protect sectors, but this \
             program doesn't know what they mean on this chip."

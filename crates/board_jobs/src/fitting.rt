@@ -12,6 +12,7 @@ use nor_args::Operation;
 use nor_console::Outcome;
 use nor_jobs::restore_named;
 use nor_journal::Journal;
+use nor_model::bits::{LB, QE};
 use nor_probe::{ChipName, part_for};
 use nor_session::Refusal;
 use std::alloc::Global;
@@ -122,11 +123,8 @@ fn may_stay(saved: [u8; 2], found: [u8; 2]) -> bool
     ensures { result ≡ may_stay saved found }
 {
     let are_locked_equally = saved[0] / 128 == found[0] / 128 && saved[1] % 2 == found[1] % 2;
-    are_locked_equally && saved[1] & ONE_TIME & found[1] == saved[1] & ONE_TIME
+    are_locked_equally && saved[1] & LB & found[1] == saved[1] & LB
 }
-
-// LB1 to LB3, which can't be cleared (W25Q64FV datasheet, Security Register Lock Bits).
-const ONE_TIME: u8 = 0x38;
 
 fn fitted_status(saved: [u8; 2], found: [u8; 2]) -> [u8; 2]
     ensures { result ≡ fitted_status saved found }
@@ -149,8 +147,6 @@ const BITS: [(u8, &str); 5] = [
     (0x10, "LB2"),
     (0x20, "LB3"),
 ];
-
-const QE: u8 = 0x02;
 
 impl fmt::Display for KeptLine {
     fn fmt<W: fmt::Write>(&self, f: &mut fmt::Formatter<W>) -> fmt::Result {

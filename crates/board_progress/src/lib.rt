@@ -17,7 +17,7 @@ mod steps;
 mod tallies;
 mod terminal;
 
-pub use lock_bits::{Lock, SRP0, SRP1};
+pub use lock_bits::Lock;
 pub use notes::Notes;
 pub use progress::{Progress, ProgressBus, StatusWrite};
 pub use replies::Replies;

@@ -1,10 +1,7 @@
-//! SRP0 and SRP1, the two bits that lock a chip's status, and what to do if one is set.
+//! SRP0 and SRP1, the two bits that lock a chip's status (W25Q64FV datasheet, Status Register Protect), and what to do if
+//! one is set.
 
-/// SRP0, bit 7 of status 1 (W25Q64FV datasheet, Status Register Protect).
-pub const SRP0: u8 = 0x80;
-
-/// SRP1, bit 0 of status 2.
-pub const SRP1: u8 = 0x01;
+use nor_model::bits::{SRP0, SRP1};
 
 /// Which of SRP0 and SRP1 are set.
 #[derive(Clone, Copy, PartialEq)]

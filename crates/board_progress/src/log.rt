@@ -3,6 +3,9 @@ ghost use Rattle.std.specs.Prelude.{◌≡◌, IfSome};
 ghost use Rattle.nor_buses.specs.ReadsAs.{address_in};
 ghost use Rattle.board_progress.specs.Estimates.{millis_in, whole_seconds_in};
 
+use nor_model::opcodes::{
+    ERASE_32K, ERASE_64K, ERASE_CHIP, ERASE_SECTOR, PAGE_PROGRAM, WRITE_ENABLE, WRITE_STATUS,
+};
 use std::fmt;
 
 /// The line of a modifying transaction that sends `out`. `micros` is the time in microseconds since the
@@ -17,13 +20,13 @@ pub struct CommandText<'a> {
 /// Returns the name of a modifying transaction, or `None` for another transaction.
 pub fn command_name(out: &[u8]) -> Option<&'static str> {
     match out {
-        [0x06, ..] => Some("write enable"),
-        [0x01, ..] => Some("write status"),
-        [0x02, ..] => Some("program"),
-        [0x20, ..] => Some("erase 4 KiB"),
-        [0x52, ..] => Some("erase 32 KiB"),
-        [0xD8, ..] => Some("erase 64 KiB"),
-        [0xC7, ..] => Some("erase chip"),
+        [WRITE_ENABLE, ..] => Some("write enable"),
+        [WRITE_STATUS, ..] => Some("write status"),
+        [PAGE_PROGRAM, ..] => Some("program"),
+        [ERASE_SECTOR, ..] => Some("erase 4 KiB"),
+        [ERASE_32K, ..] => Some("erase 32 KiB"),
+        [ERASE_64K, ..] => Some("erase 64 KiB"),
+        [ERASE_CHIP, ..] => Some("erase chip"),
         _ => None,
     }
 }
@@ -43,7 +46,7 @@ impl fmt::Display for CommandText<'_> {
     fn fmt<W: fmt::Write>(&self, f: &mut fmt::Formatter<W>) -> fmt::Result {
         write!(f, "{} {}", Seconds(self.micros), self.name)?;
         match (self.out, address_and_len(self.out)) {
-            ([0x01, data @ ..], _) => write!(f, ", {}", Bytes(data.len())),
+            ([WRITE_STATUS, data @ ..], _) => write!(f, ", {}", Bytes(data.len())),
             (_, Some((address, 0))) => write!(f, " at 0x{address:06x}"),
             (_, Some((address, len))) => write!(f, " {} at 0x{address:06x}", Bytes(len)),
             _ => Ok(()),

@@ -8,6 +8,7 @@ use crate::terminal::Terminal;
 use nor_console::Escaped;
 use nor_files::{Disk, Store};
 use nor_journal::Vault;
+use nor_model::opcodes::{ERASE_32K, ERASE_64K, ERASE_CHIP, ERASE_SECTOR, PAGE_PROGRAM, READ_DATA};
 use nor_sums::{SECTORS, SHEET_LEN, Sums, encode};
 use std::alloc::{AllocError, Global};
 use std::fmt;
@@ -54,10 +55,10 @@ impl Notes {
 
     fn forget(&mut self, out: &[u8]) {
         let (first, count) = match out {
-            [0x02 | 0x20, high, middle, ..] => (sector_at(*high, *middle), 1),
-            [0x52, high, middle, ..] => (sector_at(*high, *middle) / 8 * 8, 8),
-            [0xD8, high, middle, ..] => (sector_at(*high, *middle) / 16 * 16, 16),
-            [0xC7, ..] => (0, SECTORS),
+            [PAGE_PROGRAM | ERASE_SECTOR, high, middle, ..] => (sector_at(*high, *middle), 1),
+            [ERASE_32K, high, middle, ..] => (sector_at(*high, *middle) / 8 * 8, 8),
+            [ERASE_64K, high, middle, ..] => (sector_at(*high, *middle) / 16 * 16, 16),
+            [ERASE_CHIP, ..] => (0, SECTORS),
             _ => return,
         };
         for sector in first..first + count {
@@ -128,7 +129,7 @@ impl fmt::Display for UnwrittenLine<'_> {
 
 fn read_sector_of(out: &[u8], reply: &[u8]) -> Option<usize> {
     match out {
-        [0x03, high, middle, 0] if middle % 16 == 0 && reply.len() == 4096 => {
+        [READ_DATA, high, middle, 0] if middle % 16 == 0 && reply.len() == 4096 => {
             Some(sector_at(*high, *middle))
         }
         _ => None,

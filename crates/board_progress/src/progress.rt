@@ -16,13 +16,10 @@ use crate::step_lines::PlainLine;
 use crate::step_timer::StepTimer;
 use crate::steps::{Phase, Step, Total, step_of};
 use crate::terminal::{ProgressStyle, Terminal};
+use nor_model::bits::{BUSY, QE};
+use nor_model::opcodes::READ_STATUS1;
 use nor_model::{Bus, Stopped, is_changing};
 use std::time::Instant;
-
-// `BUSY` is bit 0 of status 1, `QE` bit 1 of status 2 (W25Q64FV datasheet, Status Registers).
-const BUSY: u8 = 0x01;
-
-const QE: u8 = 0x02;
 
 // The line before the first modifying command of a restore or of a change of SRP0. A session prints a `SealedLine`.
 const CHANGED: &str = "The chip is changed from here on.";
@@ -227,7 +224,7 @@ impl<B> ProgressBus<'_, B> {
             return;
         }
         self.replies.remember(out, reply);
-        if let ([0x05, ..], [status1, ..]) = (out, reply) {
+        if let ([READ_STATUS1, ..], [status1, ..]) = (out, reply) {
             self.count_busy(*status1);
         }
     }

@@ -1,5 +1,6 @@
 //! The replies of the chip before the first modifying command.
 
+use nor_model::opcodes::{READ_ID, READ_SFDP, READ_STATUS1, READ_STATUS2, READ_UNIQUE};
 use nor_probe::part_for;
 
 // The length in bytes of the SFDP table that a probe reads (JESD216: double words 1 to 9).
@@ -22,13 +23,13 @@ impl Replies {
     /// table, stores only the density and `is_uneven`.
     pub fn remember(&mut self, out: &[u8], reply: &[u8]) {
         match (out, reply) {
-            ([0x05, ..], [status1, ..]) => self.status[0] = *status1,
-            ([0x35, ..], [status2, ..]) => self.status[1] = *status2,
-            ([0x9F, ..], [maker, kind, capacity]) => self.id = Some([*maker, *kind, *capacity]),
-            ([0x4B, ..], [a, b, c, d, e, f, g, h]) => {
+            ([READ_STATUS1, ..], [status1, ..]) => self.status[0] = *status1,
+            ([READ_STATUS2, ..], [status2, ..]) => self.status[1] = *status2,
+            ([READ_ID, ..], [maker, kind, capacity]) => self.id = Some([*maker, *kind, *capacity]),
+            ([READ_UNIQUE, ..], [a, b, c, d, e, f, g, h]) => {
                 self.unique = Some([*a, *b, *c, *d, *e, *f, *g, *h]);
             }
-            ([0x5A, ..], [erases, _, _, _, a, b, c, d, ..]) if reply.len() == TABLE_LEN => {
+            ([READ_SFDP, ..], [erases, _, _, _, a, b, c, d, ..]) if reply.len() == TABLE_LEN => {
                 self.density = Some(u32::from_le_bytes([*a, *b, *c, *d]));
                 self.is_uneven = *erases % 4 != 1;
             }

@@ -2,6 +2,7 @@
 //! bytes.
 
 use nor_buses::{ChangedByte, CheckFault, OtherChip};
+use nor_model::bits::{BP, BP_TB_SEC, CMP, SRP0};
 use std::fmt;
 
 /// The line for a `CheckFault`. This line follows the line of error 12, or is the line of chip fault 3 after a change
@@ -127,17 +128,17 @@ const KEEPS: &str =
 
 /// Returns whether a status write was to leave SRP0 clear, and SRP0 was read back as set.
 pub fn keeps_srp0(sent: [u8; 2], found: [u8; 2]) -> bool {
-    sent[0] & 0x80 == 0 && found[0] & 0x80 != 0
+    sent[0] & SRP0 == 0 && found[0] & SRP0 != 0
 }
 
 /// Returns whether BP0, BP1, BP2 or CMP is set, so an address may be protected (W25Q64FV datasheet, memory protection).
 pub fn protects(status: [u8; 2]) -> bool {
-    status[0] & 0x1C != 0 || status[1] & 0x40 != 0
+    status[0] & BP != 0 || status[1] & CMP != 0
 }
 
 /// Returns whether two pairs of status bytes have the same protection bits: BP0 to BP2, TB, SEC and CMP.
 pub fn are_equally_protected(one: [u8; 2], other: [u8; 2]) -> bool {
-    (one[0] ^ other[0]) & 0x7C == 0 && (one[1] ^ other[1]) & 0x40 == 0
+    (one[0] ^ other[0]) & BP_TB_SEC == 0 && (one[1] ^ other[1]) & CMP == 0
 }
 
 // The names of the bits that are set in this pair of bytes for status 1 and status 2, each after a space.

@@ -3,12 +3,11 @@
 use crate::steps::{Step, StepLine, Total};
 use crate::tallies::{Tallies, Tally};
 use crate::terminal::Transfer;
+use nor_model::opcodes::READ_STATUS1;
 use std::time::Instant;
 
 // The least number of microseconds between two drawings of the progress line, except the last drawing of a step.
 const BETWEEN: u64 = 100_000;
-
-const READ_STATUS: u8 = 0x05;
 
 /// Counts and times the operations of a job, for its progress line. A read counts when its reply was received, any
 /// other operation when a poll shows that the chip is ready.
@@ -77,7 +76,7 @@ impl StepTimer {
 
     fn record_poll(&mut self, out: &[u8], reply: &[u8], now: Option<Instant>) -> Option<Step> {
         let (step, bytes) = self.running?;
-        let ([READ_STATUS, ..], Some(status)) = (out, reply.last()) else {
+        let ([READ_STATUS1, ..], Some(status)) = (out, reply.last()) else {
             return None;
         };
         if status % 2 == 0 {

@@ -3,6 +3,9 @@ ghost use Rattle.std.specs.Prelude.{◌≤◌};
 
 use crate::estimates::{Minutes, Rate, percent, tenths_of_kib, time_for};
 use crate::tallies::Tally;
+use nor_model::opcodes::{
+    ERASE_32K, ERASE_64K, ERASE_CHIP, ERASE_SECTOR, PAGE_PROGRAM, READ_DATA, READ_ID, WRITE_STATUS,
+};
 use std::fmt;
 
 /// The steps of a job. A job may omit a step, and the order varies. A read of a sector is a `Scan` until the change is
@@ -32,15 +35,15 @@ pub enum Phase {
 /// Returns the step to which a transaction belongs, or `None` if it belongs to none, such as a poll or a write enable.
 pub fn step_of(out: &[u8], phase: Phase) -> Option<Step> {
     match out {
-        [0x9F, ..] => Some(Step::Identify),
-        [0x03, ..] => Some(match phase {
+        [READ_ID, ..] => Some(Step::Identify),
+        [READ_DATA, ..] => Some(match phase {
             Phase::Before => Step::Scan,
             Phase::Changing => Step::ReadBack,
             Phase::After => Step::Compare,
         }),
-        [0x20 | 0x52 | 0xD8 | 0xC7, ..] => Some(Step::Erase),
-        [0x02, ..] => Some(Step::Program),
-        [0x01, ..] => Some(Step::Protect),
+        [ERASE_SECTOR | ERASE_32K | ERASE_64K | ERASE_CHIP, ..] => Some(Step::Erase),
+        [PAGE_PROGRAM, ..] => Some(Step::Program),
+        [WRITE_STATUS, ..] => Some(Step::Protect),
         _ => None,
     }
 }

@@ -4,6 +4,9 @@ ghost use Rattle.nor_model.specs.Bus.{Transfers};
 ghost use Rattle.nor_model.specs.PolledReady.{polled_ready_after};
 ghost use Rattle.nor_buses.specs.Pace.{pause_before, pauses, typical_of, typical_after, busy_row_after};
 
+use nor_model::opcodes::{
+    ERASE_32K, ERASE_64K, ERASE_CHIP, ERASE_SECTOR, PAGE_PROGRAM, READ_STATUS1, WRITE_STATUS,
+};
 use nor_model::{Bus, Stopped};
 use std::thread;
 use std::time::{Clock, Duration, Instant};
@@ -123,7 +126,7 @@ impl<B: Bus, C: Clock> Bus for Paced<B, C> {
         ensures stopped_operation { OnErr result (typical_in self.new ≡ typical_in self.old) }
         ensures short { (elapsed : ℕ) → pause_before (typical_in self.old) elapsed (busy_row self.old) ≤ 150000 }
     {
-        if self.busy_polls > 0 || matches!(out, [0x05]) {
+        if self.busy_polls > 0 || matches!(out, [READ_STATUS1]) {
             self.pause();
         }
         let begun = typical_micros(out);
@@ -152,7 +155,7 @@ fn shows_busy(out: &[u8], reply: &[u8]) -> bool
     ensures { result ≡ not (polled_ready_after out.now reply.now true) }
 {
     match reply.last() {
-        Some(status) if matches!(out, [0x05]) => status % 2 != 0,
+        Some(status) if matches!(out, [READ_STATUS1]) => status % 2 != 0,
         _ => false,
     }
 }
@@ -162,11 +165,11 @@ fn typical_micros(out: &[u8]) -> Option<u64>
     ensures short { IfSome result (λ typical. typical ≤ 150000) }
 {
     match out {
-        [0x02, ..] => Some(700),
-        [0x01, ..] => Some(10_000),
-        [0x20, ..] => Some(45_000),
-        [0x52, ..] => Some(120_000),
-        [0xD8 | 0xC7, ..] => Some(150_000),
+        [PAGE_PROGRAM, ..] => Some(700),
+        [WRITE_STATUS, ..] => Some(10_000),
+        [ERASE_SECTOR, ..] => Some(45_000),
+        [ERASE_32K, ..] => Some(120_000),
+        [ERASE_64K | ERASE_CHIP, ..] => Some(150_000),
         _ => None,
     }
 }

@@ -17,10 +17,9 @@ mod reads;
 
 use crate::counts::{ByteCounts, ChangedByte};
 use crate::known::{CheckFault, Known, are_same, kept_status};
+use nor_model::bits::BUSY;
 use nor_model::opcodes::{READ_STATUS1, READ_STATUS2, WRITE_STATUS};
 use nor_model::{Bus, History, Status, Stopped, is_changing};
-
-const BUSY: u8 = 0x01;
 
 /// A bus that detects a chip without contact or power, checks reads of status registers, and reads status writes back.
 /// It refuses status writes that would change any bit except the protection bits (for a bus made with `locking`, any

@@ -4,6 +4,7 @@ ghost use Rattle.std.specs.Prelude.{◌≡◌, ◌*◌};
 ghost use Rattle.nor_driver.specs.Units.{opcode_of, is_aligned};
 
 use nor_geometry::SECTOR_LEN;
+use nor_model::opcodes::{ERASE_32K, ERASE_64K, ERASE_CHIP, ERASE_SECTOR};
 
 /// The kind of block that one erase command sets to FFh.
 #[derive(Clone, Copy, Debug, PartialEq, Eq)]
@@ -23,10 +24,10 @@ impl EraseBlock {
         ensures { result ≡ opcode_of self }
     {
         match self {
-            EraseBlock::Sector => 0x20,
-            EraseBlock::Block32 => 0x52,
-            EraseBlock::Block64 => 0xD8,
-            EraseBlock::Chip => 0xC7,
+            EraseBlock::Sector => ERASE_SECTOR,
+            EraseBlock::Block32 => ERASE_32K,
+            EraseBlock::Block64 => ERASE_64K,
+            EraseBlock::Chip => ERASE_CHIP,
         }
     }
 }

@@ -3,6 +3,10 @@ ghost use Rattle.std.specs.Prelude.{◌≡◌, ◌<◌};
 ghost use Rattle.nor_model.specs.Command.{command_of, bare_command, addressed_command, aligned_erase, address_of, begins_change};
 
 use crate::Config;
+use crate::opcodes::{
+    ERASE_32K, ERASE_64K, ERASE_CHIP, ERASE_SECTOR, PAGE_PROGRAM, READ_DATA, READ_ID, READ_SFDP,
+    READ_STATUS1, READ_STATUS2, READ_UNIQUE, WRITE_DISABLE, WRITE_ENABLE, WRITE_STATUS,
+};
 use nor_geometry::SECTOR_LEN;
 
 /// The command for which a transaction asks. (W25Q64FV datasheet, instruction set table.)
@@ -25,7 +29,7 @@ pub enum Command {
     /// 5Ah: reads the SFDP bytes from this address on.
     ReadSfdp(u32),
     ReadUnique,
-    /// Any other transaction. A modelled chip ignores it.
+    /// Any other transaction. It changes nothing, and the model leaves the reply open.
     Ignored,
 }
 
@@ -36,16 +40,18 @@ impl Command {
     {
         match out {
             [opcode] => Self::bare(config, *opcode, replies),
-            [0x01, one, two] if replies == 0 => Command::WriteStatus(*one, *two),
+            [WRITE_STATUS, one, two] if replies == 0 => Command::WriteStatus(*one, *two),
             [opcode, x, y, z] => Self::addressed(
                 config,
                 *opcode,
                 address(config, *x, *y, *z),
                 replies,
             ),
-            [0x5A, x, y, z, _] => Command::ReadSfdp(address(config, *x, *y, *z)),
-            [0x4B, _, _, _, _] => Command::ReadUnique,
-            [0x02, x, y, z, _, ..] if replies == 0 => Command::Program(address(config, *x, *y, *z)),
+            [READ_SFDP, x, y, z, _] => Command::ReadSfdp(address(config, *x, *y, *z)),
+            [READ_UNIQUE, _, _, _, _] => Command::ReadUnique,
+            [PAGE_PROGRAM, x, y, z, _, ..] if replies == 0 => {
+                Command::Program(address(config, *x, *y, *z))
+            }
             _ => Command::Ignored,
         }
     }
@@ -54,12 +60,12 @@ impl Command {
         ensures { result ≡ bare_command config.now opcode replies }
     {
         match opcode {
-            0x05 => Command::Poll,
-            0x35 => Command::ReadStatus2,
-            0x9F => Command::ReadId,
-            0x06 if replies == 0 => Command::WriteEnable,
-            0x04 if replies == 0 => Command::WriteDisable,
-            0xC7 if replies == 0 => Command::Erase(0, config.size),
+            READ_STATUS1 => Command::Poll,
+            READ_STATUS2 => Command::ReadStatus2,
+            READ_ID => Command::ReadId,
+            WRITE_ENABLE if replies == 0 => Command::WriteEnable,
+            WRITE_DISABLE if replies == 0 => Command::WriteDisable,
+            ERASE_CHIP if replies == 0 => Command::Erase(0, config.size),
             _ => Command::Ignored,
         }
     }
@@ -68,10 +74,10 @@ impl Command {
         ensures { result ≡ addressed_command config.now opcode at replies }
     {
         match opcode {
-            0x03 => Command::ReadData(at),
-            0x20 if replies == 0 => Self::unit(SECTOR_LEN, at),
-            0x52 if replies == 0 && config.kinds.k32 => Self::unit(32768, at),
-            0xD8 if replies == 0 && config.kinds.k64 => Self::unit(65536, at),
+            READ_DATA => Command::ReadData(at),
+            ERASE_SECTOR if replies == 0 => Self::unit(SECTOR_LEN, at),
+            ERASE_32K if replies == 0 && config.kinds.k32 => Self::unit(32768, at),
+            ERASE_64K if replies == 0 && config.kinds.k64 => Self::unit(65536, at),
             _ => Command::Ignored,
         }
     }
@@ -94,5 +100,17 @@ fn address(config: &Config, x: u8, y: u8, z: u8) -> u32
 pub fn is_changing(out: &[u8]) -> bool
     ensures { result ≡ begins_change out.now }
 {
-    matches!(out, [0x06 | 0x01 | 0x02 | 0x20 | 0x52 | 0xD8 | 0xC7, ..])
+    matches!(
+        out,
+        [
+            WRITE_ENABLE
+                | WRITE_STATUS
+                | PAGE_PROGRAM
+                | ERASE_SECTOR
+                | ERASE_32K
+                | ERASE_64K
+                | ERASE_CHIP,
+            ..,
+        ]
+    )
 }

@@ -11,6 +11,7 @@
 //! ```
 #![tactic(auto)]
 
+pub mod bits;
 mod bus;
 mod command;
 mod config;

@@ -10,10 +10,8 @@ use crate::port_fault::PortFault;
 use crate::programmer_fault::ProgrammerFault;
 use crate::transactions::operate;
 use crate::trial_reads::{FEW, PLACES, PROGRAM, STEP, exchange, read, read_at, shorter};
+use nor_model::opcodes::READ_STATUS1;
 use nor_serprog::{Failure, HandshakeFault, Link, Port};
-
-// Read Status Register-1 (05h) returns status 1 until the chip is deselected (W25Q64FV datasheet, Instructions).
-const READ_STATUS: u8 = 0x05;
 
 // One more address for a long frame, which then reads at FFFFF0h if it sends 260 bytes. There the firmware of a PC has
 // its first instruction (reset vector). A smaller chip ignores the upper address bits.
@@ -163,7 +161,7 @@ fn first_bytes(place: Option<u32>) -> [u8; 4]
 {
     match place {
         Some(address) => read_at(address),
-        None => [READ_STATUS, 0, 0, 0],
+        None => [READ_STATUS1, 0, 0, 0],
     }
 }
 
@@ -209,7 +207,7 @@ fn read_direct<P: Port<Cause = PortFault> + Drop>(
 {
     match place {
         Some(address) => read(link, address + (len - 4) as u32, reply),
-        None => exchange(link, &[READ_STATUS], reply),
+        None => exchange(link, &[READ_STATUS1], reply),
     }
 }
 

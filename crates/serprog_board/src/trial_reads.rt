@@ -11,10 +11,8 @@ use crate::overlaps::compare_overlaps;
 use crate::port_fault::PortFault;
 use crate::programmer_fault::ProgrammerFault;
 use crate::transactions::operate;
+use nor_model::opcodes::READ_DATA;
 use nor_serprog::{AnyProgrammer, HandshakeFault, Link, Port};
-
-// Read Data (03h) takes three address bytes (W25Q64FV datasheet, Instructions).
-const READ: u8 = 0x03;
 
 /// The greatest number of bytes that are compared in overlapping reads.
 pub const MOST: usize = 32;
@@ -107,5 +105,5 @@ pub fn read_at(address: u32) -> [u8; 4]
     ensures reads { begins_harmless result ≡ true }
 {
     let [_, high, middle, low] = address.to_be_bytes();
-    [READ, high, middle, low]
+    [READ_DATA, high, middle, low]
 }

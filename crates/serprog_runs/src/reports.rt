@@ -13,6 +13,7 @@ use nor_args::{Operation, Task};
 use nor_console::{Escaped, Fault, SystemReason, named_by};
 use nor_files::Store;
 use nor_journal::{Journal, MAGIC};
+use nor_model::bits::QE;
 use serprog_board::{Board, ChipBus, board_in};
 use std::fs;
 use std::io::Write;
@@ -168,9 +169,7 @@ fn has_lost_bits(saved: u8, found: u8) -> bool {
     differing & !(found & QE) != 0
 }
 
-// QE is bit 1 of status 2. The reserved bit and LB1 to LB3 are bits 2 to 5 (W25Q64FV datasheet, Status Registers).
-const QE: u8 = 0x02;
-
+// QE, the reserved bit and LB1 to LB3: bits 1 to 5 of status 2 (W25Q64FV datasheet, Status Registers).
 const BOARD_BITS: u8 = 0x3E;
 
 const KEPT_BITS: &str =

@@ -11,10 +11,9 @@ ghost use Rattle.nor_buses.specs.StatusRead.{ends_busy, ends_in_poll, read_id_wh
 
 use super::CheckedStatus;
 use crate::known::CheckFault;
+use nor_model::bits::BUSY;
 use nor_model::opcodes::{READ_ID, READ_STATUS1, READ_STATUS2};
 use nor_model::{Bus, Stopped};
-
-const BUSY: u8 = 0x01;
 
 impl<B: Bus + Drop> CheckedStatus<B> {
     ghost use Rattle.nor_buses.specs.Checked.{check_fault_of, history_of, inner_state, known_of};
