@@ -57,6 +57,8 @@ NAMES = {
         "`command_of config out replies`: the command for this opcode and these lengths. The command's address is "
         "the address sent, modulo the size, or for an erase the start of the block. The command is `Ignored` if "
         "SPECIFICATION.md's table lacks it, or if the chip lacks the erase type.",
+    "determined":
+        "`determined config out answer`: `answer`, or no byte if `command_of` is `Ignored` (any reply is possible).",
     "last_for":
         "`last_for at sent a`: the last byte of the data `sent` that goes to the address `a`, if any. The first byte "
         "of the data goes to `at`; the addresses wrap within the page.",
@@ -172,6 +174,7 @@ APPENDICES = {
             "srp0_bit": "nor_model/specs/Chip.antt",
             "lb3_to_srp1": "nor_model/specs/Chip.antt",
             "command_of": "nor_model/specs/Command.antt",
+            "determined": "nor_model/specs/Step.antt",
             "last_for": "nor_model/specs/Step.antt",
             "BusyAfter": "nor_model/specs/Step.antt",
             "latch_after": "nor_model/specs/Step.antt",

@@ -27,6 +27,8 @@ ALLOWED = {
     "FailsBy",
     # In nor_model, what a bus passes on. In flashnor, a chip that passed the check of its name.
     "Passes",
+    # In nor_model, a command that has a name. In nor_files, a stored file that has the given name.
+    "is_named",
 }
 
 

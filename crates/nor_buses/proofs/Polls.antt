@@ -62,14 +62,14 @@ taken zero opcode = inl refl
 taken (suc zero) opcode = inr refl
 taken (suc (suc n)) opcode = inr refl
 
-none_same : {chip new : Chip} {answer : List ℕ} → Step chip [] answer new → new ≡ chip
-none_same does = same_chip does.config does.bytes does.kept does.latch does.busy does.running
+none_same : {chip new : Chip} (answer : List ℕ) → Step chip [] answer new → new ≡ chip
+none_same answer does = same_chip does.config does.bytes does.kept does.latch does.busy does.running
 
 part_same : {chip reached : Chip} (count opcode : ℕ) (read : List ℕ)
     → (Step chip (opcode ∷ []) read reached → reached ≡ chip)
     → Step chip (take count (opcode ∷ [])) read reached → reached ≡ chip
 part_same {chip} {reached} count opcode read same step = elim (taken count opcode) [
-  | inl none ↦ none_same (subst (λ (out : List ℕ). Step chip out read reached) none step)
+  | inl none ↦ none_same read (subst (λ (out : List ℕ). Step chip out read reached) none step)
   | inr all ↦ same (subst (λ (out : List ℕ). Step chip out read reached) all step)
 ]
 

@@ -9,7 +9,7 @@ use Rattle.nor_model.specs.Chip.{Chip}
 use Rattle.nor_model.specs.Bus.{BusState, Carries, IsHonestFor, SameNature}
 use Rattle.nor_model.specs.Exchange.{Exchange}
 use Rattle.nor_model.specs.History.{replied}
-use Rattle.nor_model.specs.Step.{Step}
+use Rattle.nor_model.specs.Step.{Step, is_command}
 use Rattle.nor_model.specs.declared.bus.Stopped.{Stopped}
 use Rattle.nor_buses.specs.ReadsAs.{reads_data, address_in, part, KeepsRecord}
 use Rattle.nor_buses.specs.Again.{IsExpected, DiffersInSector, DiffersBetween, data_read, IsReadAgain, WasReadAgain}
@@ -304,12 +304,13 @@ carries_whole out answer old mid new same first again is = record {
 }
 
 pub whole_same : (out answer : List ℕ) (old mid new : BusState) (same : Bool) → begins_read out ≡ true
-    → FirstRead out answer old mid → (same ≡ false → CarriesOther out answer mid new) → same ≡ true
-whole_same out answer old mid new same reads first other =
+    → is_command old.chip.config out (length answer) ≡ true → FirstRead out answer old mid
+    → (same ≡ false → CarriesOther out answer mid new) → same ≡ true
+whole_same out answer old mid new same reads command first other =
     true_by same (λ is.
     let differing = other is in
-    differing.differs (same_reply out old.chip mid.chip new.chip answer differing.other reads first.carries.step
-    differing.carries.step differing.len))
+    differing.differs (same_reply out old.chip mid.chip new.chip answer differing.other reads command
+    first.carries.step differing.carries.step differing.len))
 
 pub fits_data : (at : ℕ) (out answer : List ℕ) (bus : BusState) → IsHonestFor out (length answer) bus
     → IsHonestFor (data_read at) (length answer) bus

@@ -93,7 +93,7 @@ pub read_made : {out answer : List ℕ} {old new : BusState} → begins_read out
     → KeepsAll old new
 read_made {out} {answer} {old} {new} reads made =
     let is = reads_done old.chip out (length answer) reads in record {
-      chip = keeps_reading _ _ answer old.chip new.chip is made.step;
+      chip = keeps_reading _ _ _ old.chip new.chip is made.step;
       worn = λ s. worn_same _ (old.worn s) (new.worn s) s is (made.worn s);
     }
 
@@ -108,7 +108,7 @@ pub read_stops : {out : List ℕ} {old new : BusState} → begins_read out ≡ t
 read_stops {out} {old} {new} reads stops =
     let at = stops.at_stop in
     let is = reads_part old.chip at.count out (length at.read) reads in
-    let same = keeps_reading _ _ at.read old.chip at.reached is at.step in
+    let same = keeps_reading _ _ _ old.chip at.reached is at.step in
     record {
       chip = subst (λ (chip : Chip). (new.chip ≡ chip) ⊎ PowerLost chip new.chip) same at.chip;
       worn = λ s. worn_same _ (old.worn s) (new.worn s) s is (at.worn s);

@@ -8,7 +8,7 @@ use Rattle.nor_model.specs.declared.config.Config.{Config}
 use Rattle.nor_model.specs.declared.command.Command.{Command}
 use Rattle.nor_model.specs.declared.command.Command.TheVariants.{ReadData, ReadId, ReadSfdp, ReadUnique, Ignored}
 use Rattle.nor_model.specs.Command.{address_of}
-use Rattle.nor_model.specs.Step.{Step, Does, reply_byte}
+use Rattle.nor_model.specs.Step.{Step, Does, is_command, reply_byte}
 use Rattle.nor_model.specs.Bus.{BusState, SameNature, IsHonestFor}
 use Rattle.nor_buses.specs.Twice.{begins_read}
 
@@ -74,87 +74,83 @@ reading_alike make sent old mid new first again is one two len =
     (λ i. ap (λ (k : Command). reply_byte mid k i) command
     ∙ same_byte (read_of (old.busy == 0) (make old.config)) old mid reads s i)
 
-ignored_alike : (sent : List ℕ) (old mid new : Chip) (first again : List ℕ) → Does Ignored sent old first mid
-    → Does Ignored sent mid again new → length again ≡ length first → again ≡ first
-ignored_alike sent old mid new first again one two len =
-    alike Ignored Ignored sent old mid new first again one two len (λ i. refl)
-
 same_reply_03 : (rest : List ℕ) (old mid new : Chip) (first again : List ℕ)
-    → Step old (0x03 ∷ rest) first mid → Step mid (0x03 ∷ rest) again new → length again ≡ length first → again ≡ first
-same_reply_03 [] old mid new first again one two len = ignored_alike [] old mid new first again one two len
-same_reply_03 (x ∷ []) old mid new first again one two len = ignored_alike [] old mid new first again one two len
-same_reply_03 (x ∷ y ∷ []) old mid new first again one two len = ignored_alike [] old mid new first again one two len
-same_reply_03 (x ∷ y ∷ z ∷ []) old mid new first again one two len =
+    → is_command old.config (0x03 ∷ rest) (length first) ≡ true → Step old (0x03 ∷ rest) first mid
+    → Step mid (0x03 ∷ rest) again new → length again ≡ length first → again ≡ first
+same_reply_03 (x ∷ y ∷ z ∷ []) old mid new first again is one two len =
     reading_alike (λ c. ReadData (address_of c x y z)) [] old mid new first again (λ c. tt) one two len
-same_reply_03 (x ∷ y ∷ z ∷ b ∷ []) old mid new first again one two len =
-    ignored_alike (b ∷ []) old mid new first again one two len
-same_reply_03 (x ∷ y ∷ z ∷ b ∷ d ∷ rest) old mid new first again one two len =
-    ignored_alike (b ∷ d ∷ rest) old mid new first again one two len
+same_reply_03 [] old mid new first again is one two len = absurd (false≢true is)
+same_reply_03 (x ∷ []) old mid new first again is one two len = absurd (false≢true is)
+same_reply_03 (x ∷ y ∷ []) old mid new first again is one two len = absurd (false≢true is)
+same_reply_03 (x ∷ y ∷ z ∷ b ∷ []) old mid new first again is one two len = absurd (false≢true is)
+same_reply_03 (x ∷ y ∷ z ∷ b ∷ d ∷ rest) old mid new first again is one two len = absurd (false≢true is)
 
 same_reply_9F : (rest : List ℕ) (old mid new : Chip) (first again : List ℕ)
-    → Step old (0x9F ∷ rest) first mid → Step mid (0x9F ∷ rest) again new → length again ≡ length first → again ≡ first
-same_reply_9F [] old mid new first again one two len =
+    → is_command old.config (0x9F ∷ rest) (length first) ≡ true → Step old (0x9F ∷ rest) first mid
+    → Step mid (0x9F ∷ rest) again new → length again ≡ length first → again ≡ first
+same_reply_9F [] old mid new first again is one two len =
     reading_alike (λ c. ReadId) [] old mid new first again (λ c. tt) one two len
-same_reply_9F (x ∷ []) old mid new first again one two len = ignored_alike [] old mid new first again one two len
-same_reply_9F (x ∷ y ∷ []) old mid new first again one two len = ignored_alike [] old mid new first again one two len
-same_reply_9F (x ∷ y ∷ z ∷ []) old mid new first again one two len =
-    ignored_alike [] old mid new first again one two len
-same_reply_9F (x ∷ y ∷ z ∷ b ∷ []) old mid new first again one two len =
-    ignored_alike (b ∷ []) old mid new first again one two len
-same_reply_9F (x ∷ y ∷ z ∷ b ∷ d ∷ rest) old mid new first again one two len =
-    ignored_alike (b ∷ d ∷ rest) old mid new first again one two len
+same_reply_9F (x ∷ []) old mid new first again is one two len = absurd (false≢true is)
+same_reply_9F (x ∷ y ∷ []) old mid new first again is one two len = absurd (false≢true is)
+same_reply_9F (x ∷ y ∷ z ∷ []) old mid new first again is one two len = absurd (false≢true is)
+same_reply_9F (x ∷ y ∷ z ∷ b ∷ []) old mid new first again is one two len = absurd (false≢true is)
+same_reply_9F (x ∷ y ∷ z ∷ b ∷ d ∷ rest) old mid new first again is one two len = absurd (false≢true is)
 
 same_reply_5A : (rest : List ℕ) (old mid new : Chip) (first again : List ℕ)
-    → Step old (0x5A ∷ rest) first mid → Step mid (0x5A ∷ rest) again new → length again ≡ length first → again ≡ first
-same_reply_5A [] old mid new first again one two len = ignored_alike [] old mid new first again one two len
-same_reply_5A (x ∷ []) old mid new first again one two len = ignored_alike [] old mid new first again one two len
-same_reply_5A (x ∷ y ∷ []) old mid new first again one two len = ignored_alike [] old mid new first again one two len
-same_reply_5A (x ∷ y ∷ z ∷ []) old mid new first again one two len =
-    ignored_alike [] old mid new first again one two len
-same_reply_5A (x ∷ y ∷ z ∷ b ∷ []) old mid new first again one two len =
+    → is_command old.config (0x5A ∷ rest) (length first) ≡ true → Step old (0x5A ∷ rest) first mid
+    → Step mid (0x5A ∷ rest) again new → length again ≡ length first → again ≡ first
+same_reply_5A (x ∷ y ∷ z ∷ b ∷ []) old mid new first again is one two len =
     reading_alike (λ c. ReadSfdp (address_of c x y z)) (b ∷ []) old mid new first again (λ c. tt) one two len
-same_reply_5A (x ∷ y ∷ z ∷ b ∷ d ∷ rest) old mid new first again one two len =
-    ignored_alike (b ∷ d ∷ rest) old mid new first again one two len
+same_reply_5A [] old mid new first again is one two len = absurd (false≢true is)
+same_reply_5A (x ∷ []) old mid new first again is one two len = absurd (false≢true is)
+same_reply_5A (x ∷ y ∷ []) old mid new first again is one two len = absurd (false≢true is)
+same_reply_5A (x ∷ y ∷ z ∷ []) old mid new first again is one two len = absurd (false≢true is)
+same_reply_5A (x ∷ y ∷ z ∷ b ∷ d ∷ rest) old mid new first again is one two len = absurd (false≢true is)
 
 same_reply_4B : (rest : List ℕ) (old mid new : Chip) (first again : List ℕ)
-    → Step old (0x4B ∷ rest) first mid → Step mid (0x4B ∷ rest) again new → length again ≡ length first → again ≡ first
-same_reply_4B [] old mid new first again one two len = ignored_alike [] old mid new first again one two len
-same_reply_4B (x ∷ []) old mid new first again one two len = ignored_alike [] old mid new first again one two len
-same_reply_4B (x ∷ y ∷ []) old mid new first again one two len = ignored_alike [] old mid new first again one two len
-same_reply_4B (x ∷ y ∷ z ∷ []) old mid new first again one two len =
-    ignored_alike [] old mid new first again one two len
-same_reply_4B (x ∷ y ∷ z ∷ b ∷ []) old mid new first again one two len =
+    → is_command old.config (0x4B ∷ rest) (length first) ≡ true → Step old (0x4B ∷ rest) first mid
+    → Step mid (0x4B ∷ rest) again new → length again ≡ length first → again ≡ first
+same_reply_4B (x ∷ y ∷ z ∷ b ∷ []) old mid new first again is one two len =
     reading_alike (λ c. ReadUnique) (b ∷ []) old mid new first again (λ c. tt) one two len
-same_reply_4B (x ∷ y ∷ z ∷ b ∷ d ∷ rest) old mid new first again one two len =
-    ignored_alike (b ∷ d ∷ rest) old mid new first again one two len
+same_reply_4B [] old mid new first again is one two len = absurd (false≢true is)
+same_reply_4B (x ∷ []) old mid new first again is one two len = absurd (false≢true is)
+same_reply_4B (x ∷ y ∷ []) old mid new first again is one two len = absurd (false≢true is)
+same_reply_4B (x ∷ y ∷ z ∷ []) old mid new first again is one two len = absurd (false≢true is)
+same_reply_4B (x ∷ y ∷ z ∷ b ∷ d ∷ rest) old mid new first again is one two len = absurd (false≢true is)
 
 moved : (a n : ℕ) (rest : List ℕ) (old new : Chip) (answer : List ℕ) → (a == n) ≡ true → Step old (a ∷ rest) answer new
     → Step old (n ∷ rest) answer new
 moved a n rest old new answer same step =
     let P : ℕ → Type 0 = λ k. Step old (k ∷ rest) answer new in subst P (eqb-true a n same) step
 
+command_as : (a n : ℕ) (rest : List ℕ) (old : Chip) (answer : List ℕ) → (a == n) ≡ true
+    → is_command old.config (a ∷ rest) (length answer) ≡ true → is_command old.config (n ∷ rest) (length answer) ≡ true
+command_as a n rest old answer same is =
+    let P : ℕ → Type 0 = λ k. is_command old.config (k ∷ rest) (length answer) ≡ true in subst P (eqb-true a n same) is
+
 same_by : (a : ℕ) (rest : List ℕ) (old mid new : Chip) (first again : List ℕ) (data_read id_read sfdp_read : Bool)
     → (a == 0x03) ≡ data_read → (a == 0x9F) ≡ id_read → (a == 0x5A) ≡ sfdp_read
-    → (data_read || id_read || sfdp_read || a == 0x4B) ≡ true → Step old (a ∷ rest) first mid
-    → Step mid (a ∷ rest) again new → length again ≡ length first → again ≡ first
-same_by a rest old mid new first again true i f e e' e'' reads one two len =
-    same_reply_03 rest old mid new first again (moved a 3 rest old mid first e one)
+    → (data_read || id_read || sfdp_read || a == 0x4B) ≡ true → is_command old.config (a ∷ rest) (length first) ≡ true
+    → Step old (a ∷ rest) first mid → Step mid (a ∷ rest) again new → length again ≡ length first → again ≡ first
+same_by a rest old mid new first again true i f e e' e'' reads is one two len =
+    same_reply_03 rest old mid new first again (command_as a 3 rest old first e is) (moved a 3 rest old mid first e one)
     (moved a 3 rest mid new again e two) len
-same_by a rest old mid new first again false true f e e' e'' reads one two len =
-    same_reply_9F rest old mid new first again (moved a 0x9F rest old mid first e' one)
-    (moved a 0x9F rest mid new again e' two) len
-same_by a rest old mid new first again false false true e e' e'' reads one two len =
-    same_reply_5A rest old mid new first again (moved a 0x5A rest old mid first e'' one)
-    (moved a 0x5A rest mid new again e'' two) len
-same_by a rest old mid new first again false false false e e' e'' reads one two len =
-    same_reply_4B rest old mid new first again (moved a 0x4B rest old mid first reads one)
-    (moved a 0x4B rest mid new again reads two) len
+same_by a rest old mid new first again false true f e e' e'' reads is one two len =
+    same_reply_9F rest old mid new first again (command_as a 0x9F rest old first e' is)
+    (moved a 0x9F rest old mid first e' one) (moved a 0x9F rest mid new again e' two) len
+same_by a rest old mid new first again false false true e e' e'' reads is one two len =
+    same_reply_5A rest old mid new first again (command_as a 0x5A rest old first e'' is)
+    (moved a 0x5A rest old mid first e'' one) (moved a 0x5A rest mid new again e'' two) len
+same_by a rest old mid new first again false false false e e' e'' reads is one two len =
+    same_reply_4B rest old mid new first again (command_as a 0x4B rest old first reads is)
+    (moved a 0x4B rest old mid first reads one) (moved a 0x4B rest mid new again reads two) len
 
 pub same_reply : (out : List ℕ) (old mid new : Chip) (first again : List ℕ) → begins_read out ≡ true
-    → Step old out first mid → Step mid out again new → length again ≡ length first → again ≡ first
-same_reply [] old mid new first again reads one two len = absurd (false≢true reads)
-same_reply (a ∷ rest) old mid new first again reads one two len =
-    same_by a rest old mid new first again (a == 0x03) (a == 0x9F) (a == 0x5A) refl refl refl reads one two len
+    → is_command old.config out (length first) ≡ true → Step old out first mid → Step mid out again new
+    → length again ≡ length first → again ≡ first
+same_reply [] old mid new first again reads is one two len = absurd (false≢true reads)
+same_reply (a ∷ rest) old mid new first again reads is one two len =
+    same_by a rest old mid new first again (a == 0x03) (a == 0x9F) (a == 0x5A) refl refl refl reads is one two len
 
 pub fits_again : (out : List ℕ) (m n : ℕ) (old new : BusState) → SameNature old new → n ≡ m → IsHonestFor out m old
     → IsHonestFor out n new

@@ -1,6 +1,7 @@
 //! A bus that reads IDs, SFDP and data twice.
 ghost use Rattle.std.specs.Prelude.{◌≡◌, ◌≤◌, ◌⊎◌, ◌∷◌, [], true, false, None, Some, length, OnOk, OnErr, IfOk};
 ghost use Rattle.nor_model.specs.Bus.{BusState, IsHonestFor, SameNature, AtStop, Carries, Records, Transfers};
+ghost use Rattle.nor_model.specs.Step.{is_command};
 ghost use Rattle.nor_model.specs.History.{exchange_of, replied};
 ghost use Rattle.nor_buses.specs.ReadsAs.{around, KeepsRecord};
 ghost use Rattle.nor_buses.specs.Keeps.{KeepsAll, StopsUnread, MakesStep};
@@ -33,8 +34,8 @@ const ADDRESSES_END: usize = 1 << 24;
 /// may contain bytes that were read.
 ///
 /// This bus is never punctual, and it is proved to be well-behaved if the bus inside is. If the bus inside is
-/// well-behaved and punctual, a read of at most 65,536 bytes that the bus inside takes fails only if the allowance of
-/// the bus inside is used up. The history has one entry for a repeated read.
+/// well-behaved and punctual, a read of at most 65,536 bytes that the bus inside takes, and that is a command of the
+/// model, fails only if the allowance of the bus inside is used up. The history has one entry for a repeated read.
 #[derive(Drop)]
 pub struct ReadTwice<B> {
     bus: B,
@@ -109,6 +110,7 @@ impl<B: Bus> ReadTwice<B> {
             ⊎ ReadsTwice out.now reply.new (B.state (twice_of self.old)) (B.state (twice_of self.new))) }
         ensures no_difference { IsHonestFor out.now (length reply.old) (B.state (twice_of self.old))
             → (B.state (twice_of self.old)).punctual ≡ true → length reply.old ≤ 65536
+            → is_command (B.state (twice_of self.old)).chip.config out.now (length reply.old) ≡ true
             → OnErr result ((B.state (twice_of self.new)).left ≡ 0) }
         ensures nature { SameNature (B.state (twice_of self.old)) (B.state (twice_of self.new)) }
         ensures stops { IsHonestFor out.now (length reply.old) (B.state (twice_of self.old))
@@ -164,6 +166,7 @@ impl<B: Bus> ReadTwice<B> {
             → CarriesUnexpected self.old out.now reply.now before (B.state (twice_of self.new))
             ⊎ ReadsTwice out.now reply.now before (B.state (twice_of self.new))) }
         ensures no_difference { (before : BusState) → IsHonestFor out.now (length reply.now) before
+            → is_command before.chip.config out.now (length reply.now) ≡ true
             → FirstRead out.now reply.now before (B.state (twice_of self.old)) → IfOk result (λ same. same ≡ true) }
         ensures fails { IsHonestFor out.now (length reply.now) (B.state (twice_of self.old))
             → (B.state (twice_of self.old)).punctual ≡ true → OnErr result ((B.state (twice_of self.new)).left ≡ 0) }
@@ -199,6 +202,7 @@ impl<B: Bus> Bus for ReadTwice<B> {
             ⊎ ReadsTwice out.now reply.new (B.state (twice_of self.old)) (B.state (twice_of self.new))) }
         ensures no_difference { IsHonestFor out.now (length reply.old) (B.state (twice_of self.old))
             → (B.state (twice_of self.old)).punctual ≡ true → length reply.old ≤ 65536
+            → is_command (B.state (twice_of self.old)).chip.config out.now (length reply.old) ≡ true
             → OnErr result ((B.state (twice_of self.new)).left ≡ 0) }
         ensures passes { begins_read out.now ≡ false → (B.state (twice_of self.new)).history
             ≡ exchange_of out.now reply.new result ∷ (B.state (twice_of self.old)).history }

@@ -1,10 +1,10 @@
-use Rattle.std.specs.Prelude.{◌≡◌, ◌/◌, ◌%◌, ◌==◌, ◌&&◌, ℕ, true, not, slice_index, if◌then◌else◌}
+use Rattle.std.specs.Prelude.{◌≡◌, ◌<◌, ◌/◌, ◌%◌, ◌==◌, ◌&&◌, ℕ, true, List, length, not, slice_index, if◌then◌else◌}
 use Rattle.nor_model.specs.declared.command.Command.{Command}
 use Rattle.nor_model.specs.declared.running.Running.{Running}
 use Rattle.nor_chip.specs.declared.sim.flash.Flash.{Flash}
 use Rattle.nor_model.specs.Chip.{Chip}
 use Rattle.nor_model.specs.Power.{is_known_running, is_in_work, kept_before}
-use Rattle.nor_model.specs.Step.{is_operation}
+use Rattle.nor_model.specs.Step.{is_operation, done_of, reply_byte}
 
 abbrev pub chip_of : Flash → Chip
 chip_of flash = record {
@@ -33,3 +33,7 @@ pub record CutsOff (fill : ℕ) (old new : Chip) : Type 0 where
 pub record Paces (command : Command) (old new : Flash) : Type 0 where
   pub each : new.each ≡ old.each
   pub busy : is_operation command ≡ true → new.busy ≡ old.each
+
+-- Holds if the reply has the bytes that the model names, also FFh for a transaction that is no command of the model.
+pub record IsWholeReply (out answer : List ℕ) (old : Chip) : Type 0 where
+  pub same : (i : ℕ) → i < length answer → slice_index answer i ≡ reply_byte old (done_of old out (length answer)) i

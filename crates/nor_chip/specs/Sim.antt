@@ -3,7 +3,7 @@ use Rattle.std.specs.Option.{is_none}
 use Rattle.nor_chip.specs.declared.sim.SimBus.{SimBus}
 use Rattle.nor_model.specs.declared.bus.Stopped.{Stopped}
 use Rattle.nor_model.specs.Chip.{Chip}
-use Rattle.nor_chip.specs.Flash.{chip_of}
+use Rattle.nor_chip.specs.Flash.{chip_of, IsWholeReply}
 use Rattle.nor_model.specs.Power.{PowerLostWith}
 use Rattle.nor_model.specs.Step.{Step, is_operation, done_of, wears}
 use Rattle.nor_model.specs.Sent.{sent_in}
@@ -72,6 +72,7 @@ pub record Simulates (out answer : List ℕ) (outcome : Result Unit Stopped) (ol
   pub pace : pace_of new ≡ pace_of old
   pub paced : OnOk outcome
       (is_operation (done_of (chip_of old.flash) out (length answer)) ≡ true → new.flash.busy ≡ pace_of old)
+  pub replied : OnOk outcome (IsWholeReply out answer (chip_of old.flash))
   pub cut : OnErr outcome
       (TearsOff (torn_of old) (fill_of old) out (chip_of old.flash) (chip_of new.flash))
   pub worn : OnErr outcome

@@ -5,7 +5,7 @@ use Rattle.nor_model.specs.declared.command.Command.{Command}
 use Rattle.nor_model.specs.Exchange.{Exchange}
 use Rattle.nor_model.specs.History.{replied}
 use Rattle.nor_model.specs.Sent.{is_stirred, with_sent}
-use Rattle.nor_model.specs.Step.{Does, is_operation, done_of}
+use Rattle.nor_model.specs.Step.{Does, is_operation, done_of, determined}
 use Rattle.nor_model.specs.Bus.{BusState, KeepsNature, IsHonestFor, AtStop, Stops, Carries}
 use Rattle.nor_model.proofs.Nature.{nature_then}
 use Rattle.nor_driver.proofs.Sends.{Sends}
@@ -92,9 +92,10 @@ module _ (out : List ℕ) (asks : AsksForOperation out) (old : BusState) where
             → done_of ready.chip (take cut.count out) (length cut.read) ≡ operation_of old.chip out
             → HasBegun (operation_of old.chip out) (drop 4 (take cut.count out)) old (reached out ready new cut)
         begins-part is same =
-            operation-begins (operation_of old.chip out) (drop 4 (take cut.count out)) cut.read old ready
+            operation-begins (operation_of old.chip out) (drop 4 (take cut.count out)) _ old ready
             (reached out ready new cut) is (enabling honest).unchanged
-            (subst (λ (k : Command). Does k (drop 4 (take cut.count out)) ready.chip cut.read cut.reached) same cut.step)
+            (subst (λ (k : Command). Does k (drop 4 (take cut.count out)) ready.chip
+            (determined ready.chip.config (take cut.count out) cut.read) cut.reached) same cut.step)
             (subst (λ (k : Command). Wore k ready (reached out ready new cut)) same cut.worn)
 
         may-cut : is_operation (operation_of old.chip out) ≡ true
@@ -155,8 +156,9 @@ module _ (out : List ℕ) (asks : AsksForOperation out) (old : BusState) where
       has-begun : old.honest ≡ true → is_operation (operation_of old.chip out) ≡ true
           → HasBegun (operation_of old.chip out) (drop 4 out) old begun
       has-begun honest is =
-          operation-begins (operation_of old.chip out) (drop 4 out) second old ready begun is (enabling honest).unchanged
-          (subst (λ (k : Command). Does k (drop 4 out) ready.chip second begun.chip) (command honest) (carried honest).step)
+          operation-begins (operation_of old.chip out) (drop 4 out) _ old ready begun is (enabling honest).unchanged
+          (subst (λ (k : Command). Does k (drop 4 out) ready.chip (determined ready.chip.config out second) begun.chip)
+          (command honest) (carried honest).step)
           (subst (λ (k : Command). Wore k ready begun) (command honest) (carried honest).worn)
 
       was-read : old.honest ≡ true → is_operation (operation_of old.chip out) ≡ false → HasRead ready begun

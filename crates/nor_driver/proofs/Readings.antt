@@ -1,15 +1,16 @@
-use Rattle.std.proofs.Common.{◌≡◌, ◌≤◌, ◌+◌, ℕ, true, false, List, [], ◌∷◌, length, refl, ap, arith, inl, inr}
-use Rattle.std.specs.Prelude.{Result, Ok, Err, OnOk, OnErr}
+use Rattle.std.proofs.Common.{◌≡◌, ◌<◌, ◌≤◌, ◌+◌, ℕ, true, false, List, [], ◌∷◌, length, refl, ap, subst, arith, inl, inr}
+use Rattle.std.specs.Prelude.{Result, Ok, Err, OnOk, OnErr, slice_index}
 use Rattle.std.proofs.lemmas.Bool.Decides.{eqb_tells}
 use Rattle.nor_model.specs.declared.config.Config.{Config}
 use Rattle.nor_model.specs.declared.command.Command.{Command}
 use Rattle.nor_model.specs.declared.command.Command.TheVariants.{Ignored}
 use Rattle.nor_model.specs.Chip.{Chip}
-use Rattle.nor_model.specs.Step.{Does, is_operation, done_of}
+use Rattle.nor_model.specs.Step.{Does, is_operation, done_of, reply_byte}
 use Rattle.nor_model.specs.Bus.{BusState, IsHonestFor, Stops, Carries, Records}
 use Rattle.nor_model.specs.PolledReady.{is_poll}
 use Rattle.nor_model.specs.History.{replied}
 use Rattle.nor_model.specs.declared.bus.Stopped.{Stopped}
+use Rattle.nor_model.proofs.Steps.{all_determined}
 use Rattle.nor_driver.specs.OnlyReads.{Rested, Spent, OnlyReadsHonest, OnlyReads, HasStopped}
 use Rattle.nor_driver.specs.Reads.{changes_nothing, IsReading, HasRead, Replies}
 use Rattle.nor_driver.proofs.Sends.{Sends, stopped_by}
@@ -26,13 +27,20 @@ carried_by : (out answer : List ℕ) (old new : BusState)
     → changes_nothing (done_of old.chip out (length answer)) ≡ true → Carries out answer old new → HasRead old new
 carried_by out answer old new is carries =
     let command = done_of old.chip out (length answer) in
-    let none = nothing_done command _ answer old.chip new.chip is carries.step in
-    grind (arith, no_operation command _ answer old new none.0 carries.step carries.worn)
+    let none = nothing_done command _ _ old.chip new.chip is carries.step in
+    grind (arith, no_operation command _ _ old new none.0 carries.step carries.worn)
 
 carried_reading : (out answer : List ℕ) (old new : BusState) → IsReading out → Carries out answer old new
     → HasRead old new
 carried_reading out answer old new is carries =
     carried_by out answer old new (grind (arith, is.reading old.chip.config (length answer))) carries
+
+carried_reply : (out answer : List ℕ) (old new : BusState) → IsReading out → Carries out answer old new → (i : ℕ)
+    → i < length answer → slice_index answer i ≡ reply_byte old.chip (done_of old.chip out (length answer)) i
+carried_reply out answer old new is carries =
+    let byte : ℕ → ℕ = reply_byte old.chip (done_of old.chip out (length answer)) in
+    let P : List ℕ → Type 0 = λ bytes. (i : ℕ) → i < length bytes → slice_index bytes i ≡ byte i in
+    subst P (all_determined old.chip.config out answer (is.known old.chip.config (length answer))) carries.step.replies
 
 pub carried_ignored : (out answer : List ℕ) (old new : BusState) → done_of old.chip out (length answer) ≡ Ignored
     → Carries out answer old new → HasRead old new
@@ -82,8 +90,12 @@ read_leaves outcome out answer old new is sends stops carries = record {
 pub read_does : {T E : Type 0} (outcome : Result T E) (out answer : List ℕ) (old new : BusState) → IsReading out
     → OnOk outcome (new.history ≡ replied out answer ∷ old.history)
     → (old.honest ≡ true → OnOk outcome (Carries out answer old new)) → OnOk outcome (Replies out old new answer)
-read_does outcome out answer old new is history carries =
-    grind (arith, history, carries, carried_reading out answer old new is)
+read_does (Ok done) out answer old new is history carries = record {
+  history = history;
+  read = λ honest. carried_reading out answer old new is (carries honest);
+  replied = λ honest. carried_reply out answer old new is (carries honest);
+}
+read_does (Err stopped) out answer old new is history carries = tt
 
 pub read_fails : (outcome : Result Unit Stopped) (out answer : List ℕ) (old new : BusState)
     → Records out answer outcome old new → (old.honest ≡ true → OnErr outcome (Stops out old new))

@@ -57,7 +57,7 @@ pub none_begun : (out : List ℕ) (old new : BusState) → old.steady ≡ false 
     → is_operation (done_of old.chip (take cut.count out) (length cut.read)) ≡ false → KeepsChip old new
 none_begun out old new unsteady cut none =
     stays_after old (reached out old new cut) new refl
-    (no_operation _ _ cut.read old (reached out old new cut) none cut.step cut.worn)
+    (no_operation _ _ _ old (reached out old new cut) none cut.step cut.worn)
     (reached_stays out old new unsteady cut)
 
 enable_part : (chip : Chip) (count replies : ℕ) → is_operation (done_of chip (take count (6 ∷ [])) replies) ≡ false
@@ -117,7 +117,7 @@ honest_reads_at_stop out old new most quiet stops = elim (still_or_torn _ old ne
       let is = quiet_done old.chip cut.1.count out (length cut.1.read) quiet in
       record {
         stays = none_begun out old new cut.0 cut.1 (quiet_is_none _ is);
-        latch = λ latch. quiet_latch _ _ cut.1.read old.chip cut.1.reached is cut.1.step
+        latch = λ latch. quiet_latch _ _ _ old.chip cut.1.reached is cut.1.step
             (latch_then cut.1.reached new.chip cut.1.chip latch);
         idle_latch = λ steady idle. absurd (true≢false (sym steady ∙ cut.0));
         falls = grind (arith, stops.left);

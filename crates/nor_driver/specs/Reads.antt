@@ -5,7 +5,7 @@ use Rattle.nor_model.specs.declared.command.Command.{Command}
 use Rattle.nor_model.specs.declared.command.Command.TheVariants.{ReadStatus2, ReadData, ReadId, ReadSfdp, ReadUnique, Ignored}
 use Rattle.nor_model.specs.Chip.{sfdp_byte}
 use Rattle.nor_model.specs.Command.{command_of, begins_quiet}
-use Rattle.nor_model.specs.Step.{done_of, reply_byte}
+use Rattle.nor_model.specs.Step.{done_of, is_command, reply_byte}
 use Rattle.nor_model.specs.History.{Answered, replied, begins_with, names}
 use Rattle.nor_model.specs.Bus.{BusState}
 use Rattle.nor_driver.specs.OnlyReads.{Rested, Spent}
@@ -24,6 +24,7 @@ pub record IsReading (out : List ℕ) : Type 0 where
   pub short : length out ≤ 260
   pub quiet : begins_quiet out ≡ true
   pub reading : (config : Config) (replies : ℕ) → changes_nothing (command_of config out replies) ≡ true
+  pub known : (config : Config) (replies : ℕ) → is_command config out replies ≡ true
 
 pub record HasRead (old new : BusState) : Type 0 where
   pub rested : Rested old new

@@ -1,6 +1,7 @@
 -- One step of the chip: its reply to a transaction, and the effect. An operation has its whole effect at once, and the
 -- chip is then busy for any number of polls below 65,536. (W25Q64FV datasheet, instruction descriptions.)
 use Rattle.std.specs.Prelude.{◌≡◌, ◌<◌, ◌+◌, ◌-◌, ◌*◌, ◌/◌, ◌%◌, ◌==◌, ◌&&◌, ℕ, Bool, true, false, not, Option, None, Some, List, [], ◌∷◌, length, drop, slice_index, slice_index_or, bit_and, bit_or, nat_lt, nat_le, if◌then◌else◌}
+use Rattle.nor_model.specs.declared.config.Config.{Config}
 use Rattle.nor_model.specs.declared.command.Command.{Command}
 use Rattle.nor_model.specs.declared.command.Command.TheVariants.{WriteEnable, WriteDisable, Poll, ReadStatus2, WriteStatus, Program, Erase, ReadData, ReadId, ReadSfdp, ReadUnique, Ignored}
 use Rattle.nor_model.specs.declared.running.Running.{Running}
@@ -114,9 +115,23 @@ pub record Does (command : Command) (sent : List ℕ) (old : Chip) (answer : Lis
   pub latch : new.latch ≡ latch_after old command new.busy
   pub running : new.running ≡ running_after old command
 
+abbrev pub is_named : Command → Bool
+is_named Ignored = false
+is_named _ = true
+
+-- True if the transaction is a command of the model.
+abbrev pub is_command : Config → (out : List ℕ) → (replies : ℕ) → Bool
+is_command config out replies = is_named (command_of config out replies)
+
+-- The bytes of the reply that the model determines: none if the transaction is no command of the model. A real chip
+-- replies to some of these. For example, it already reads on while more bytes are sent after the address of a read.
+abbrev pub determined : Config → (out answer : List ℕ) → List ℕ
+determined config out answer = if is_command config out (length answer) then answer else []
+
 -- Holds if a transaction took the chip from `old` to `new`. The data of a program begin at byte 4, after the address.
 abbrev pub Step : (old : Chip) → (out answer : List ℕ) → (new : Chip) → Type 0
-Step old out answer new = Does (done_of old out (length answer)) (drop 4 out) old answer new
+Step old out answer new =
+    Does (done_of old out (length answer)) (drop 4 out) old (determined old.config out answer) new
 
 abbrev pub wears : Command → (sector : ℕ) → Bool
 wears (Erase start len) sector = nat_le start (4096 * sector) && nat_lt (4096 * sector) (start + len)

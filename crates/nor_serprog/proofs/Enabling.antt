@@ -1,6 +1,6 @@
 -- While a write enable is held back, an idle chip's latch counts as set, so sending the write enable changes nothing.
-use Rattle.std.proofs.Common.{◌≡◌, ◌∙◌, ◌⊎◌, ℕ, zero, suc, Bool, true, false, List, [], ◌∷◌, length, take, drop, refl, sym, ap, subst, arith, inl, inr}
-use Rattle.std.specs.Prelude.{◌==◌, ◌||◌, if◌then◌else◌}
+use Rattle.std.proofs.Common.{◌≡◌, ◌∙◌, ◌⊎◌, ◌<◌, ℕ, zero, suc, Bool, true, false, List, [], ◌∷◌, length, take, drop, refl, sym, ap, subst, arith, inl, inr}
+use Rattle.std.specs.Prelude.{◌==◌, ◌||◌, slice_index, if◌then◌else◌}
 use Rattle.std.proofs.lemmas.Bool.{cases_Bool}
 use Rattle.std.proofs.Math.Bool.{or-false}
 use Rattle.std.proofs.Math.Path.{fun_ext}
@@ -10,7 +10,8 @@ use Rattle.nor_model.specs.declared.command.Command.{Command}
 use Rattle.nor_model.specs.declared.command.Command.TheVariants.{WriteEnable, Ignored}
 use Rattle.nor_model.specs.declared.running.Running.{Running}
 use Rattle.nor_model.specs.Chip.{Chip, KeptBits}
-use Rattle.nor_model.specs.Step.{Does, Step, done_of, is_carried_out, is_idle, wears}
+use Rattle.nor_model.specs.Step.{Does, Step, determined, done_of, is_carried_out, is_idle, wears}
+use Rattle.nor_model.proofs.Steps.{determined_as}
 use Rattle.nor_serprog.specs.Device.{Device, StepsOnce}
 use Rattle.nor_serprog.specs.Enabled.{enabled, enabled_device, SameChipOf}
 
@@ -62,9 +63,11 @@ done_first chip (suc n) replies =
 pub reached_by : (out answer : List ℕ) (old new : Chip) → MayEnable old (done_of old out (length answer))
     → Step old out answer new → (new ≡ old) ⊎ (new ≡ enabled true old)
 reached_by out answer old new (inl is) step =
-    inl (ignored old new (drop 4 out) answer (subst (λ (c : Command). Does c (drop 4 out) old answer new) is step))
+    let reads = determined old.config out answer in
+    inl (ignored old new (drop 4 out) reads (subst (λ (c : Command). Does c (drop 4 out) old reads new) is step))
 reached_by out answer old new (inr (is, idle)) step =
-    inr (enables old new (drop 4 out) answer idle (subst (λ (c : Command). Does c (drop 4 out) old answer new) is step))
+    let reads = determined old.config out answer in
+    inr (enables old new (drop 4 out) reads idle (subst (λ (c : Command). Does c (drop 4 out) old reads new) is step))
 
 pub no_wear : (chip : Chip) (command : Command) (s : ℕ) → MayEnable chip command → wears command s ≡ false
 no_wear chip command s (inl is) = ap (λ (c : Command). wears c s) is
@@ -75,13 +78,14 @@ pub enable_carried : (answer : List ℕ) (old new : Device) → StepsOnce (0x06 
 enable_carried answer old new steps none =
     let done : done_of old.chip (0x06 ∷ []) (length answer) ≡ (if is_idle old.chip then WriteEnable else Ignored) =
     ap (λ (n : ℕ). done_of old.chip (0x06 ∷ []) n) none in
-    let does : Bool → Type 0 = λ b. Does (if b then WriteEnable else Ignored) [] old.chip answer new.chip in
+    let reads = determined old.chip.config (0x06 ∷ []) answer in
+    let does : Bool → Type 0 = λ b. Does (if b then WriteEnable else Ignored) [] old.chip reads new.chip in
     let step : does (is_idle old.chip) =
-    subst (λ (c : Command). Does c [] old.chip answer new.chip) done steps.step in
+    subst (λ (c : Command). Does c [] old.chip reads new.chip) done steps.step in
     record {
       chip = elim (cases_Bool (is_idle old.chip)) [
-        | inl idle ↦ enables old.chip new.chip [] answer idle (subst does idle step)
-        | inr busy ↦ ignored old.chip new.chip [] answer (subst does busy step) ∙ busy_same old.chip busy
+        | inl idle ↦ enables old.chip new.chip [] reads idle (subst does idle step)
+        | inr busy ↦ ignored old.chip new.chip [] reads (subst does busy step) ∙ busy_same old.chip busy
       ];
       worn = λ s.
           steps.worn s
@@ -94,10 +98,13 @@ enable_step : (chip : Chip) (reply : List ℕ) → length reply ≡ 0 → Step c
 enable_step chip reply none =
     let done : done_of chip (0x06 ∷ []) (length reply) ≡ (if is_idle chip then WriteEnable else Ignored) =
     ap (λ (n : ℕ). done_of chip (0x06 ∷ []) n) none in
-    let does : Bool → Type 0 = λ b. Does (if b then WriteEnable else Ignored) [] chip reply (enabled true chip) in
+    let reads = determined chip.config (0x06 ∷ []) reply in
+    let none_read : (i : ℕ) → i < length reads → slice_index reads i ≡ 255 =
+    determined_as chip.config (0x06 ∷ []) reply (λ i. 255) (λ i within. absurd (omega (arith, none, within))) in
+    let does : Bool → Type 0 = λ b. Does (if b then WriteEnable else Ignored) [] chip reads (enabled true chip) in
     let step : does (is_idle chip) = elim (cases_Bool (is_idle chip)) [
       | inl idle ↦ subst does (sym idle) (record {
-        replies = λ i within. absurd (omega (arith, none, within));
+        replies = none_read;
         config = refl;
         bytes = λ a. refl;
         kept = refl;
@@ -106,7 +113,7 @@ enable_step chip reply none =
         running = refl;
       })
       | inr busy ↦ subst does (sym busy) (record {
-        replies = λ i within. absurd (omega (arith, none, within));
+        replies = none_read;
         config = refl;
         bytes = λ a. refl;
         kept = refl;
@@ -115,7 +122,7 @@ enable_step chip reply none =
         running = refl;
       })
     ] in
-    subst (λ (c : Command). Does c [] chip reply (enabled true chip)) (sym done) step
+    subst (λ (c : Command). Does c [] chip reads (enabled true chip)) (sym done) step
 
 pub enable_waits : (reply : List ℕ) (old base : Device) → SameChipOf old base → length reply ≡ 0
     → StepsOnce (0x06 ∷ []) reply old (enabled_device true base)

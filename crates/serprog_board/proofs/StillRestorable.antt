@@ -62,13 +62,13 @@ none_begun command sent answer old new none does = grind arith
 pub looked_at : (out answer : List ℕ) (old new : Chip) → begins_harmless out ≡ true → Step old out answer new
     → IsLookedAt old new
 looked_at out answer old new harmless step =
-    none_begun _ _ answer old new
+    none_begun _ _ _ old new
     (none_done old out (length answer) (harmless_whole old.config out (length answer) harmless)) step
 
 pub part_looked_at : (count : ℕ) (out answer : List ℕ) (old new : Chip) → begins_harmless out ≡ true
     → Step old (take count out) answer new → IsLookedAt old new
 part_looked_at count out answer old new harmless step =
-    none_begun _ _ answer old new
+    none_begun _ _ _ old new
     (none_done old (take count out) (length answer) (harmless_part old.config count out (length answer) harmless)) step
 
 pub looked_restorable : (further : Bool) (journal : Content) (first old new : Chip) → IsLookedAt old new

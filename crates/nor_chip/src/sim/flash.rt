@@ -26,7 +26,7 @@ pub(crate) struct Flash {
 }
 
 impl Flash {
-    ghost use Rattle.nor_chip.specs.Flash.{chip_of, Begins, CutsOff, Paces};
+    ghost use Rattle.nor_chip.specs.Flash.{chip_of, Begins, CutsOff, IsWholeReply, Paces};
     ghost use Rattle.nor_model.specs.Power.{PowerLostWith};
     ghost use Rattle.nor_model.specs.Chip.{status_of};
     ghost use Rattle.nor_model.specs.Status.{bytes_of};
@@ -207,6 +207,7 @@ impl Flash {
 
     pub(crate) fn step(&mut self, out: &[u8], reply: &mut [u8]) -> Command
         ensures steps { Step (chip_of self.old) out.now reply.new (chip_of self.new) }
+        ensures replied { IsWholeReply out.now reply.new (chip_of self.old) }
         ensures done { result ≡ done_of (chip_of self.old) out.now (length reply.new) }
         ensures targeted { HasValidAddress self.old.config.size result }
         ensures paces { Paces result self.old self.new }

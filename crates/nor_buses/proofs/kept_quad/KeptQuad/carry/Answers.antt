@@ -56,3 +56,6 @@ returns-in_ok-hide-clause-steps g c fits =
     (c.hide.ensures.nature.config then_honest ∙ c.transfer.ensures.nature.config honest) ∙ bit6) in
     subst (λ (reply : List ℕ). MakesStep c.args.out.now reply old new) (sym (c.hide.ensures.whole hidden))
     (made_then made keeps)
+
+pub returns-else-is_poll-clause-steps : goal.returns-else-is_poll-clause-steps
+returns-else-is_poll-clause-steps g c fits = step_of (c.in_ok-transfer.ensures.carries (fits_only _ _ fits))

@@ -11,7 +11,7 @@ returns-in-Some-Some-clause-twice g c before honest first =
     c.in-Some-Some.ensures.reads c.in-Some-Some.ensures.address first honest (below is)))
 
 pub returns-in-Some-Some-clause-no_difference : goal.returns-in-Some-Some-clause-no_difference
-returns-in-Some-Some-clause-no_difference g c before honest first =
+returns-in-Some-Some-clause-no_difference g c before honest command first =
     c.is_repeated_or_expected.ensures.same
     (fits_first c.in-Some-Some.address c.args.out.now c.args.reply.now before _ first honest)
     (first_data_at c.in-Some-Some.address c.args.out.now c.args.reply.now before _ c.in-Some-Some.ensures.reads
@@ -24,10 +24,10 @@ returns-in_default-clause-twice g c before honest first =
     (λ same again is. inr (carries_whole c.args.out.now c.args.reply.now before _ _ same first again is))
 
 pub returns-in_default-clause-no_difference : goal.returns-in_default-clause-no_difference
-returns-in_default-clause-no_difference g c before honest first =
+returns-in_default-clause-no_difference g c before honest command first =
     if_ok c.is_repeated.result _ _
     (c.is_repeated.ensures.differs (fits_again _ _ _ _ _ first.nature refl honest))
-    (λ same other. whole_same c.args.out.now c.args.reply.now before _ _ same c.requires.reads first other)
+    (λ same other. whole_same c.args.out.now c.args.reply.now before _ _ same c.requires.reads command first other)
 
 pub returns-in-Some-Some-clause-keeps : goal.returns-in-Some-Some-clause-keeps
 returns-in-Some-Some-clause-keeps g c honest =
