@@ -6,7 +6,7 @@ ghost use Rattle.nor_journal.specs.Vault.{IsFresh};
 use crate::held::{assert_held, assert_that};
 use crate::row::{Row, Start};
 use crate::runs::{Cut, Runs};
-use nor_chip::SimBus;
+use nor_chip::{Config, Delays, SimBus};
 use nor_journal::{Journal, MemVault, Vault};
 use nor_serprog::{Link, Port, Programmer, SerprogBus};
 use nor_session::{Refusal, Report};
@@ -245,4 +245,34 @@ fn more_is_requested_than_is_pending(rt: HostRuntime) {
     assert_that!(&rt; port.receive(&mut byte) == Err(SimFailure::Silent));
     assert_that!(&rt; port.send(&[0x10]) == Err(SimFailure::Cut));
     assert_that!(&rt; (byte, port.left()) == ([0x5A], 0));
+}
+
+// A chip whose bytes are 0, except the last one and the first two: these are 1, 2 and 3.
+fn numbered(rt: &impl Abort, alloc: Global, busy: u16) -> SimPort {
+    let mut bytes = vec![in alloc; 0; 65_536].ok().expect(rt, "memory");
+    for (at, byte) in [(0xFFFF, 1), (0, 2), (1, 3)] {
+        if let Some(to) = bytes.get_mut(at) {
+            *to = byte;
+        }
+    }
+    let delays = Delays { now: busy, each: 0 };
+    let chip = SimBus::new(Config::tiny64(), bytes, [0x00, 0x00], delays);
+    SimPort::new(chip.ok().expect(rt, "a chip"), AMPLE)
+}
+
+// While more bytes are sent after the address of a read, or after 05h, a chip goes on reading. A busy chip returns only
+// its status.
+#[test]
+fn padded_reads_go_on(rt: HostRuntime) {
+    for (busy, data) in [(0_u8, [0x06, 1, 2, 3]), (1, [0x06, 0xFF, 0xFF, 0xFF])] {
+        let mut port = numbered(&rt, rt.alloc(), u16::from(busy));
+        let mut reply = [0; 4];
+        assert_that!(&rt; port.send(&[0x13, 6, 0, 0, 3, 0, 0, 0x03, 0, 0xFF, 0xFD, 0, 0]).is_ok());
+        assert_that!(&rt; port.receive(&mut reply).is_ok());
+        assert_that!(&rt; reply == data);
+        let mut status = [0; 2];
+        assert_that!(&rt; port.send(&[0x13, 2, 0, 0, 1, 0, 0, 0x05, 0]).is_ok());
+        assert_that!(&rt; port.receive(&mut status).is_ok());
+        assert_that!(&rt; status == [0x06, busy]);
+    }
 }

@@ -1,11 +1,12 @@
 -- Lemmas: a transaction of the simulated chip is a transaction of the programmer with this chip.
-use Rattle.std.proofs.Common.{◌≡◌, ◌∙◌, ℕ, Bool, true, List, [], ◌∷◌, length, refl, ap, subst, arith}
-use Rattle.std.specs.Prelude.{◌||◌, ◌==◌, take, Option, Result, Ok, Err, OnOk, OnErr}
-use Rattle.std.proofs.lemmas.Bool.{eqb-true}
+use Rattle.std.proofs.Common.{◌≡◌, ◌∙◌, ℕ, Bool, true, false, List, [], ◌∷◌, length, refl, sym, ap, subst, arith, inl, inr}
+use Rattle.std.specs.Prelude.{◌||◌, ◌==◌, take, drop, Option, Result, Ok, Err, OnOk, OnErr, if◌then◌else◌}
+use Rattle.std.proofs.lemmas.Bool.{eqb-true, cases_Bool}
+use Rattle.nor_model.specs.declared.config.Config.{Config}
 use Rattle.nor_model.specs.Chip.{Chip}
-use Rattle.nor_model.specs.Step.{Step, done_of, wears}
+use Rattle.nor_model.specs.Step.{Step, Does, is_command, determined, done_of, wears}
 use Rattle.nor_model.specs.Bus.{BusState, Allows, AtStop}
-use Rattle.nor_serprog.specs.Device.{IsCut}
+use Rattle.nor_serprog.specs.Device.{Device, IsCut, StepsOnce}
 use Rattle.serprog_session.specs.SimPort.{device_over, simulated_firmware, simulated_settings}
 
 pub empty : (items : List ℕ) → (length items == 0) ≡ true → items ≡ []
@@ -46,3 +47,30 @@ cut out old mid new bus_type pending pending' allows stop =
       };
       then = record { chip = stop.chip; worn = λ s. refl };
     }
+
+open_step : (out first again : List ℕ) (old new : Chip) → is_command old.config out (length first) ≡ false
+    → length again ≡ length first → Step old out first new → Step old out again new
+open_step out first again old new none len step =
+    let c = old.config in
+    let before : determined c out first ≡ [] = ap (λ (all : Bool). if all then first else []) none in
+    let none' : is_command c out (length again) ≡ false = ap (λ (n : ℕ). is_command c out n) len ∙ none in
+    let after : determined c out again ≡ [] = ap (λ (all : Bool). if all then again else []) none' in
+    let P : (n : ℕ) → List ℕ → Type 0 = λ n r. Does (done_of old out n) (drop 4 out) old r new in
+    subst (P (length again)) (sym after)
+    (subst (λ (n : ℕ). P n []) (sym len) (subst (P (length first)) before step))
+
+-- If the transaction is no command of the model, every other reply of this length is possible, too.
+pub open_reply : (out first again : List ℕ) (old new : Device)
+    → ((config : Config) (replies : ℕ) → is_command config out replies ≡ true → again ≡ first)
+    → length again ≡ length first → StepsOnce out first old new → StepsOnce out again old new
+open_reply out first again old new same len steps =
+    elim (cases_Bool (is_command old.chip.config out (length first))) [
+      | inl is ↦
+          subst (λ (r : List ℕ). StepsOnce out r old new) (sym (same old.chip.config (length first) is)) steps
+      | inr none ↦ record {
+        step = open_step out first again old.chip new.chip none len steps.step;
+        worn = λ s.
+            let P : ℕ → Type 0 = λ n. new.worn s ≡ (old.worn s || wears (done_of old.chip out n) s) in
+            subst P (sym len) (steps.worn s);
+      }
+    ]

@@ -14,16 +14,16 @@ simulated_chip port = port.chip
 abbrev pub left_of : SimPort → ℕ
 left_of port = port.left
 
--- The firmware of the simulated programmer, with SPI and a serial buffer of 512 bytes.
+-- The firmware of the simulated programmer, with SPI, a serial buffer of 512 bytes, and reads of at most 4,096 bytes.
 abbrev pub simulated_firmware : Firmware
 simulated_firmware = record {
   version = 1;
-  commands = 0x17 ∷ 0 ∷ 0x0D ∷ replicate 29 0;
+  commands = 0x17 ∷ 0 ∷ 0x0F ∷ replicate 29 0;
   name = replicate 16 0;
   buffer = 512;
   buses = 8;
   longest_write = 0;
-  longest_read = 0;
+  longest_read = 4096;
   takes_buses = λ flags. true;
   takes_pins = λ enabled. false;
   takes_select = λ number. false;
@@ -60,9 +60,10 @@ abbrev pub simulated_reply : (opcode : ℕ) → List ℕ
 simulated_reply opcode =
     if opcode == 0x00 || opcode == 0x12 then 0x06 ∷ []
     else if opcode == 0x01 then 0x06 ∷ 1 ∷ 0 ∷ []
-    else if opcode == 0x02 then 0x06 ∷ 0x17 ∷ 0 ∷ 0x0D ∷ replicate 29 0
+    else if opcode == 0x02 then 0x06 ∷ 0x17 ∷ 0 ∷ 0x0F ∷ replicate 29 0
     else if opcode == 0x04 then 0x06 ∷ 0 ∷ 2 ∷ []
     else if opcode == 0x10 then 0x15 ∷ 0x06 ∷ []
+    else if opcode == 0x11 then 0x06 ∷ 0 ∷ 0x10 ∷ 0 ∷ []
     else nak
 
 -- The type of bus that is selected after `frame`. Only S_BUSTYPE (12h) selects one.

@@ -28,11 +28,13 @@
 //!
 //! - `calls.rt`, `laws.rt`: the calls over a `SerprogBus`, and laws (theorems) about what happens between them
 //! - `sim_port.rt`: a simulated port to a simulated programmer with a simulated chip
+//! - `padded_reads.rt`: replies of this chip that the model leaves open
 //! - `stack.rt`, `stacked.rt`: the layers of nor_buses over a `BatchingBus`, and the calls over these layers
 #![tactic(auto)]
 
 mod calls;
 mod laws;
+mod padded_reads;
 mod sim_port;
 mod stack;
 mod stacked;

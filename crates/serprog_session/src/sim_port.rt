@@ -10,6 +10,7 @@ ghost use Rattle.serprog_session.specs.SimPort.{simulated_chip, simulated_firmwa
 ghost use Rattle.serprog_session.specs.SimPort.{bus_type_after, simulated_settings, device_over, port_over};
 ghost use Rattle.serprog_session.specs.SimPort.{IsOneFrame, AreOperations, ArePair};
 
+use crate::padded_reads::read_on;
 use arrayvec::ArrayVec;
 use nor_chip::{Bus, Meter, SimBus};
 use nor_serprog::{Port, Wire, frame_len};
@@ -32,9 +33,12 @@ const SERIAL_BUFFER: usize = 512;
 // The reply to Q_SERBUF: ACK and the size of the serial buffer, low byte first.
 const BUFFER: [u8; 3] = [ACK, 0x00, 0x02];
 
-// The reply to Q_CMDMAP: ACK, and the map with the commands 00h, 01h, 02h, 04h, 10h, 12h and 13h.
+// The reply to Q_RDNMAXLEN: ACK and 4,096 (`MOST_READ`), low byte first.
+const LONGEST_READ: [u8; 4] = [ACK, 0x00, 0x10, 0x00];
+
+// The reply to Q_CMDMAP: ACK, and the map with the commands 00h, 01h, 02h, 04h and 10h to 13h.
 const COMMANDS: [u8; 33] = [
-    ACK, 0x17, 0, 0x0D, 0, 0, 0, 0, 0, 0, 0, 0, 0, 0, 0, 0, 0, 0, 0, 0, 0, 0, 0, 0, 0, 0, 0, 0, 0,
+    ACK, 0x17, 0, 0x0F, 0, 0, 0, 0, 0, 0, 0, 0, 0, 0, 0, 0, 0, 0, 0, 0, 0, 0, 0, 0, 0, 0, 0, 0, 0,
     0, 0, 0, 0,
 ];
 
@@ -50,8 +54,8 @@ pub enum SimFailure {
 /// A well-behaved port to a simulated serprog programmer with a simulated chip. The port carries out at most the given
 /// number of calls, and then fails; after any failure no call succeeds.
 ///
-/// The programmer can be identified (`Programmer::identify`), and has a serial buffer of 512 bytes. It carries out
-/// O_SPIOP frames only if a `send` sends exactly one frame, or exactly two that fit into the buffer and of which the
+/// The programmer can be identified (`Programmer::identify`), has a serial buffer of 512 bytes, and reads at most 4,096
+/// bytes in a transaction. It carries out O_SPIOP frames only if a `send` sends exactly one frame, or exactly two that fit into the buffer and of which the
 /// first requests no reply bytes. Its reply to any other O_SPIOP frame is NAK.
 ///
 /// If the port fails while it sends an O_SPIOP whose reply isn't NAK, the chip stops as `SimBus::tear` and
@@ -291,6 +295,15 @@ fn transact(chip: &mut SimBus, out: &[u8], reply: &mut [u8])
         (device_over (⟦<SimBus as Bus>⟧.state chip.old) bus_type pending)
         (device_over (⟦<SimBus as Bus>⟧.state chip.new) bus_type pending') }
 {
+    carry_out(chip, out, &mut *reply);
+    read_on(chip, out, reply);
+}
+
+fn carry_out(chip: &mut SimBus, out: &[u8], reply: &mut [u8])
+    ensures { (bus_type : Option ℕ) (pending pending' : List ℕ) → StepsOnce out.now reply.new
+        (device_over (⟦<SimBus as Bus>⟧.state chip.old) bus_type pending)
+        (device_over (⟦<SimBus as Bus>⟧.state chip.new) bus_type pending') }
+{
     chip.allow(1);
     let _ = chip.transfer(out, reply);
 }
@@ -357,6 +370,7 @@ fn reply_to(frame: &[u8]) -> &'static [u8]
         0x02 => &COMMANDS,
         0x04 => &BUFFER,
         0x10 => &[NAK, ACK],
+        0x11 => &LONGEST_READ,
         _ => &[NAK],
     }
 }
