@@ -6,7 +6,6 @@ use Rattle.std.specs.Prelude.{Bool, OnOk}
 use Rattle.std.specs.Borrow.{Bor}
 use Rattle.nor_model.specs.Bus.{BusState, KeepsNature}
 use Rattle.nor_model.specs.Chip.{Chip, IsSame}
-use Rattle.nor_model.specs.Power.{PowerLost}
 use Rattle.nor_model.proofs.Nature.{nature_then}
 use Rattle.nor_files.specs.Files.{FilesState, View, is_lawful}
 use Rattle.nor_journal.specs.Text.{Content, IsContent, text}
@@ -35,8 +34,9 @@ use Rattle.serprog_board.specs.Looking.{IsRestorableChip}
 use Rattle.serprog_runs.specs.Connected.{IsAhead}
 use Rattle.serprog_board.specs.Reached.{FitsPort, IsModelledBoard, ReachesChip}
 use Rattle.serprog_runs.specs.Run.{HasPrintedAnswer, HasRun, HasRunBy, LooksAfter}
-use Rattle.serprog_runs.specs.Undone.{AreRestoresAfter, ChangeRunKeepsOriginal, FindsChipOf, HasBackedUpIn}
-use Rattle.serprog_runs.specs.Undone.{IsOnBoard, IsUndoneFrom, JobRun, ReachesFrom, RestoreRunKeepsOriginal}
+use Rattle.serprog_runs.specs.Undone.{AreRestoresAfter, BecameOver, ChangeRunKeepsOriginal, FindsChipOf}
+use Rattle.serprog_runs.specs.Undone.{HasBackedUpIn, IsOnBoard, IsUndoneFrom, JobRun, MayBecome, ReachesFrom}
+use Rattle.serprog_runs.specs.Undone.{RestoreRunKeepsOriginal}
 use Rattle.serprog_runs.specs.Undone.{RestoresAfter}
 use Rattle.serprog_board.proofs.StillRestorable.{lost_restorable}
 
@@ -117,6 +117,7 @@ module _ {R : Type 0} {files_of : R → FilesState} (run : JobRun files_of) wher
         still = can_restore_after later journal first (kept.nature.honest ∙ modelled.honest) kept.still;
         back = λ zero. same_when run.operation run.out run.out' run.ran.ended run.last first run.ran.outcome
             run.ran.looked (run.ran.printed zero) kept.back;
+        fails = kept.fails;
       }
 
   pub change_kept : (change : Change) (file : Bor Text) → run.operation.task ≡ task.Change change
@@ -177,11 +178,22 @@ left_restorable journal first last left shown can = λ other same kept.
     } in
     subst (λ (chip : Chip). CanRestore journal first (record other { chip = chip })) (sym same) there
 
-found_restorable : (journal : Content) (first left found : Chip) → (found ≡ left) ⊎ PowerLost left found
-    → IsRestorableChip true journal first left → IsRestorableChip true journal first found
-found_restorable journal first left found (inl same) can =
+become_restorable : (journal : Content) (first old new : Chip) → MayBecome old new
+    → IsRestorableChip true journal first old → IsRestorableChip true journal first new
+become_restorable journal first old new (inl (inl same)) can =
     subst (λ (chip : Chip). IsRestorableChip true journal first chip) (sym same) can
-found_restorable journal first left found (inr lost) can = lost_restorable true journal first left found lost can
+become_restorable journal first old new (inl (inr lost)) can = lost_restorable true journal first old new lost can
+become_restorable journal first old new (inr looked) can =
+    subst (λ (chip : Chip). IsRestorableChip true journal first chip) looked.is
+    (looked.looks.restorable true journal first
+    (subst (λ (chip : Chip). IsRestorableChip true journal first chip) (sym looked.was) can))
+
+found_restorable : (journal : Content) (first : Chip) (between : List Chip) (left found : Chip)
+    → BecameOver between left found → IsRestorableChip true journal first left
+    → IsRestorableChip true journal first found
+found_restorable journal first [] left found kept can = become_restorable journal first left found kept can
+found_restorable journal first (next ∷ later) left found kept can =
+    found_restorable journal first later next found kept.1 (become_restorable journal first left next kept.0 can)
 
 -- What a bus reached, a bus that reads ahead over it reached, too.
 reached_ahead : (port : PortState) (inside start : BusState) → ReachesChip port inside → IsAhead inside start
@@ -209,7 +221,7 @@ reaches_from port last inside start reaches ahead fits finds =
     record {
       on_board = on_board port start there fits;
       restorable = λ journal first can. there.restorable journal first
-          (found_restorable journal first finds.left port.device.chip finds.kept
+          (found_restorable journal first finds.between finds.left port.device.chip finds.kept
           (left_restorable journal first last finds.left finds.shown can)) start refl there.further;
     }
 
@@ -227,26 +239,33 @@ module _ {R : Type 0} {files_of : R → FilesState} (bytes : List ℕ) (journal 
       restore_kept run restores.file journal first restores.restores sound (restores.read ∙ read)
       (modelled_by journal first run.start restores.reaches.on_board.honest there) there
 
-  restores_back : (restores : List (JobRun files_of)) (end : JobRun files_of) (last : BusState)
+  restored_later : (restores : List (JobRun files_of)) (end : JobRun files_of) (last : BusState)
       → IsRestorableChip true journal first last.chip → AreRestoresAfter bytes last restores end
-      → end.status ≡ 0 → IsSame first end.last.chip
-  restores_back [] end last can restores zero = (restored_after last end can restores).back zero
-  restores_back (run ∷ later) end last can restores zero =
+      → RestoreRunKeepsOriginal journal first end
+  restored_later [] end last can restores = restored_after last end can restores
+  restored_later (run ∷ later) end last can restores =
       let kept = restored_after last run can restores.0 in
       let board = restores.0.reaches.on_board in
-      restores_back later end run.last (over_every_bus journal first run.last (kept.nature.steady ∙ board.unsteady)
-      (kept.nature.further ∙ board.further) kept.still) restores.1 zero
+      restored_later later end run.last (over_every_bus journal first run.last (kept.nature.steady ∙ board.unsteady)
+      (kept.nature.further ∙ board.further) kept.still) restores.1
 
 undone_by : {R : Type 0} (files_of : R → FilesState) (file : Text) (first : Chip) (last : BusState)
     (after : FilesState) → last.steady ≡ false → last.further ≡ true → CanRestoreFromFile file first last after
     → IsUndoneFrom files_of file first last after
-undone_by files_of file first last after unsteady further can = record {
-  bytes = can.bytes;
-  durable = can.durable;
-  back = λ restores end are zero. restores_back can.bytes can.back.journal.content first can.back.journal.is
-      can.back.journal.same restores end last
-      (over_every_bus can.back.journal.content first last unsteady further can.back.back) are zero;
-}
+undone_by {R} files_of file first last after unsteady further can =
+    let journal = can.back.journal.content in
+    let later : (restores : List (JobRun files_of)) (end : JobRun files_of)
+    → AreRestoresAfter can.bytes last restores end → RestoreRunKeepsOriginal journal first end =
+    λ restores end. restored_later can.bytes journal first can.back.journal.is can.back.journal.same restores end last
+    (over_every_bus journal first last unsteady further can.back.back) in
+    record {
+      journal = journal;
+      bytes = can.bytes;
+      contains = can.back.journal.same;
+      durable = can.durable;
+      fails = λ restores end are. (later restores end are).fails;
+      back = λ restores end are. (later restores end are).back;
+    }
 
 pub run_undone : {R : Type 0} {files_of : R → FilesState} (run : JobRun files_of) (change : Change) (file : Bor Text)
     → run.operation.task ≡ task.Change change → change.journal_use ≡ uses.Journal file → IsModelled run.start

@@ -43,7 +43,8 @@ pub fn operations_run_jobs<'b, D: Connector, R: Store>()
 /// start.
 ///
 /// At every exit, even if the bus stopped, the journal can still restore `first`. If the exit status is 0, the chip has
-/// the bytes and non-volatile status bits of `first`.
+/// the bytes and non-volatile status bits of `first`. The possible faults of the job are those of
+/// `restores_keep_original` (board_jobs).
 pub fn restore_runs_keep_original<R: Store>()
     ensures { (run : JobRun R.state) (file : Bor Text) (journal : Content) (first : Chip)
         → run.operation.task ≡ task.Restore file → IsContent journal → run.bytes ≡ text journal
@@ -73,8 +74,8 @@ pub fn backup_runs_restore_original<R: Store>()
 
 /// States that a run may continue what an earlier run began (`ReachesFrom`), if its connection reached the chip of a
 /// well-behaved port (`ReachesChip`) whose programmer and chip fit (`FitsPort`). The chip must be the one that the
-/// earlier run left on the bus `last`, even if it lost its power since. `inside` is the board's bus, below those that
-/// read ahead and show the progress.
+/// earlier run left on the bus `last`, even if it lost its power since, and connections failed (`FindsChipOf`).
+/// `inside` is the board's bus, below those that read ahead and show the progress.
 pub fn connections_reach_chips()
     ensures { (port : PortState) (last inside start : BusState) → ReachesChip port inside → IsAhead inside start
         → FitsPort port → FindsChipOf last port.device.chip → ReachesFrom last start }
@@ -86,10 +87,10 @@ pub fn connections_reach_chips()
 /// The run must have reached the chip of a port (`ReachesChip`). The port, its programmer, its chip, and the files at
 /// the end must be as modelled (`IsModelledBoard`, `is_lawful`). Then the run found the chip as it was. Either the run
 /// left the chip untouched, or the file durably contains a journal, and the first restore from this journal with exit
-/// status 0 leaves the original chip (`IsUndoneFrom`). Between two runs the programmer may lose its power.
+/// status 0 leaves the original chip (`IsUndoneFrom`). Between two runs the programmer may lose its power, and
+/// connections may fail.
 ///
-/// If `connect_over` returns a bus over a well-behaved port to an idle programmer, it has reached the chip. But so far
-/// it returns none: its trial reads have more bytes than opcode and address, and a modelled chip ignores such reads.
+/// If `connect_over` returns a bus over a well-behaved port to an idle programmer, it has reached the chip.
 pub fn changes_on_boards_can_be_undone<'b, D: Connector, R: Store>()
     ensures { (files after : R) (name file : Bor Text) (operation : Operation) (device : Text) (last : BusState)
         (out out' : Option (List ℕ)) (status : ℕ) (change : Change) (port : PortState)
