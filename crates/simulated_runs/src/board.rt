@@ -1,7 +1,14 @@
 //! The connector of the simulation, and the bus that it returns.
 ghost use Rattle.std.proofs.Math.Logic.{∥∥₁_map};
-ghost use Rattle.std.proofs.lemmas.Bool.{false≢true};
-ghost use Rattle.serprog_board.specs.Reached.{IsReachedAt};
+ghost use Rattle.nor_buses.specs.Checked.{bus_of};
+ghost use Rattle.nor_buses.specs.Paced.{paced_of};
+ghost use Rattle.nor_buses.specs.Splitting.{split_of};
+ghost use Rattle.nor_buses.specs.Twice.{twice_of};
+ghost use Rattle.nor_buses.specs.Watched.{watched_by};
+ghost use Rattle.nor_serprog.specs.Batching.{port_in};
+ghost use Rattle.serprog_board.specs.BoardBus.{layers_of, reader_in};
+ghost use Rattle.serprog_session.specs.SimPort.{simulated_chip};
+ghost use Rattle.simulated_runs.specs.Played.{IsPlayed};
 
 use crate::chip_files::read_port;
 use crate::port::SimulatedPort;
@@ -25,7 +32,15 @@ impl<'b> Bus for SimulatedBoard<'b> {
     ghost state = { λ simulated.
         ⟦<BoardBus<Layers<SimulatedPort<'b>, &'b HostRuntime>> as Bus>⟧.state simulated.board };
 
-    ghost reaches = { λ _ honest. absurd (false≢true honest) };
+    ghost reaches = { λ simulated honest.
+        let reader = reader_in (layers_of simulated.board) in
+        let port = port_in (paced_of (watched_by (split_of (bus_of (twice_of reader))))) in
+        let flash = (simulated_chip port.port).flash in record {
+          busy = flash.busy_in;
+          kept1 = flash.kept1_in;
+          kept2 = flash.kept2_in;
+          bytes = flash.bytes_in;
+        } };
 
     fn transfer(&mut self, out: &[u8], reply: &mut [u8]) -> Result<(), Stopped> {
         self.board.transfer(out, reply)
@@ -85,8 +100,8 @@ impl<'b> Simulated<'b> {
 impl<'b> Connector for Simulated<'b> {
     type Board = SimulatedBoard<'b>;
 
-    ghost finds = { λ device simulated.
-        IsReachedAt ⟦<SimulatedPort<'b> as Port>⟧.state (⟦<SimulatedBoard<'b> as Bus>⟧.state simulated) };
+    // The chip of the board meets the premises of the promises about chips on boards, so these promises aren't empty.
+    ghost finds = { λ device simulated. IsPlayed (⟦<SimulatedBoard<'b> as Bus>⟧.state simulated) };
 
     /// Returns `NoChip` if the files of the chip can't be read.
     fn connect(
