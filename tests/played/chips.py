@@ -54,11 +54,17 @@ class Ended:
     chip: Chip
 
 
-def run(program, folder, chip, words, stop=None):
-    """Plays one run on the chip in the folder, and returns how it ended. With `stop`, the port fails as it says."""
+def run(program, folder, chip, words, stop=None, seconds=None):
+    """Plays one run on the chip in the folder, and returns how it ended. With `stop`, the port fails as it says. With
+    `seconds`, the process is killed after this time, if it hasn't ended."""
     chip.with_left(UNLIMITED if stop is None else stop.calls).write(folder)
     torn, fill = ("-" if it is None else str(it) for it in (stop and stop.torn, stop and stop.fill))
-    done = subprocess.run([program, torn, fill, "-p", "serprog:dev=simulated", *words], cwd=folder, text=True,
-                          stdin=subprocess.DEVNULL, capture_output=True, timeout=300, errors="replace",
-                          env={"PATH": os.environ["PATH"], "LC_ALL": "C"})
-    return Ended(done.returncode, done.stdout, done.stderr, Chip.read(folder))
+    with subprocess.Popen([program, torn, fill, "-p", "serprog:dev=simulated", *words], cwd=folder, text=True,
+                          stdin=subprocess.DEVNULL, stdout=subprocess.PIPE, stderr=subprocess.PIPE, errors="replace",
+                          env={"PATH": os.environ["PATH"], "LC_ALL": "C"}) as process:
+        try:
+            output, errors = process.communicate(timeout=300 if seconds is None else seconds)
+        except subprocess.TimeoutExpired:
+            process.kill()
+            output, errors = process.communicate()
+    return Ended(process.returncode, output, errors, Chip.read(folder))

@@ -2,9 +2,10 @@
 """tests/played/run.py PROGRAM [--most N] [JOB..]: plays runs of flashnor-serprog at a simulated programmer and chip.
 
 PROGRAM is simulated_runs. Each job of jobs.py is played as a whole, and then with the port failing after each number of
-calls, or after at most N of these numbers. Then a restore from the job's journal, if there is one, must return
-each byte and each non-volatile status bit, even if restores were interrupted before it. If there is no complete
-journal, the chip must be as it was before the job. A backup must restore a chip on which everything was changed.
+calls, or after at most N of these numbers. Then the process is killed instead, at random times. After each of these
+runs, a restore from the job's journal, if there is one, must return each byte and each non-volatile status bit, even if
+restores were interrupted before it. If there is no complete journal, the chip must be as it was before the job. A
+backup must restore a chip on which everything was changed.
 
 A case that failed is printed with its runs. The last line is `N passed, M failed`, and the exit status is 1 if a case
 failed.
@@ -14,6 +15,7 @@ import os
 import random
 import sys
 import tempfile
+import time
 from concurrent.futures import ThreadPoolExecutor
 from pathlib import Path
 
@@ -24,6 +26,8 @@ from jobs import JOBS, content
 CASES_AT_ONCE = 16 * (os.cpu_count() or 1)
 # The number of stops of each job without --most, on a chip of 64 KiB and on a larger one.
 STOPS, STOPS_LARGE = 150, 24
+# The number of times that each job is killed.
+KILLS, KILLS_LARGE = 24, 6
 KINDS = [(None, None), (1, None), (4, 0x5A), (1000, 0x00), (None, 0xFF), (1000, None)]
 
 
@@ -42,18 +46,32 @@ def has_journal(folder):
 
 
 def play_whole(program, folder, job):
-    """Plays a job that isn't interrupted, and its restore. Returns the number of calls of the port."""
+    """Plays a job that isn't interrupted, and its restore. Returns the number of calls of the port, and the seconds
+    that the job took."""
+    begun = time.monotonic()
     done = run(program, folder, job.chip, job.words)
     expect(done.status == 0, "the job fails", done)
+    expect(done.chip.left < UNLIMITED, "the port doesn't keep its state in the files", done)
     expect(done.chip.kept() == job.target.kept(), "the job leaves another chip than asked", done)
+    seconds = time.monotonic() - begun
     back = run(program, folder, done.chip, ["--restore", "j"])
     expect(back.status == 0 and back.chip.kept() == job.chip.kept(), "the restore of the whole job fails", back)
-    return UNLIMITED - done.chip.left
+    return UNLIMITED - done.chip.left, seconds
+
+
+def restore_last(program, folder, job, words, ran):
+    """Plays a restore after the runs `ran`. It must return the chip as it was before the job."""
+    back = run(program, folder, ran[-1].chip, words)
+    if back.status == 0:
+        expect(back.chip.kept() == job.chip.kept(), "the restore succeeds, but leaves another chip", *ran, back)
+    else:
+        expect(back.chip.kept() == job.chip.kept(), "a changed chip can't be restored", *ran, back)
 
 
 def play_stop(program, folder, job, stop, draw):
     """Plays a job that is interrupted, then perhaps interrupted restores, and a restore that is not."""
     done = run(program, folder, job.chip, job.words, stop)
+    expect(done.chip.left < stop.calls or not stop.calls, "the port doesn't keep its state in the files", done)
     if done.status == 0:
         expect(done.chip.kept() == job.target.kept(), "exit status 0, but another chip than asked", done)
     words = ["--restore", "j"] + (["--quick"] if stop.fill is None and draw.random() < 0.5 else [])
@@ -61,11 +79,16 @@ def play_stop(program, folder, job, stop, draw):
     for _ in range(draw.randrange(3) if has_journal(folder) else 0):
         torn, fill = draw.choice(KINDS if "--quick" not in words else [KINDS[0], KINDS[1], KINDS[5]])
         ran.append(run(program, folder, ran[-1].chip, words, Stop(draw.randrange(stop.calls + 60), torn, fill)))
-    back = run(program, folder, ran[-1].chip, words)
-    if back.status == 0:
-        expect(back.chip.kept() == job.chip.kept(), "the restore succeeds, but leaves another chip", *ran, back)
-    else:
-        expect(back.chip.kept() == job.chip.kept(), "a changed chip can't be restored", *ran, back)
+    restore_last(program, folder, job, words, ran)
+
+
+def play_kill(program, folder, job, seconds, draw):
+    """Plays a job that is killed, then perhaps restores that are killed, and a restore that isn't."""
+    words = ["--restore", "j"] + ["--quick"] * draw.randrange(2)
+    ran = [run(program, folder, job.chip, job.words, seconds=2 * seconds * draw.random())]
+    for _ in range(draw.randrange(3) if has_journal(folder) else 0):
+        ran.append(run(program, folder, ran[-1].chip, words, seconds=2 * seconds * draw.random()))
+    restore_last(program, folder, job, words, ran)
 
 
 def stops_of(calls, most):
@@ -104,7 +127,7 @@ def main(words):
     parser = argparse.ArgumentParser(prog="tests/played/run.py")
     parser.add_argument("program")
     parser.add_argument("jobs", nargs="*", metavar="JOB", help=", ".join(JOBS))
-    parser.add_argument("--most", type=int, metavar="N", help="the number of stops of each job")
+    parser.add_argument("--most", type=int, metavar="N", help="the number of stops, and of kills, of each job")
     asked = parser.parse_intermixed_args(words)
     if not os.access(asked.program, os.X_OK) or set(asked.jobs) - set(JOBS):
         parser.error("PROGRAM must be a program, and each JOB a job")
@@ -113,14 +136,19 @@ def main(words):
     with ThreadPoolExecutor(CASES_AT_ONCE) as pool:
         for name in asked.jobs or JOBS:
             make = JOBS[name]
-            calls, fault = play(program, name, make, "whole", play_whole)
+            whole, fault = play(program, name, make, "whole", play_whole)
             faults.append(fault)
-            most = asked.most or (STOPS if len(make().chip.bytes) == TINY64 else STOPS_LARGE)
-            stops = stops_of(calls, most) if fault is None else []
+            if fault is not None:
+                continue
+            is_large = len(make().chip.bytes) != TINY64
+            stops = stops_of(whole[0], asked.most or (STOPS_LARGE if is_large else STOPS))
+            kills = asked.most or (KILLS_LARGE if is_large else KILLS)
             cases = [pool.submit(play, program, name, make, stop, lambda *at, stop=stop: play_stop(
                 *at, stop, random.Random(f"{name} {stop.calls}"))) for stop in stops]
+            cases += [pool.submit(play, program, name, make, f"kill {kill}", lambda *at, kill=kill: play_kill(
+                *at, whole[1], random.Random(f"{name} kill {kill}"))) for kill in range(kills)]
             faults += [it.result()[1] for it in cases]
-            print(f"{name}: {len(stops)} stops in {calls} calls")
+            print(f"{name}: {len(stops)} stops in {whole[0]} calls, {kills} kills in {whole[1]:.1f} s")
     failed = [it for it in faults if it is not None]
     print("\n".join(failed), end="\n" if failed else "")
     print(f"{len(faults) - len(failed)} passed, {len(failed)} failed")

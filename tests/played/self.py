@@ -17,7 +17,7 @@ import os, subprocess, sys
 from pathlib import Path
 words = sys.argv[3:]
 chip, is_restore = Path("chip"), "--restore" in words
-before = chip.read_bytes()
+before, left = chip.read_bytes(), Path("left").read_bytes()
 ended = subprocess.run([{program!r}, *sys.argv[1:]]).returncode
 after = bytearray(chip.read_bytes())
 {mistake}
@@ -34,6 +34,7 @@ MISTAKES = {
     "a write misses its last byte": "after[0xFFFF] |= 0xFF * ('-w' in words)",
     "a write that fails ends with exit status 0": "ended = 0 if '-w' in words else ended",
     "the journal of a write that fails is lost": "if ended and '-w' in words and Path('j').exists(): os.remove('j')",
+    "the port keeps no state": "Path('left').write_bytes(left)",
     "a backup contains another byte": "if '--backup' in words: Path('j').write_bytes(Path('j').read_bytes()[::-1])",
 }
 
